@@ -1,0 +1,5 @@
+pub mod Ranges
+pub mod Wraps
+pub mod Quotients
+pub mod Moves
+pub mod Digits
