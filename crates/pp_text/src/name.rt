@@ -2,7 +2,8 @@
 
 ghost use Rattle.std.specs.Prelude.{◌≡◌, IfOk};
 
-use std::alloc::{AllocError, Global};
+use crate::NoMemory;
+use std::alloc::Global;
 use std::marker::Model;
 
 /// An owned text. Contracts see it as the list of its bytes, which are UTF-8.
@@ -22,7 +23,7 @@ impl Model for Name {
 
 impl Name {
     /// A name with the bytes of `text`. The only error is want of memory.
-    pub fn of(alloc: Global, text: &str) -> Result<Name, AllocError>
+    pub fn of(alloc: Global, text: &str) -> Result<Name, NoMemory>
         ensures { IfOk result (λ name. name ≡ text.now) }
     {
         Ok(Name {

@@ -2,13 +2,12 @@
 
 ghost use Rattle.std.specs.Prelude.{◌≡◌, ◌≤◌, length};
 ghost use Rattle.std.specs.Str.{chars};
+ghost use Rattle.pp_text.specs.Limits.{most_bytes};
 ghost use Rattle.pp_text.specs.Place.{place_behind_of};
-
-use crate::text::MOST_BYTES;
 
 /// The line and the column behind the text.
 pub(crate) fn place_behind(text: &str) -> (u32, u32)
-    requires { length text.now ≤ MOST_BYTES }
+    requires { length text.now ≤ most_bytes }
     ensures { result ≡ place_behind_of (chars text.now) }
 {
     let mut line = 1;

@@ -2,13 +2,14 @@
 
 ghost use Rattle.std.specs.Prelude.{◌≡◌, ◌≤◌, length, IfOk, IfErr};
 ghost use Rattle.std.specs.Str.{IsUtf8, IsCharBoundary};
+ghost use Rattle.pp_text.specs.Limits.{most_bytes};
 ghost use Rattle.pp_text.specs.Place.{place_of};
 
 use crate::place::place_behind;
 use std::alloc::{AllocError, Global};
 use std::marker::Model;
 
-/// The most bytes that a text has: 256 KiB.
+/// The most bytes that a text has: 256 KiB, the `most_bytes` of contracts.
 pub const MOST_BYTES: usize = 262_144;
 
 /// Why bytes are no text.
@@ -39,13 +40,13 @@ pub struct Text {
 impl Model for Text {
     ghost use Rattle.std.specs.Prelude.{List, ℕ, ◌≤◌, length};
     ghost use Rattle.std.specs.String.{string_bytes};
-    ghost use Rattle.pp_text.specs.declared.text.TheConstants.{MOST_BYTES};
+    ghost use Rattle.pp_text.specs.Limits.{most_bytes};
 
     ghost Value = { List ℕ };
 
     ghost view = { λ t. string_bytes t.text };
 
-    ghost invariant = { λ t. length (string_bytes t.text) ≤ MOST_BYTES };
+    ghost invariant = { λ t. length (string_bytes t.text) ≤ most_bytes };
 }
 
 impl Text {
@@ -54,7 +55,7 @@ impl Text {
     /// The text with these bytes. `NotUtf8` comes exactly where they aren't UTF-8, and its offset is that of the first
     /// byte that begins no character (Unicode Standard, chapter 3, table 3-7). The other error is want of memory.
     pub fn read(alloc: Global, bytes: &[u8]) -> Result<Text, TextFault>
-        requires { length bytes.now ≤ MOST_BYTES }
+        requires { length bytes.now ≤ most_bytes }
         ensures same { IfOk result (λ text. text ≡ bytes.now) }
         ensures utf8 { IfOk result (λ _. IsUtf8 bytes.now) }
         ensures refused { IfErr result (λ fault. IsCause fault bytes.now) }
@@ -72,7 +73,7 @@ impl Text {
     pub fn as_str(&self) -> &str
         ensures same { result.now ≡ self.now }
         ensures utf8 { IsUtf8 result.now }
-        ensures short { length result.now ≤ MOST_BYTES }
+        ensures short { length result.now ≤ most_bytes }
     {
         self.text.as_str()
     }

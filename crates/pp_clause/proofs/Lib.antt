@@ -1,0 +1,9 @@
+pub mod Has
+pub mod Truth
+pub mod Merging
+pub mod Ascending
+pub mod Outcomes
+pub mod Sorting
+pub mod Resolving
+pub mod Soundness
+pub mod Counting

@@ -1,0 +1,7 @@
+pub mod Literal
+pub mod Clause
+pub mod Assignment
+pub mod Derivation
+pub mod Log
+pub mod New
+pub mod Laws

@@ -1,0 +1,42 @@
+//! How a run ends.
+
+use pp_prog::{CheckId, FunctionId, Value};
+use std::alloc::AllocError;
+
+/// How the evaluation of an expression stops before it has a value: a check of the run's own function fails; a check
+/// fails inside a called function; calls are nested deeper than the fuel.
+#[derive(Clone, Copy, PartialEq, Eq, Debug)]
+pub enum Stop {
+    Fails(CheckId),
+    Inner(FunctionId, CheckId),
+    Deep,
+}
+
+/// Why an evaluation gives no value: want of memory, or the expression stops.
+#[derive(Clone, Copy, PartialEq, Eq, Debug)]
+pub enum Halt {
+    Memory,
+    Stopped(Stop),
+}
+
+impl From<AllocError> for Halt {
+    ghost use Rattle.std.specs.Prelude.{◌≡◌};
+    ghost use Rattle.pp_eval.specs.declared.outcome.Halt.TheVariants.{Memory};
+
+    ghost from_gives = { λ _ e. e ≡ Memory };
+
+    fn from(_e: AllocError) -> Halt {
+        Halt::Memory
+    }
+}
+
+/// The outcome of a run: its value, where no check failed; `Outside`, where the precondition is false; a failing check
+/// of the function itself; a failing check inside a called function; calls nested deeper than the fuel.
+#[derive(Drop)]
+pub enum Outcome {
+    Done(Value),
+    Outside,
+    Fails(CheckId),
+    Inner(FunctionId, CheckId),
+    Deep,
+}

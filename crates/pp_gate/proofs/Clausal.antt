@@ -1,0 +1,111 @@
+-- What the clauses of a gate say.
+use Rattle.std.proofs.Common.{◌≡◌, ℕ, Bool, true, false, not, ◌&&◌, ◌||◌, ◌+◌, ◌<◌, ◌≤◌, if◌then◌else◌, List, [], ◌∷◌, ◌++◌, length, refl, sym, ap, ◌∙◌, All, arith}
+use Rattle.std.specs.Bool.{beq}
+use Rattle.std.proofs.lemmas.List.Elements.{All-append, All-cons, All-nil}
+use Rattle.std.proofs.lemmas.List.Folds.{list_all-append}
+use Rattle.pp_clause.specs.Literal.{Literal, opposite, lit_value}
+use Rattle.pp_clause.specs.Clause.{SameLiterals, IsClause, clause_value, clauses_value}
+use Rattle.pp_clause.proofs.Has.{has-All, All-from_has}
+use Rattle.pp_clause.proofs.Truth.{lit_value_opposite}
+use Rattle.pp_gate.specs.Gate.{xor_of}
+use Rattle.pp_gate.specs.Circuit.{IsWithin}
+use Rattle.pp_gate.specs.Clauses.{AreShortWithin, AddsClause}
+use Rattle.pp_gate.proofs.Lengths.{no_longer}
+
+and_true : (a : Bool) → (a && true) ≡ a
+and_true true = refl
+and_true false = refl
+
+value_pushed : (s : ℕ → Bool) (old new : List (List Literal)) (c ls : List Literal) → new ≡ old ++ c ∷ [] → clause_value s c ≡ clause_value s ls → clauses_value s new ≡ (clauses_value s old && clause_value s ls)
+value_pushed s old new c ls is e =
+    ap (clauses_value s) is ∙ list_all-append (clause_value s) old (c ∷ [])
+    ∙ ap (λ (b : Bool). clauses_value s old && b) (and_true (clause_value s c) ∙ e)
+
+within_pushed : (n : ℕ) (old new : List (List Literal)) (c ls : List Literal) → new ≡ old ++ c ∷ [] → SameLiterals c ls → IsClause c → length ls ≤ 4 → All (IsWithin n) ls → AreShortWithin n old → AreShortWithin n new
+within_pushed n old new c ls is same order few of olds = rw is (record {
+  within = All-append (λ d. All (IsWithin n) d) old (c ∷ []) olds.within (All-cons (λ d. All (IsWithin n) d) c [] these (All-nil (λ d. All (IsWithin n) d)));
+  short = All-append (λ d. length d ≤ 4) old (c ∷ []) olds.short (All-cons (λ d. length d ≤ 4) c [] this_few (All-nil (λ d. length d ≤ 4)));
+})
+  where
+    these : All (IsWithin n) c
+    these = All-from_has (IsWithin n) c (λ m h. has-All (IsWithin n) ls m of (sym (same.same m) ∙ h))
+
+    this_few : length c ≤ 4
+    this_few = let le : length c ≤ length ls = no_longer c ls order.ascending (λ m h. sym (same.same m) ∙ h) in omega arith
+
+-- the clause came in
+pub adds_clause : (old new : List (List Literal)) (c ls : List Literal) → new ≡ old ++ c ∷ [] → SameLiterals c ls → IsClause c → ((s : ℕ → Bool) → clause_value s c ≡ clause_value s ls) → length ls ≤ 4 → AddsClause old new ls
+adds_clause old new c ls is same order value few = record {
+  value = λ s. value_pushed s old new c ls is (value s);
+  within = λ n of olds. within_pushed n old new c ls is same order few of olds;
+}
+
+pub within_negated : (n : ℕ) (l m : Literal) → l ≡ opposite m → IsWithin n m → IsWithin n l
+within_negated n l m e of = rw e (record { least = of.least; most = of.most })
+
+pub within_next : (n k : ℕ) (l : Literal) → l.var ≡ k + 1 → k < n → IsWithin n l
+within_next n k l e lt = record { least = omega arith; most = omega arith }
+
+pub within_more : (m n : ℕ) (l : Literal) → m < n → IsWithin m l → IsWithin n l
+within_more m n l lt of = record { least = of.least; most = omega (arith, of.most, lt) }
+
+pub all_of_one : (n : ℕ) (x : Literal) → IsWithin n x → All (IsWithin n) (x ∷ [])
+all_of_one n x p = All-cons (IsWithin n) x [] p (All-nil (IsWithin n))
+
+pub all_of_two : (n : ℕ) (x y : Literal) → IsWithin n x → IsWithin n y → All (IsWithin n) (x ∷ y ∷ [])
+all_of_two n x y p q = All-cons (IsWithin n) x (y ∷ []) p (all_of_one n y q)
+
+pub all_of_three : (n : ℕ) (x y z : Literal) → IsWithin n x → IsWithin n y → IsWithin n z → All (IsWithin n) (x ∷ y ∷ z ∷ [])
+all_of_three n x y z p q r = All-cons (IsWithin n) x (y ∷ z ∷ []) p (all_of_two n y z q r)
+
+-- a negated literal has the opposite value
+pub negated_value : (s : ℕ → Bool) (l m : Literal) → l ≡ opposite m → lit_value s l ≡ not (lit_value s m)
+negated_value s l m e = ap (lit_value s) e ∙ lit_value_opposite s m
+
+-- one clause after others that have the value v
+pub after_clause : (s : ℕ → Bool) (old new : List (List Literal)) (ls : List Literal) (v : Bool) → AddsClause old new ls → clauses_value s old ≡ v → clauses_value s new ≡ (v && clause_value s ls)
+after_clause s old new ls v adds e = adds.value s ∙ ap (λ (b : Bool). b && clause_value s ls) e
+
+and_cases : (h o a b : Bool) → (((h && (not o || (a || false))) && (not o || (b || false))) && (o || (not a || (not b || false)))) ≡ (h && beq o (a && b))
+and_cases false o a b = refl
+and_cases true true true true = refl
+and_cases true true true false = refl
+and_cases true true false b = refl
+and_cases true false true true = refl
+and_cases true false true false = refl
+and_cases true false false true = refl
+and_cases true false false false = refl
+
+pub and_clauses : (h o a b m x y r : Bool) → m ≡ not o → x ≡ not a → y ≡ not b
+    → r ≡ (((h && (m || (a || false))) && (m || (b || false))) && (o || (x || (y || false)))) → r ≡ (h && beq o (a && b))
+and_clauses h o a b m x y r p q t e = e ∙ (λ j. ((h && (p j || (a || false))) && (p j || (b || false))) && (o || (q j || (t j || false)))) ∙ and_cases h o a b
+
+xor_cases : (h o a b : Bool) → ((((h && (not o || (a || (b || false)))) && (not o || (not a || (not b || false)))) && (o || (not a || (b || false)))) && (o || (a || (not b || false)))) ≡ (h && beq o (xor_of a b))
+xor_cases false o a b = refl
+xor_cases true true true true = refl
+xor_cases true true true false = refl
+xor_cases true true false true = refl
+xor_cases true true false false = refl
+xor_cases true false true true = refl
+xor_cases true false true false = refl
+xor_cases true false false true = refl
+xor_cases true false false false = refl
+
+pub xor_clauses : (h o a b m x y r : Bool) → m ≡ not o → x ≡ not a → y ≡ not b
+    → r ≡ ((((h && (m || (a || (b || false)))) && (m || (x || (y || false)))) && (o || (x || (b || false)))) && (o || (a || (y || false)))) → r ≡ (h && beq o (xor_of a b))
+xor_clauses h o a b m x y r p q t e = e ∙ (λ j. (((h && (p j || (a || (b || false)))) && (p j || (q j || (t j || false)))) && (o || (q j || (b || false)))) && (o || (a || (t j || false)))) ∙ xor_cases h o a b
+
+mux_cases : (h o c a b : Bool) → ((((h && (not c || (not o || (a || false)))) && (not c || (o || (not a || false)))) && (c || (not o || (b || false)))) && (c || (o || (not b || false)))) ≡ (h && beq o (if c then a else b))
+mux_cases false o c a b = refl
+mux_cases true true true true b = refl
+mux_cases true true true false b = refl
+mux_cases true true false a true = refl
+mux_cases true true false a false = refl
+mux_cases true false true true b = refl
+mux_cases true false true false b = refl
+mux_cases true false false a true = refl
+mux_cases true false false a false = refl
+
+pub mux_clauses : (h o c a b m n x y r : Bool) → m ≡ not o → n ≡ not c → x ≡ not a → y ≡ not b
+    → r ≡ ((((h && (n || (m || (a || false)))) && (n || (o || (x || false)))) && (c || (m || (b || false)))) && (c || (o || (y || false)))) → r ≡ (h && beq o (if c then a else b))
+mux_clauses h o c a b m n x y r p q t u e = e ∙ (λ j. (((h && (q j || (p j || (a || false)))) && (q j || (o || (t j || false)))) && (c || (p j || (b || false)))) && (c || (o || (u j || false)))) ∙ mux_cases h o c a b

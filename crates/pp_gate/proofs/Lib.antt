@@ -1,0 +1,11 @@
+pub mod Places
+pub mod Same
+pub mod Kept
+pub mod Sharing
+pub mod Meaning
+pub mod Agreement
+pub mod Extension
+pub mod Growing
+pub mod Lengths
+pub mod Clausal
+pub mod Turns

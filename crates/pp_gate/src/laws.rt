@@ -1,0 +1,40 @@
+//! What holds of the assignments of every circuit. These functions do nothing; their contracts are the laws.
+
+ghost use Rattle.pp_gate.specs.Laws.{InputsComplete, InputsDetermine, GrowthExtends, GrowthKeeps, GivesByVariables, LiteralByVariables, GrowthShares};
+
+/// Every choice of values for the inputs has an assignment that gives each gate its value.
+pub fn inputs_complete()
+    ensures { InputsComplete }
+{}
+
+/// Two assignments that give each gate its value and agree on the inputs agree on every variable of the circuit.
+pub fn inputs_determine()
+    ensures { InputsDetermine }
+{}
+
+/// Each assignment that gives the old gates their values, with any values for the new inputs, has one that agrees
+/// with it on the old variables and gives all gates their values and those inputs those values.
+pub fn growth_extends()
+    ensures { GrowthExtends }
+{}
+
+/// An assignment that gives the new gates their values gives the old ones theirs.
+pub fn growth_keeps()
+    ensures { GrowthKeeps }
+{}
+
+/// Whether an assignment gives each gate its value depends on the variables of the circuit alone.
+pub fn gives_by_variables()
+    ensures { GivesByVariables }
+{}
+
+/// The value of a literal of the circuit depends on the variables of the circuit alone.
+pub fn literal_by_variables()
+    ensures { LiteralByVariables }
+{}
+
+/// A call of `and`, `or` or `xor` that adds nothing to the old gates adds nothing to the new ones: with `has` and
+/// `again` of these, a second call adds nothing, whatever came between.
+pub fn growth_shares()
+    ensures { GrowthShares }
+{}

@@ -1,0 +1,4 @@
+pub mod Values
+pub mod Lines
+pub mod Refusals
+pub mod Puts

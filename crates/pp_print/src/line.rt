@@ -1,0 +1,79 @@
+// The lines on the verdicts.
+
+ghost use Rattle.std.specs.Prelude.{◌≡◌, ◌++◌, IfOk, OnOk, string_bytes};
+ghost use Rattle.pp_print.specs.Lines.{check_text, invalid_text, kind_text, summary_text, valid_text};
+
+use crate::value::push_arguments;
+use pp_prog::{CheckKind, Ctor, Param, Place, Value};
+use pp_text::NoMemory;
+use std::alloc::Global;
+
+/// The word for a kind of check. It takes no memory.
+fn kind_word(kind: CheckKind) -> &'static str
+    ensures { result.now ≡ kind_text kind }
+{
+    match kind {
+        CheckKind::Precondition => "precondition",
+        CheckKind::Postcondition => "postcondition",
+        CheckKind::Match => "match",
+        CheckKind::Division => "division",
+        CheckKind::Measure => "measure",
+        CheckKind::Assertion => "assertion",
+    }
+}
+
+/// Adds `KIND at S:L:C`.
+fn push_check(out: &mut String, kind: CheckKind, place: Place) -> Result<(), NoMemory>
+    ensures { OnOk result (string_bytes out.new ≡ string_bytes out.old ++ check_text kind place) }
+{
+    let word = kind_word(kind);
+    let Place {
+        source,
+        line,
+        column,
+    } = place;
+    write!(out, "{word} at {source}:{line}:{column}")
+}
+
+/// The line `NAME: valid, K checks` of a valid function, with the number of its own checks. The word is `checks` also
+/// after 1. The only error is want of memory.
+pub fn valid_line(alloc: Global, name: &str, checks: u32) -> Result<String, NoMemory>
+    ensures { IfOk result (λ s. string_bytes s ≡ valid_text name.now checks) }
+{
+    format!(in alloc; "{name}: valid, {checks} checks\n")
+}
+
+/// The line `NAME: invalid, KIND at S:L:C, x = V, y = W` of a function that fails the check of this kind at this place,
+/// run on these values, one for each parameter in order. Without a parameter it ends after the place. Of two lists of
+/// different lengths the longer is cut. The only error is want of memory.
+pub fn invalid_line(
+    alloc: Global,
+    ctors: &[Ctor],
+    name: &str,
+    kind: CheckKind,
+    place: Place,
+    params: &[Param],
+    values: &[Value],
+) -> Result<String, NoMemory>
+    ensures { IfOk result (λ s. string_bytes s ≡ invalid_text ctors.now name.now kind place params.now values.now) }
+{
+    let mut out = format!(in alloc; "{name}: invalid, ")?;
+    push_check(&mut out, kind, place)?;
+    push_arguments(&mut out, ctors, params, values)?;
+    out.push_str("\n")?;
+    Ok(out)
+}
+
+/// The line `V valid, I invalid, O open, D depending`, with the number of functions of each verdict. The only error is
+/// want of memory.
+pub fn summary_line(
+    alloc: Global,
+    valid: u32,
+    invalid: u32,
+    open: u32,
+    depending: u32,
+) -> Result<String, NoMemory>
+    ensures { IfOk result (λ s. string_bytes s ≡ summary_text valid invalid «open» depending) }
+{
+    format!(in alloc; "{valid} valid, {invalid} invalid, {open} open, {depending} depending\n")
+}

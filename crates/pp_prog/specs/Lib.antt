@@ -1,0 +1,5 @@
+pub mod Values
+pub mod Sorts
+pub mod Boolean
+pub mod Types
+pub mod Valid

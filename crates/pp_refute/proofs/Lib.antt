@@ -1,0 +1,13 @@
+pub mod Clashes
+pub mod Marking
+pub mod Bounds
+pub mod Numbering
+pub mod Running
+pub mod Sources
+pub mod Clearing
+pub mod Logs
+pub mod Negating
+pub mod Scanning
+pub mod Lines
+pub mod ReadLines
+pub mod Written

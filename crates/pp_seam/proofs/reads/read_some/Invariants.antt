@@ -1,0 +1,6 @@
+-- Interrupted reads give nothing.
+use Rattle.std.specs.Io.KnownBytes.{Keeps}
+use Rattle.pp_seam.proofs.reads.read_some.Given as goal
+
+abbrev pub invariant-loop : goal.invariant-loop
+invariant-loop g l = Keeps (g.R.Read.remaining l.initial.reader) (g.R.Read.remaining l.reader)

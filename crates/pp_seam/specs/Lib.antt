@@ -1,0 +1,6 @@
+pub mod Entries
+pub mod Faults
+pub mod Pieces
+pub mod Reads
+pub mod Shelved
+pub mod Stored

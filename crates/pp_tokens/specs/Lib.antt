@@ -1,0 +1,11 @@
+pub mod Characters
+pub mod Comments
+pub mod Cutting
+pub mod Front
+pub mod Layout
+pub mod Newlines
+pub mod Numbers
+pub mod Operators
+pub mod Spans
+pub mod Tokens
+pub mod Words

@@ -1,0 +1,4 @@
+pub mod Arising
+pub mod Showing
+pub mod Cases
+pub mod Rows

@@ -1,0 +1,72 @@
+//! Checks the contracts of a source of Pure Scala, and prints a verdict for its function.
+//!
+//! `pureproof` in `top` is all that the program does, over a shelf of sources and two sinks; `main` gives it the files and
+//! the standard streams. `words` reads the command line, `prepare` says what is due, `show` puts it. In `specs/`, `Words`
+//! says what a command line is, `Dues` what is due and why, `Report` what a report says, `Shown` what is left of it where
+//! a put fails, and `Causes` when the program ends with which status.
+#![tactic(auto)]
+
+ghost use Rattle.std.specs.Prelude.{◌≡◌, IfOk, map, string_bytes};
+ghost use Rattle.pureproof.specs.Words.{texts};
+
+mod prepare;
+mod show;
+mod status;
+mod top;
+mod words;
+
+use pp_print::{memory_line, words_line};
+use pp_seam::{FileShelf, StdSink};
+use pp_text::NoMemory;
+use show::show_refusal;
+pub use status::Status;
+use std::alloc::Global;
+use std::io::ErrorKind;
+use std::process::ExitCode;
+use std::rt::Env;
+use std::{env, io};
+pub use top::pureproof;
+
+// The words after the program's name, where they are text.
+fn words_of(rt: &(impl Env + AllocGlobal)) -> io::Result<Vec<String>> {
+    let mut words = Vec::new(rt.alloc());
+    for word in env::args(rt)?.skip(1) {
+        words.push(word)?;
+    }
+    Ok(words)
+}
+
+fn slices(alloc: Global, words: &[String]) -> Result<Vec<&str>, NoMemory>
+    ensures { IfOk result (λ slices. texts slices.items ≡ map string_bytes words.now) }
+{
+    let mut slices = Vec::new(alloc);
+    for word in words {
+        slices.push(word.as_str())?;
+    }
+    Ok(slices)
+}
+
+fn started(rt: &HostRuntime) -> Status {
+    let mut err = StdSink::new(rt.stderr());
+    let words = match words_of(rt) {
+        Ok(words) => words,
+        Err(error) if error.kind() == ErrorKind::OutOfMemory => {
+            return show_refusal(Status::Memory, memory_line(), &mut err);
+        }
+        Err(_) => return show_refusal(Status::Words, words_line(), &mut err),
+    };
+    let alloc = rt.alloc();
+    let Ok(words) = slices(alloc, &words) else {
+        return show_refusal(Status::Memory, memory_line(), &mut err);
+    };
+    let mut shelf = FileShelf::new(alloc, rt);
+    let mut out = StdSink::new(rt.stdout());
+    pureproof(alloc, &words, &mut shelf, &mut out, &mut err)
+}
+
+fn main(rt: HostRuntime) -> ExitCode {
+    ExitCode::from(started(&rt).code())
+}
+
+#[cfg(test)]
+mod tests;

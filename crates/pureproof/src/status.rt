@@ -1,0 +1,40 @@
+//! How the program ends.
+
+ghost use Rattle.std.specs.Prelude.{◌≡◌};
+ghost use Rattle.pureproof.specs.Codes.{code_of};
+
+/// How the program ends.
+#[derive(Clone, Copy, Debug, PartialEq, Eq)]
+pub enum Status {
+    /// Every function is valid.
+    AllValid,
+    /// Some function is invalid.
+    SomeInvalid,
+    /// A source is refused.
+    Refused,
+    /// The words are refused.
+    Words,
+    /// A source can't be read.
+    ReadFault,
+    /// An output doesn't take what is put.
+    WriteFault,
+    /// There is no memory.
+    Memory,
+}
+
+impl Status {
+    /// The exit status.
+    pub fn code(self) -> u8
+        ensures { result ≡ code_of self }
+    {
+        match self {
+            Status::AllValid => 0,
+            Status::SomeInvalid => 1,
+            Status::Refused => 3,
+            Status::Words => 4,
+            Status::ReadFault => 5,
+            Status::WriteFault => 6,
+            Status::Memory => 7,
+        }
+    }
+}

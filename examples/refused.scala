@@ -1,0 +1,1 @@
+object A {

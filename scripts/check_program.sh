@@ -1,0 +1,69 @@
+#!/usr/bin/env bash
+# What no proof and no test of the gate shows: the program as a user starts it, on real files, outputs and faults.
+# Ends with the number of checks that passed and failed.
+set -u
+root=$(cd "$(dirname "${BASH_SOURCE[0]}")/.." && pwd)
+here=$(mktemp -d)
+trap 'rm -rf "$here"' EXIT
+cd "$here" || exit 1
+passed=0
+failed=0
+
+# check NAME STATUS OUT ERR: compares what the last run left in status, out and err
+check() {
+    if [ "$status" -eq "$2" ] && [ "$(cat out)" = "$3" ] && [ "$(cat err)" = "$4" ]; then
+        passed=$((passed + 1))
+    else
+        failed=$((failed + 1))
+        printf 'check_program: %s: status %s, out: %s, err: %s\n' "$1" "$status" "$(cat out)" "$(cat err)"
+    fi
+}
+
+run() {
+    "$root/pureproof" "$@" > out 2> err
+    status=$?
+}
+
+cp "$root"/examples/*.scala .
+"$root/pureproof" or.scala > /dev/null 2>&1 # builds the program where that is wanted
+
+run or.scala
+check 'a valid function' 0 "$(printf 'or: valid, 1 checks\n1 valid, 0 invalid, 0 open, 0 depending')" ''
+run or_wrong.scala
+check 'an invalid function' 1 \
+    "$(printf 'or: invalid, postcondition at 1:2:63, a = true, b = false\n0 valid, 1 invalid, 0 open, 0 depending')" ''
+run refused.scala
+check 'a refused source' 3 '' 'refused: other form'
+run
+check 'no words' 4 '' 'words refused'
+run --help
+check 'an option' 4 '' 'words refused'
+run "$(printf 'a\377.scala')"
+check 'a word that is no text' 4 '' 'words refused'
+run missing.scala
+check 'a missing file' 5 '' 'read fault: missing.scala'
+mkdir folder
+run folder
+check 'a folder' 5 '' 'read fault: folder'
+if [ "$(id -u)" -ne 0 ]; then
+    cp or.scala unreadable.scala
+    chmod 000 unreadable.scala
+    run unreadable.scala
+    check 'an unreadable file' 5 '' 'read fault: unreadable.scala'
+fi
+head -c 262145 /dev/zero | tr '\0' ' ' > long.scala
+run long.scala
+check 'a file that is too long' 3 '' 'refused: too long source 1'
+
+: > out
+if [ -w /dev/full ]; then
+    "$root/pureproof" or.scala > /dev/full 2> err
+    status=$?
+    check 'a full device' 6 '' 'write fault'
+fi
+"$root/pureproof" or.scala >&- 2> err
+status=$?
+check 'a closed output' 6 '' 'write fault'
+
+printf '%s passed, %s failed\n' "$passed" "$failed"
+[ "$failed" -eq 0 ]
