@@ -1,0 +1,5 @@
+pub mod Paths
+pub mod Groups
+pub mod Marks
+pub mod Tables
+pub mod Decided
