@@ -22,7 +22,7 @@ pub record WrapsTo (w : Width) (z r : ℤ) : Type 0 where
   pub same : SameModulo (2 ^ bits w) z r
   pub only : (s : ℤ) → IsWord w s → SameModulo (2 ^ bits w) z s → s ≡ r
 
--- u is a word's unsigned reading: not negative, below 2 ^ bits w, and no further from z than by a multiple of 2 ^ bits w.
+-- u is a word's unsigned reading: not negative, below 2 ^ bits w, and it differs from z by a multiple of 2 ^ bits w.
 -- Its binary digits are the bits of z in two's complement (JLS 4.2).
 abbrev pub IsUnsignedReading : Width → ℤ → ℕ → Type 0
 IsUnsignedReading w z u = (u < 2 ^ bits w) × SameModulo (2 ^ bits w) z (pos u)

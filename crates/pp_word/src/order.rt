@@ -18,7 +18,7 @@ pub fn at_most(a: i32, b: i32) -> bool
     a <= b
 }
 
-/// A number is less than those that are it and a positive number, and at most those that are it and a natural number.
+/// A number is less than those that are it plus a positive number, and at most those that are it plus a natural number.
 pub fn order_law()
     ensures less { (a b : ℤ) → IsTrue (word_less a b) ↔ IsLess a b }
     ensures at_most { (a b : ℤ) → IsTrue (word_at_most a b) ↔ IsAtMost a b }
