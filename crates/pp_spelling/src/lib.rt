@@ -1,4 +1,4 @@
-//! The one spelling of a source that the first path accepts, and the program that it stands for.
+//! The one spelling of a source that is accepted today, and the program that it stands for.
 //!
 //! [`read`] takes a text that spells one function of Boolean parameters whose expressions join names by `||`, and gives
 //! the program of this function and its postcondition. `specs/Names` says what names are, `specs/Form` what the spelling
