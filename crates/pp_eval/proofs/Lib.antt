@@ -1,2 +1,8 @@
-pub mod Ends
-pub mod Sorted
+pub mod Trees
+pub mod Uneven
+pub mod Width
+pub mod Steps
+pub mod Extends
+pub mod Lasts
+pub mod Outcomes
+pub mod Samples

@@ -1,2 +1,9 @@
+pub mod Part
+pub mod Equality
+pub mod Operators
+pub mod Measure
 pub mod Meaning
+pub mod Calls
 pub mod Runs
+pub mod Laws
+pub mod Halts

@@ -1,40 +1,25 @@
--- What an expression means: big-step evaluation, with the fuel that calls may use. Operands go from left to right, and
--- `&&` and `||` skip the right side where the left decides. Source: Scala Language Specification 6.6 and 12.2.2; fuel is
--- own. Expressions without a sort are Deep, and so are those that programs don't have yet.
-use Rattle.std.specs.Prelude.{◌≡◌, ℕ, Bool, true, false, List, Option, Some, None, Result, Ok, Err, slice_get}
+-- What an expression means: big-step evaluation, where what a call does is a parameter. Operands, arguments and fields go
+-- from left to right, `&&` and `||` skip the right side where the left decides, `val` is strict, and a match takes the
+-- first case whose pattern fits and whose guard is true. Source: Scala Language Specification 6.6, 6.12, 8.4 and 12.2.2.
+-- Where a form has no meaning, as an operator for values of other sorts, it is Deep. A valid program never comes there:
+-- `pp_sound` has that law. (own)
+use Rattle.std.specs.Prelude.{ℕ, Bool, true, false, List, [], ◌∷◌, ◌++◌, Option, Some, None, Ok, Err, slice_get}
 use Rattle.pp_prog.specs.declared.expr.BinaryOp.{BinaryOp}
 use Rattle.pp_prog.specs.declared.expr.BinaryOp.TheVariants.{AndAlso, OrElse}
+use Rattle.pp_prog.specs.declared.expr.Case.{Case}
 use Rattle.pp_prog.specs.declared.expr.Expr.{Expr}
-use Rattle.pp_prog.specs.declared.expr.Expr.TheFolds.{fold-Expr}
+use Rattle.pp_prog.specs.declared.expr.Expr.TheFolds.{fold-Expr, fold-Case}
 use Rattle.pp_prog.specs.declared.expr.Expr.TheOpen as layer
-use Rattle.pp_prog.specs.declared.expr.Function.{Function}
-use Rattle.pp_prog.specs.declared.expr.UnaryOp.{UnaryOp}
-use Rattle.pp_prog.specs.declared.expr.UnaryOp.TheVariants.{Not}
 use Rattle.pp_prog.specs.declared.id.CheckId.{CheckId}
 use Rattle.pp_prog.specs.declared.id.FunctionId.{FunctionId}
 use Rattle.pp_prog.specs.declared.value.Value.{Value}
 use Rattle.pp_prog.specs.declared.value.Value.TheOpen as value
-use Rattle.pp_prog.specs.declared.value.Value.TheVariants.{Bool as Truth}
+use Rattle.pp_prog.specs.declared.value.Value.TheVariants.{Int, Bool as Truth, Tree}
 use Rattle.pp_prog.specs.declared.value.Value.TheViews.{out-Value}
-use Rattle.pp_eval.specs.declared.outcome.Halt.{Halt}
-use Rattle.pp_eval.specs.declared.outcome.Halt.TheVariants.{Memory, Stopped}
-use Rattle.pp_eval.specs.declared.outcome.Stop.{Stop}
-use Rattle.pp_eval.specs.declared.outcome.Stop.TheVariants.{Deep}
-
--- a part of a run: its value, or how the run stops there
-abbrev pub Part : Type 0 → Type 0
-Part A = Result A Stop
-
--- what a call that may be out of memory says of a part
-abbrev pub Tells : {A : Type 0} → Result A Halt → Part A → Type 0
-Tells (Ok a) part = part ≡ Ok a
-Tells (Err Memory) part = Unit {0}
-Tells (Err (Stopped s)) part = part ≡ Err s
-
--- the first part whose outcome isn't a value gives the outcome
-abbrev pub and_then : {A B : Type 0} → Part A → (A → Part B) → Part B
-and_then (Ok a) go = go a
-and_then (Err s) go = Err s
+use Rattle.pp_prog.specs.Fits.{fit}
+use Rattle.pp_eval.specs.declared.outcome.Stop.TheVariants.{Fails, Deep}
+use Rattle.pp_eval.specs.Operators.{operated, truth, unary}
+use Rattle.pp_eval.specs.Part.{Part, and_then, either, failed, found}
 
 -- the measure values of a frame, which has none while its precondition and its measure list are evaluated
 abbrev pub Frame : Type 0
@@ -44,63 +29,96 @@ Frame = Option (List Value)
 abbrev pub Meaning : Type 0
 Meaning = Frame → List Value → Part Value
 
--- what a call does: the frame that it comes from, the function, the site's checks and the arguments
+-- what a case is: its pattern, with the meanings of its guard and its body
+abbrev pub Arm : Type 0
+Arm = layer.Case-F Meaning (Unit {0})
+
+-- what a call does: the frame that it comes from, the function, the site's precondition check and measure check, and
+-- the arguments
 abbrev pub Calls : Type 0
 Calls = Frame → FunctionId → Option CheckId → Option CheckId → List Value → Part Value
 
-abbrev pub truth_of : value.Value-F Value → Part Bool
-truth_of (value.Bool b) = Ok b
-truth_of _ = Err Deep
+abbrev pub all_from : List Value → List Meaning → Frame → List Value → Part (List Value)
+all_from done [] frame env = Ok done
+all_from done (m ∷ ms) frame env = and_then (m frame env) (λ v. all_from (done ++ v ∷ []) ms frame env)
 
--- the truth value that a value is
-abbrev pub truth : Value → Part Bool
-truth v = truth_of (out-Value v)
+-- each value, from left to right
+abbrev pub all : List Meaning → Frame → List Value → Part (List Value)
+all = all_from []
 
-abbrev pub found : Option Value → Part Value
-found (Some v) = Ok v
-found None = Err Deep
+-- an operator with two operands. The right side of `&&` counts only where the left is true, and that of `||` only where
+-- it is false.
+abbrev pub binary : BinaryOp → Meaning → Meaning → Option CheckId → Meaning
+binary AndAlso a b check frame env =
+    and_then (a frame env) (λ x. and_then (truth x) (λ t. either t (b frame env) (Ok (Truth false))))
+binary OrElse a b check frame env =
+    and_then (a frame env) (λ x. and_then (truth x) (λ t. either t (Ok (Truth true)) (b frame env)))
+binary op a b check frame env = and_then (a frame env) (λ x. and_then (b frame env) (λ y. operated op check x y))
 
-abbrev pub negated : Bool → Bool
-negated true = false
-negated false = true
+abbrev pub field_in : value.Value-F Value → ℕ → Part Value
+field_in (value.Int n) k = Err Deep
+field_in (value.Bool b) k = Err Deep
+field_in (value.Tree c fields) k = found (slice_get fields k)
 
-abbrev pub unary : UnaryOp → Value → Part Value
-unary Not v = and_then (truth v) (λ b. Ok (Truth (negated b)))
-unary _ v = Err Deep
+-- the field at this place
+abbrev pub field : Value → ℕ → Part Value
+field v k = field_in (out-Value v) k
 
--- the right side counts only where the left doesn't decide
-abbrev pub if_true : Bool → Part Value → Part Value
-if_true true rest = rest
-if_true false rest = Ok (Truth false)
+-- whether a guard is true; none always is
+abbrev pub guarded : Option Meaning → Frame → List Value → Part Bool
+guarded None frame env = Ok true
+guarded (Some guard) frame env = and_then (guard frame env) truth
 
-abbrev pub if_false : Bool → Part Value → Part Value
-if_false true rest = Ok (Truth true)
-if_false false rest = rest
+-- what a case gives where its pattern fits: the body's value where the guard is true
+abbrev pub taken : Bool → Part Value → Part (Option Value)
+taken true body = and_then body (λ v. Ok (Some v))
+taken false body = Ok None
 
-abbrev pub binary : BinaryOp → Meaning → Meaning → Meaning
-binary AndAlso a b frame env = and_then (a frame env) (λ v. and_then (truth v) (λ t. if_true t (b frame env)))
-binary OrElse a b frame env = and_then (a frame env) (λ v. and_then (truth v) (λ t. if_false t (b frame env)))
-binary _ a b frame env = Err Deep
+abbrev pub attempt_with : Option (List Value) → Arm → Frame → List Value → Part (Option Value)
+attempt_with None arm frame env = Ok None
+attempt_with (Some bound) arm frame env =
+    and_then (guarded arm.guard frame (env ++ bound)) (λ t. taken t (arm.body frame (env ++ bound)))
 
-abbrev pub no_arm : layer.Case-F Meaning (Unit {0}) → Unit {0}
-no_arm c = tt
+-- what a case gives for a value: nothing where its pattern doesn't fit or its guard is false
+abbrev pub attempt : Arm → Value → Frame → List Value → Part (Option Value)
+attempt arm v frame env = attempt_with (fit arm.pattern v) arm frame env
+
+abbrev pub or_next : Option Value → Part Value → Part Value
+or_next None next = next
+or_next (Some v) next = Ok v
+
+-- the first case that gives a value; where none does, the match's check fails
+abbrev pub first_case : List Arm → Option CheckId → Value → Meaning
+first_case [] check v frame env = failed check
+first_case (arm ∷ arms) check v frame env =
+    and_then (attempt arm v frame env) (λ o. or_next o (first_case arms check v frame env))
+
+abbrev pub arm_step : layer.Case-F Meaning Arm → Arm
+arm_step c = record { pattern = c.pattern; guard = c.guard; body = c.body }
 
 module _ (calls : Calls) where
-  -- one level of an expression
-  abbrev pub meaning_step : layer.Expr-F Meaning (Unit {0}) → Meaning
+  -- one level of an expression, with the meanings of its parts in their place
+  abbrev pub meaning_step : layer.Expr-F Meaning Arm → Meaning
+  meaning_step (layer.Int n) frame env = Ok (Int n)
   meaning_step (layer.Bool b) frame env = Ok (Truth b)
   meaning_step (layer.Var i) frame env = found (slice_get env i)
   meaning_step (layer.Unary op a) frame env = and_then (a frame env) (unary op)
-  meaning_step (layer.Binary op a b check) frame env = binary op a b frame env
-  meaning_step _ frame env = Err Deep
+  meaning_step (layer.Binary op a b check) frame env = binary op a b check frame env
+  meaning_step (layer.Construct c args) frame env = and_then (all args frame env) (λ fields. Ok (Tree c fields))
+  meaning_step (layer.Field e k) frame env = and_then (e frame env) (λ v. field v k)
+  meaning_step (layer.If c a b) frame env =
+      and_then (c frame env) (λ v. and_then (truth v) (λ t. either t (a frame env) (b frame env)))
+  meaning_step (layer.Match e arms check) frame env = and_then (e frame env) (λ v. first_case arms check v frame env)
+  meaning_step (layer.Val bound rest) frame env = and_then (bound frame env) (λ v. rest frame (env ++ v ∷ []))
+  meaning_step (layer.Assert check c rest) frame env =
+      and_then (c frame env) (λ v. and_then (truth v) (λ t. either t (rest frame env) (Err (Fails check))))
+  meaning_step (layer.Call g args pre measure) frame env =
+      and_then (all args frame env) (λ values. calls frame g pre measure values)
 
+  -- the meaning of an expression
   abbrev pub meaning : Expr → Meaning
-  meaning = fold-Expr Meaning (Unit {0}) meaning_step no_arm
+  meaning = fold-Expr Meaning Arm meaning_step arm_step
 
--- a call that isn't carried out
-abbrev pub no_calls : Calls
-no_calls frame g pre measure args = Err Deep
-
--- calls nested at most n deep. Programs have no calls yet.
-abbrev pub calls_to : List Function → ℕ → Calls
-calls_to functions n = no_calls
+  -- a case, with the meanings of its guard and its body
+  abbrev pub arm : Case → Arm
+  arm = fold-Case Meaning Arm meaning_step arm_step

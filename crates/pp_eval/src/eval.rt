@@ -1,21 +1,200 @@
 //! The evaluation of an expression.
 
-ghost use Rattle.std.specs.Prelude.{None, slice_get};
-ghost use Rattle.pp_eval.specs.Meaning.{Tells, binary, found, meaning, no_calls, truth, unary};
+ghost use Rattle.std.specs.Prelude.{◌≡◌, OnOk, map, slice_get, take};
+ghost use Rattle.std.specs.Option.{option_map};
+ghost use Rattle.pp_eval.specs.Calls.{calls_to, eval};
+ghost use Rattle.pp_eval.specs.Meaning as spec;
+ghost use Rattle.pp_eval.specs.Meaning.{all, arm, first_case, guarded, meaning};
+ghost use Rattle.pp_eval.specs.Operators.{truth};
+ghost use Rattle.pp_eval.specs.Part.{Tells, and_then, found};
 
+use crate::calls::{Calls, call};
+use crate::fit::bind;
+use crate::operators::{failed, operate, truth_of, unary};
 use crate::outcome::{Halt, Stop};
-use pp_list::at;
-use pp_prog::{BinaryOp, Expr, UnaryOp, Value};
+use pp_list::{Items, at};
+use pp_prog::{BinaryOp, Case, CheckId, Expr, Value, Values};
 use std::alloc::Global;
 
-/// The truth value that a value is.
-pub(crate) fn truth_of(v: &Value) -> Result<bool, Halt>
-    ensures { Tells result (truth v.now) }
+/// The value of an expression, in a frame with these measure values and with the values in scope, which are the same
+/// afterwards.
+#[cycle(eval)]
+pub(crate) fn value_of(
+    alloc: Global,
+    calls: Calls<'_>,
+    frame: &Option<Values>,
+    env: &mut Values,
+    e: &Expr,
+) -> Result<Value, Halt>
+    ensures told { Tells result (eval calls.entry.ctors.now calls.entry.functions.now calls.entry.fuel frame.now env.old e.now) }
+    ensures kept { OnOk result (env.new ≡ env.old) }
 {
-    match v {
-        Value::Bool(b) => Ok(*b),
-        Value::Int(_) => Err(Halt::Stopped(Stop::Deep)),
-        Value::Tree(_, _) => Err(Halt::Stopped(Stop::Deep)),
+    match e {
+        Expr::Int(n) => Ok(Value::Int(*n)),
+        Expr::Bool(b) => Ok(Value::Bool(*b)),
+        Expr::Var(i) => variable(alloc, env.as_slice(), *i),
+        Expr::Unary(op, a) => {
+            let x = value_of(alloc, calls, frame, env, a.get())?;
+            unary(*op, &x)
+        }
+        Expr::Binary(BinaryOp::AndAlso, a, b, _) => {
+            let x = value_of(alloc, calls, frame, env, a.get())?;
+            if truth_of(&x)? {
+                value_of(alloc, calls, frame, env, b.get())
+            } else {
+                Ok(Value::Bool(false))
+            }
+        }
+        Expr::Binary(BinaryOp::OrElse, a, b, _) => {
+            let x = value_of(alloc, calls, frame, env, a.get())?;
+            if truth_of(&x)? {
+                Ok(Value::Bool(true))
+            } else {
+                value_of(alloc, calls, frame, env, b.get())
+            }
+        }
+        Expr::Binary(op, a, b, check) => {
+            let x = value_of(alloc, calls, frame, env, a.get())?;
+            let y = value_of(alloc, calls, frame, env, b.get())?;
+            operate(*op, *check, &x, &y)
+        }
+        Expr::Construct(c, args) => {
+            let fields = values_of(alloc, calls, frame, env, args.as_slice())?;
+            Ok(Value::Tree(*c, fields))
+        }
+        Expr::Field(e, k) => {
+            let v = value_of(alloc, calls, frame, env, e.get())?;
+            field(alloc, &v, *k)
+        }
+        Expr::If(c, a, b) => {
+            let v = value_of(alloc, calls, frame, env, c.get())?;
+            if truth_of(&v)? {
+                value_of(alloc, calls, frame, env, a.get())
+            } else {
+                value_of(alloc, calls, frame, env, b.get())
+            }
+        }
+        Expr::Match(e, cases, check) => {
+            let v = value_of(alloc, calls, frame, env, e.get())?;
+            case_of(alloc, calls, frame, env, cases.as_slice(), *check, &v)
+        }
+        Expr::Val(bound, rest) => {
+            let v = value_of(alloc, calls, frame, env, bound.get())?;
+            env.push(v)?;
+            let result = value_of(alloc, calls, frame, env, rest.get())?;
+            let _ = env.pop();
+            Ok(result)
+        }
+        Expr::Assert(check, c, rest) => {
+            let v = value_of(alloc, calls, frame, env, c.get())?;
+            if truth_of(&v)? {
+                value_of(alloc, calls, frame, env, rest.get())
+            } else {
+                Err(Halt::Stopped(Stop::Fails(*check)))
+            }
+        }
+        Expr::Call {
+            callee,
+            args,
+            pre,
+            measure,
+        } => {
+            let values = values_of(alloc, calls, frame, env, args.as_slice())?;
+            call(alloc, calls, frame, *callee, *pre, *measure, values)
+        }
+    }
+}
+
+/// The values of expressions, from left to right.
+#[cycle(eval)]
+pub(crate) fn values_of(
+    alloc: Global,
+    calls: Calls<'_>,
+    frame: &Option<Values>,
+    env: &mut Values,
+    exprs: &[Expr],
+) -> Result<Values, Halt>
+    ensures told { Tells result (all (map (meaning (calls_to calls.entry.ctors.now calls.entry.functions.now calls.entry.fuel)) exprs.now) frame.now env.old) }
+    ensures kept { OnOk result (env.new ≡ env.old) }
+{
+    let mut values = Items::new(alloc);
+    for e in exprs {
+        let v = value_of(alloc, calls, frame, env, e)?;
+        values.push(v)?;
+    }
+    Ok(values)
+}
+
+// The value of the first case that is taken for a value.
+#[cycle(eval)]
+fn case_of(
+    alloc: Global,
+    calls: Calls<'_>,
+    frame: &Option<Values>,
+    env: &mut Values,
+    cases: &[Case],
+    check: Option<CheckId>,
+    v: &Value,
+) -> Result<Value, Halt>
+    ensures told { Tells result (first_case (map (arm (calls_to calls.entry.ctors.now calls.entry.functions.now calls.entry.fuel)) cases.now) check v.now frame.now env.old) }
+    ensures kept { OnOk result (env.new ≡ env.old) }
+{
+    for case in cases {
+        match attempt(alloc, calls, frame, env, case, v)? {
+            Some(result) => return Ok(result),
+            None => {}
+        }
+    }
+    failed(check)
+}
+
+// The value of a case, where its pattern fits and its guard is true.
+#[cycle(eval)]
+fn attempt(
+    alloc: Global,
+    calls: Calls<'_>,
+    frame: &Option<Values>,
+    env: &mut Values,
+    case: &Case,
+    v: &Value,
+) -> Result<Option<Value>, Halt>
+    ensures told { Tells result (spec.attempt (arm (calls_to calls.entry.ctors.now calls.entry.functions.now calls.entry.fuel) case.now) v.now frame.now env.old) }
+    ensures kept { OnOk result (env.new ≡ env.old) }
+{
+    match bind(alloc, &case.pattern, v)? {
+        None => Ok(None),
+        Some(bound) => {
+            let depth = env.len();
+            env.append(bound)?;
+            let result = if holds(alloc, calls, frame, env, &case.guard)? {
+                Some(value_of(alloc, calls, frame, env, &case.body)?)
+            } else {
+                None
+            };
+            truncate(env, depth);
+            Ok(result)
+        }
+    }
+}
+
+/// Whether the condition is true; none always is.
+#[cycle(eval)]
+pub(crate) fn holds(
+    alloc: Global,
+    calls: Calls<'_>,
+    frame: &Option<Values>,
+    env: &mut Values,
+    condition: &Option<Expr>,
+) -> Result<bool, Halt>
+    ensures told { Tells result (guarded (option_map (meaning (calls_to calls.entry.ctors.now calls.entry.functions.now calls.entry.fuel)) condition.now) frame.now env.old) }
+    ensures kept { OnOk result (env.new ≡ env.old) }
+{
+    match condition {
+        None => Ok(true),
+        Some(e) => {
+            let v = value_of(alloc, calls, frame, env, e)?;
+            truth_of(&v)
+        }
     }
 }
 
@@ -28,43 +207,22 @@ fn variable(alloc: Global, env: &[Value], i: u32) -> Result<Value, Halt>
     }
 }
 
-fn apply(op: UnaryOp, v: &Value) -> Result<Value, Halt>
-    ensures { Tells result (unary op v.now) }
+// The field at this place.
+fn field(alloc: Global, v: &Value, k: u32) -> Result<Value, Halt>
+    ensures { Tells result (spec.field v.now k) }
 {
-    match op {
-        UnaryOp::Not => Ok(Value::Bool(!truth_of(v)?)),
-        UnaryOp::Neg => Err(Halt::Stopped(Stop::Deep)),
-        UnaryOp::Flip => Err(Halt::Stopped(Stop::Deep)),
+    match v {
+        Value::Int(_) => Err(Halt::Stopped(Stop::Deep)),
+        Value::Bool(_) => Err(Halt::Stopped(Stop::Deep)),
+        Value::Tree(_, fields) => variable(alloc, fields.as_slice(), k),
     }
 }
 
-/// The value of an expression, with the values in scope.
-pub(crate) fn value_of(alloc: Global, env: &[Value], e: &Expr) -> Result<Value, Halt>
-    ensures { Tells result (meaning no_calls e.now None env.now) }
+// Keeps the first values alone.
+fn truncate(env: &mut Values, depth: usize)
+    ensures { env.new ≡ take depth env.old }
 {
-    match e {
-        Expr::Bool(b) => Ok(Value::Bool(*b)),
-        Expr::Var(i) => variable(alloc, env, *i),
-        Expr::Unary(op, a) => {
-            let v = value_of(alloc, env, a.get())?;
-            apply(*op, &v)
-        }
-        Expr::Binary(BinaryOp::AndAlso, a, b, _) => {
-            let v = value_of(alloc, env, a.get())?;
-            if truth_of(&v)? {
-                value_of(alloc, env, b.get())
-            } else {
-                Ok(Value::Bool(false))
-            }
-        }
-        Expr::Binary(BinaryOp::OrElse, a, b, _) => {
-            let v = value_of(alloc, env, a.get())?;
-            if truth_of(&v)? {
-                Ok(Value::Bool(true))
-            } else {
-                value_of(alloc, env, b.get())
-            }
-        }
-        _ => Err(Halt::Stopped(Stop::Deep)),
+    while env.len() > depth {
+        let _ = env.pop();
     }
 }

@@ -3,8 +3,9 @@
 use pp_prog::{CheckId, FunctionId, Value};
 use std::alloc::AllocError;
 
-/// How the evaluation of an expression stops before it has a value: a check of the run's own function fails; a check
-/// fails inside a called function; calls are nested deeper than the fuel.
+/// How the evaluation of an expression stops before it has a value: a check of the frame's own function fails; a check
+/// fails inside a called function; calls are nested deeper than the fuel, or the expression has no meaning for its
+/// values, which no valid program meets.
 #[derive(Clone, Copy, PartialEq, Eq, Debug)]
 pub enum Stop {
     Fails(CheckId),
@@ -31,7 +32,8 @@ impl From<AllocError> for Halt {
 }
 
 /// The outcome of a run: its value, where no check failed; `Outside`, where the precondition is false; a failing check
-/// of the function itself; a failing check inside a called function; calls nested deeper than the fuel.
+/// of the function itself; a failing check inside a called function; calls nested deeper than the fuel, which is all
+/// that `Deep` means in a valid program.
 #[derive(Drop)]
 pub enum Outcome {
     Done(Value),

@@ -1,19 +1,23 @@
 //! A run of a function.
 
-ghost use Rattle.std.specs.Prelude.{◌≡◌, ◌++◌, ◌∷◌, ◌<◌, ◌≤◌, [], IfOk, None, length, slice_get};
-ghost use Rattle.pp_eval.specs.Meaning.{Tells, no_calls};
+ghost use Rattle.std.specs.Prelude.{◌≡◌, ◌<◌, ◌≤◌, IfOk, length, slice_get};
+ghost use Rattle.pp_eval.specs.declared.outcome.Outcome.{Outcome};
+ghost use Rattle.pp_eval.specs.Calls.{calls_to};
+ghost use Rattle.pp_eval.specs.Part.{Part, Tells};
 ghost use Rattle.pp_eval.specs.Runs as spec;
-ghost use Rattle.pp_eval.specs.Runs.{AreArguments, EndPlainly, LastsWithFuel, run_at};
+ghost use Rattle.pp_eval.specs.Runs.{AreArguments, outcome, run_at};
 
 use crate::NoMemory;
-use crate::eval::{truth_of, value_of};
+use crate::calls::{Calls, frame_of};
+use crate::eval::{holds, value_of};
+use crate::operators::truth_of;
 use crate::outcome::{Halt, Outcome, Stop};
 use pp_list::Items;
 use pp_prog::{CheckId, Expr, Function, FunctionId, Program, Value, Values};
 use std::alloc::Global;
 
 /// The outcome of the run of `f` on these arguments, which have the parameters' sorts, with this fuel, which is at most
-/// 100. The only error is want of memory.
+/// 100: the precondition, the measure list, the body and the postcondition. The only error is want of memory.
 pub fn run(
     alloc: Global,
     program: &Program,
@@ -24,9 +28,21 @@ pub fn run(
     requires function { f.0 < length program.now.functions }
     requires arguments { AreArguments program.now.types.ctors (slice_get program.now.functions f.0) args.now }
     requires fuel { fuel ≤ 100 }
-    ensures { IfOk result (λ outcome. outcome ≡ run_at program.now.functions (slice_get program.now.functions f.0) args.now fuel) }
+    ensures { IfOk result (λ outcome. outcome ≡ run_at program.now.types.ctors program.now.functions (slice_get program.now.functions f.0) args.now fuel) }
 {
-    match run_with(alloc, program.function(f), args) {
+    let calls = Calls {
+        ctors: program.types().ctors.as_slice(),
+        functions: program.functions.as_slice(),
+        fuel,
+    };
+    ended(run_with(alloc, calls, program.function(f), args))
+}
+
+/// The outcome of a run that came to this.
+pub(crate) fn ended(run: Result<Outcome, Halt>) -> Result<Outcome, NoMemory>
+    ensures { (part : Part Outcome) → Tells run part → IfOk result (λ o. o ≡ outcome part) }
+{
+    match run {
         Ok(outcome) => Ok(outcome),
         Err(Halt::Memory) => Err(NoMemory),
         Err(Halt::Stopped(Stop::Fails(c))) => Ok(Outcome::Fails(c)),
@@ -35,44 +51,50 @@ pub fn run(
     }
 }
 
-fn run_with(alloc: Global, f: &Function, args: &[Value]) -> Result<Outcome, Halt>
-    requires { f.now.measure ≡ [] }
-    ensures { Tells result (spec.run_with no_calls f.now args.now) }
+/// The run of f, where calls are these.
+pub(crate) fn run_with(
+    alloc: Global,
+    calls: Calls<'_>,
+    f: &Function,
+    args: &[Value],
+) -> Result<Outcome, Halt>
+    ensures { Tells result (spec.run_with (calls_to calls.entry.ctors.now calls.entry.functions.now calls.entry.fuel) f.now args.now) }
 {
-    if !allowed(alloc, &f.pre, args)? {
-        return Ok(Outcome::Outside);
+    let mut env = copies(alloc, args)?;
+    if holds(alloc, calls, &None, &mut env, &f.pre)? {
+        start(alloc, calls, f, env)
+    } else {
+        Ok(Outcome::Outside)
     }
-    let v = value_of(alloc, args, &f.body)?;
-    finished(alloc, &f.post, args, v)
 }
 
-// Whether the precondition is true; none always is.
-fn allowed(alloc: Global, pre: &Option<Expr>, args: &[Value]) -> Result<bool, Halt>
-    ensures { Tells result (spec.allowed no_calls pre.now args.now) }
+// The measure list, the body and the postcondition, where the precondition is true.
+fn start(alloc: Global, calls: Calls<'_>, f: &Function, args: Values) -> Result<Outcome, Halt>
+    ensures { Tells result (spec.started (calls_to calls.entry.ctors.now calls.entry.functions.now calls.entry.fuel) f.now args) }
 {
-    match pre {
-        None => Ok(true),
-        Some(pre) => {
-            let v = value_of(alloc, args, pre)?;
-            truth_of(&v)
-        }
-    }
+    let mut env = args;
+    let frame = frame_of(alloc, calls, f.measure.as_slice(), &mut env)?;
+    let v = value_of(alloc, calls, &frame, &mut env, &f.body)?;
+    finish(alloc, calls, &f.post, &frame, env, v)
 }
 
 // The postcondition, of the arguments and the result.
-fn finished(
+fn finish(
     alloc: Global,
+    calls: Calls<'_>,
     post: &Option<(CheckId, Expr)>,
-    args: &[Value],
+    frame: &Option<Values>,
+    args: Values,
     v: Value,
 ) -> Result<Outcome, Halt>
-    ensures { Tells result (spec.finished no_calls post.now None args.now v) }
+    ensures { Tells result (spec.finished (calls_to calls.entry.ctors.now calls.entry.functions.now calls.entry.fuel) post.now frame.now args v) }
 {
     match post {
         None => Ok(Outcome::Done(v)),
         Some((check, claim)) => {
-            let env = with_result(alloc, args, &v)?;
-            let p = value_of(alloc, env.as_slice(), claim)?;
+            let mut env = args;
+            env.push(v.copy(alloc)?)?;
+            let p = value_of(alloc, calls, frame, &mut env, claim)?;
             if truth_of(&p)? {
                 Ok(Outcome::Done(v))
             } else {
@@ -82,24 +104,12 @@ fn finished(
     }
 }
 
-fn with_result(alloc: Global, args: &[Value], v: &Value) -> Result<Values, NoMemory>
-    ensures { IfOk result (λ env. env ≡ args.now ++ v.now ∷ []) }
+fn copies(alloc: Global, values: &[Value]) -> Result<Values, NoMemory>
+    ensures { IfOk result (λ copies. copies ≡ values.now) }
 {
-    let mut env = Items::new(alloc);
-    for arg in args {
-        env.push(arg.copy(alloc)?)?;
+    let mut copies = Items::new(alloc);
+    for v in values {
+        copies.push(v.copy(alloc)?)?;
     }
-    env.push(v.copy(alloc)?)?;
-    Ok(env)
+    Ok(copies)
 }
-
-/// An outcome other than `Deep` stays the same with more fuel. It does nothing: its contract is the law.
-pub fn lasts_with_fuel()
-    ensures { LastsWithFuel }
-{}
-
-/// In a valid program, on arguments of the parameters' sorts, a run isn't allowed, is done, or fails a check that the
-/// program lists. It does nothing: its contract is the law.
-pub fn end_plainly()
-    ensures { EndPlainly }
-{}

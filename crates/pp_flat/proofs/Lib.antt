@@ -1,1 +1,3 @@
+pub mod Truths
+pub mod Ends
 pub mod Lists

@@ -2,6 +2,7 @@
 use Rattle.std.specs.Prelude.{◌≡◌, ◌⊎◌, ◌+◌, ◌++◌, ℕ, Bool, List, Option, None, Some, length, map, slice_get}
 use Rattle.pp_prog.specs.declared.expr.Function.{Function}
 use Rattle.pp_prog.specs.declared.id.CheckId.{CheckId}
+use Rattle.pp_prog.specs.declared.types.Ctor.{Ctor}
 use Rattle.pp_prog.specs.declared.value.Value.{Value}
 use Rattle.pp_prog.specs.declared.value.Value.TheVariants.{Bool as Truth}
 use Rattle.pp_eval.specs.declared.outcome.Outcome.{Outcome}
@@ -13,8 +14,8 @@ abbrev pub truths : List Bool → List Value
 truths = map Truth
 
 -- the run of the function with this number on truth values
-abbrev pub run_on : List Function → ℕ → List Bool → Outcome
-run_on functions f bits = run_at functions (slice_get functions f) (truths bits) 0
+abbrev pub run_on : List Ctor → List Function → ℕ → List Bool → Outcome
+run_on ctors functions f bits = run_at ctors functions (slice_get functions f) (truths bits) 0
 
 -- the run isn't allowed, or meets the contract
 abbrev pub IsFine : Outcome → Type 0
@@ -26,10 +27,10 @@ IsFailure None o = IsFine o
 IsFailure (Some c) o = o ≡ Fails c
 
 -- each run on truth values that go on with so many more is fine
-abbrev pub AreFine : List Function → ℕ → List Bool → ℕ → Type 0
-AreFine functions f bits left = (rest : List Bool) → length rest ≡ left → IsFine (run_on functions f (bits ++ rest))
+abbrev pub AreFine : List Ctor → List Function → ℕ → List Bool → ℕ → Type 0
+AreFine ctors functions f bits left = (rest : List Bool) → length rest ≡ left → IsFine (run_on ctors functions f (bits ++ rest))
 
 -- none fails a check among the argument lists that go on from the old truth values, which stay; or the new ones fail it
-abbrev pub IsRefutation : List Function → ℕ → List Bool → List Bool → ℕ → Option CheckId → Type 0
-IsRefutation functions f old new left None = AreFine functions f old left × (new ≡ old)
-IsRefutation functions f old new left (Some c) = (length new ≡ length old + left) × (run_on functions f new ≡ Fails c)
+abbrev pub IsRefutation : List Ctor → List Function → ℕ → List Bool → List Bool → ℕ → Option CheckId → Type 0
+IsRefutation ctors functions f old new left None = AreFine ctors functions f old left × (new ≡ old)
+IsRefutation ctors functions f old new left (Some c) = (length new ≡ length old + left) × (run_on ctors functions f new ≡ Fails c)

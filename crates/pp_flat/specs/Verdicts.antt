@@ -13,7 +13,7 @@ use Rattle.pp_flat.specs.declared.verdict.Verdict.TheVariants.{Invalid, Valid}
 -- these arguments of the parameters' sorts fail the check, which the program lists
 pub record IsFailedBy (ctors : List Ctor) (functions : List Function) (checks : List Check) (f : Function) (c : CheckId) (args : List Value) : Type 0 where
   pub arguments : AreArguments ctors (Some f) args
-  pub fails : run functions f args 0 ≡ Fails c
+  pub fails : run ctors functions f args 0 ≡ Fails c
   pub listed : c.0 < length checks
 
 -- the function is good; or it isn't, and the arguments fail the check

@@ -1,11 +1,12 @@
 //! The search for arguments that fail a check.
 
-ghost use Rattle.std.specs.Prelude.{◌≡◌, ◌+◌, ◌<◌, ◌≤◌, IfOk, length, slice_get};
+ghost use Rattle.std.specs.Prelude.{◌≡◌, ◌+◌, ◌<◌, ◌≤◌, IfOk, IsTrue, length, slice_get};
+ghost use Rattle.pp_prog.specs.Boolean.{is_boolean_program};
 ghost use Rattle.pp_flat.specs.Searching.{IsFailure, IsRefutation, run_on, truths};
 ghost use Rattle.pp_flat.specs.Verdicts.{IsVerdict, arity};
 
 use crate::{NoMemory, Verdict};
-use pp_eval::{Outcome, end_plainly, lasts_with_fuel, run};
+use pp_eval::{Outcome, lasts_with_fuel, run};
 use pp_list::Items;
 use pp_prog::{CheckId, FunctionId, Program, Value, Values};
 use std::alloc::Global;
@@ -13,14 +14,15 @@ use std::alloc::Global;
 /// The most parameters of a function that is verified by its runs.
 pub const MOST_PARAMS: usize = 10;
 
-/// The verdict on a Boolean function of at most [`MOST_PARAMS`] parameters, by its run on each argument list. The only
+/// The verdict on the function of a Boolean program, with at most [`MOST_PARAMS`] parameters, by its run on each argument
+/// list. The only
 /// error is want of memory.
 pub fn verdict_of(alloc: Global, program: &Program, f: FunctionId) -> Result<Verdict, NoMemory>
+    requires boolean { IsTrue (is_boolean_program program.now.functions program.now.checks) }
     requires function { f.0 < length program.now.functions }
     requires params { arity (slice_get program.now.functions f.0) ≤ MOST_PARAMS }
     ensures { IfOk result (λ v. IsVerdict program.now.types.ctors program.now.functions program.now.checks (slice_get program.now.functions f.0) v) }
 {
-    end_plainly();
     lasts_with_fuel();
     let count = program.function(f).params.len();
     let mut bits = Items::new(alloc);
@@ -48,9 +50,10 @@ fn refute(
     bits: &mut Items<bool>,
     left: usize,
 ) -> Result<Option<CheckId>, NoMemory>
+    requires boolean { IsTrue (is_boolean_program program.now.functions program.now.checks) }
     requires function { f.0 < length program.now.functions }
     requires count { length bits.old + left ≡ arity (slice_get program.now.functions f.0) }
-    ensures { IfOk result (λ found. IsRefutation program.now.functions f.0 bits.old bits.new left found) }
+    ensures { IfOk result (λ found. IsRefutation program.now.types.ctors program.now.functions f.0 bits.old bits.new left found) }
 {
     if left == 0 {
         return failure(alloc, program, f, bits.as_slice());
@@ -75,11 +78,11 @@ fn failure(
     f: FunctionId,
     bits: &[bool],
 ) -> Result<Option<CheckId>, NoMemory>
+    requires boolean { IsTrue (is_boolean_program program.now.functions program.now.checks) }
     requires function { f.0 < length program.now.functions }
     requires count { length bits.now ≡ arity (slice_get program.now.functions f.0) }
-    ensures { IfOk result (λ found. IsFailure found (run_on program.now.functions f.0 bits.now)) }
+    ensures { IfOk result (λ found. IsFailure found (run_on program.now.types.ctors program.now.functions f.0 bits.now)) }
 {
-    end_plainly();
     let args = arguments(alloc, bits)?;
     match run(alloc, program, f, args.as_slice(), 0)? {
         Outcome::Done(_) => Ok(None),

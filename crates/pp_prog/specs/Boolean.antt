@@ -1,7 +1,10 @@
 -- Boolean functions: their parameters are Boolean, and their expressions are built of Boolean literals, variables, `!`,
 -- `&&` and `||`. Source: own.
-use Rattle.std.specs.Prelude.{ℕ, ◌+◌, nat_lt, Bool, true, false, ◌&&◌, List, [], ◌∷◌, Option, None, Some, is_none, length}
+use Rattle.std.specs.Prelude.{ℕ, ◌+◌, nat_eq, nat_lt, Bool, true, false, ◌&&◌, List, [], ◌∷◌, Option, None, Some, is_none, length}
 use Rattle.std.specs.List.{list_all}
+use Rattle.pp_prog.specs.declared.check.Check.{Check}
+use Rattle.pp_prog.specs.declared.check.CheckKind.{CheckKind}
+use Rattle.pp_prog.specs.declared.check.CheckKind.TheVariants as kind
 use Rattle.pp_prog.specs.declared.expr.BinaryOp.{BinaryOp}
 use Rattle.pp_prog.specs.declared.expr.BinaryOp.TheVariants.{AndAlso, OrElse}
 use Rattle.pp_prog.specs.declared.expr.Expr.{Expr}
@@ -60,3 +63,21 @@ abbrev pub is_boolean_function : Function → Bool
 is_boolean_function f =
     list_all (same_sort sort.Bool) (param_sorts f.params) && (same_sort sort.Bool f.result && (is_empty f.measure
     && (is_boolean_pre f.pre (length f.params) && (is_boolean f.body (length f.params) && is_boolean_post f.post (length f.params)))))
+
+abbrev pub is_postcondition : CheckKind → Bool
+is_postcondition kind.Postcondition = true
+is_postcondition _ = false
+
+-- the one check of a function with a postcondition is that postcondition; it has the number 0, as has the function
+abbrev pub are_checks : Option (CheckId × Expr) → List Check → Bool
+are_checks None [] = true
+are_checks None (c ∷ cs) = false
+are_checks (Some post) [] = false
+are_checks (Some post) (c ∷ []) = nat_eq post.0.0 0 && (nat_eq c.id.0 0 && (nat_eq c.function.0 0 && is_postcondition c.kind))
+are_checks (Some post) (c ∷ d ∷ cs) = false
+
+-- one Boolean function with its check
+abbrev pub is_boolean_program : List Function → List Check → Bool
+is_boolean_program [] checks = false
+is_boolean_program (f ∷ []) checks = is_boolean_function f && are_checks f.post checks
+is_boolean_program (f ∷ g ∷ fs) checks = false

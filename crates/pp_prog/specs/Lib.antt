@@ -1,5 +1,11 @@
 pub mod Values
 pub mod Sorts
+pub mod Table
+pub mod Fits
+pub mod PatternSorts
+pub mod ExprSorts
+pub mod Calls
+pub mod Listing
+pub mod Names
 pub mod Boolean
-pub mod Types
 pub mod Valid

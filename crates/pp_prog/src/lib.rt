@@ -1,14 +1,17 @@
 //! Programs: types, values, expressions, functions and their checks.
 //!
-//! All layers above the type checker speak of these types. A program's validity is in its type, so whoever holds one
-//! needs no check of its own. Today `Program::of` takes one function of Boolean parameters whose expressions are built
-//! of literals, variables, `!`, `&&` and `||`; the types are those of the whole language, so that only this condition
-//! widens.
+//! All layers above the type checker speak of these types. A program's validity is in its type, and so is that of a
+//! table of datatypes, so whoever holds one needs no check of its own.
 //!
-//! `specs/Values` says what height and subtree are, `specs/Sorts` which values have which sort, `specs/Boolean` which
-//! functions are Boolean, `specs/Types` and `specs/Valid` which tables and programs are valid.
+//! `specs/Values` says what height and subtree are, `specs/Sorts` which values have which sort, `specs/Table` which
+//! tables agree, `specs/Fits` which values fit a pattern, `specs/PatternSorts` and `specs/ExprSorts` which patterns and
+//! expressions have which sort, `specs/Calls` which functions reach which, `specs/Listing` the sites of a function that
+//! may carry checks, `specs/Names` which function has a name, and `specs/Valid` which programs are valid. `proofs/Sure`
+//! gives the whole validity of a program from its type. `specs/Boolean` says which functions are Boolean, and
+//! `proofs/Boolean` that one Boolean function with its check is a valid program.
 #![tactic(auto)]
 
+mod calls;
 mod check;
 mod expr;
 mod id;

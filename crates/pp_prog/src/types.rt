@@ -1,7 +1,7 @@
 //! The table of datatypes and constructors.
 
-ghost use Rattle.std.specs.Prelude.{◌≡◌, IsTrue};
-ghost use Rattle.pp_prog.specs.Types.{are_types};
+ghost use Rattle.std.specs.Prelude.{◌≡◌, ◌<◌, ◌^◌, length, slice_get, Some};
+ghost use Rattle.pp_prog.specs.Table.{Agree, HaveValues, IsTable};
 
 use crate::{CtorId, DataId, Sorts};
 use pp_list::Items;
@@ -31,21 +31,42 @@ pub struct Ctor {
 /// A list of constructors.
 pub type Ctors = Items<Ctor>;
 
-/// The datatypes and constructors of a program, which agree. Today a program has no datatype, so both lists are empty.
+/// The datatypes and constructors of a program. They agree, and each datatype has a value.
 #[derive(Drop)]
 pub struct TypeTable {
     pub datatypes: Datatypes,
     pub ctors: Ctors,
-    ghost agree: { IsTrue (are_types datatypes ctors) },
+    ghost few_datatypes: { length datatypes < 2 ^ 32 },
+    ghost few_ctors: { length ctors < 2 ^ 32 },
+    ghost agree: { Agree datatypes ctors },
+    ghost inhabited: { ∥ HaveValues datatypes ctors ∥₁ },
 }
 
 impl TypeTable {
-    /// The table of these lists, which agree. It takes no memory.
+    /// The table of these lists, each of fewer than 2^32 items. They agree: the constructors of one datatype stand
+    /// together, from its `first` on and `count` many, and name it, and each sort names a datatype in range. Each
+    /// datatype has a value. It takes no memory.
     pub fn of(datatypes: Datatypes, ctors: Ctors) -> TypeTable
-        requires { IsTrue (are_types datatypes ctors) }
+        requires { IsTable datatypes ctors }
         ensures datatypes { result.datatypes ≡ datatypes }
         ensures ctors { result.ctors ≡ ctors }
     {
         TypeTable { datatypes, ctors }
+    }
+
+    /// The datatype with this number. It takes no memory.
+    pub fn datatype(&self, d: DataId) -> &Datatype
+        requires { d.0 < length self.now.datatypes }
+        ensures { slice_get self.now.datatypes d.0 ≡ Some result.now }
+    {
+        &self.datatypes.as_slice()[d.0 as usize]
+    }
+
+    /// The constructor with this number. It takes no memory.
+    pub fn ctor(&self, c: CtorId) -> &Ctor
+        requires { c.0 < length self.now.ctors }
+        ensures { slice_get self.now.ctors c.0 ≡ Some result.now }
+    {
+        &self.ctors.as_slice()[c.0 as usize]
     }
 }

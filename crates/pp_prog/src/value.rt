@@ -3,9 +3,9 @@
 ghost use Rattle.std.specs.Prelude.{◌≡◌, ◌↔◌, ◌^◌, ◌-◌, min, IsTrue, IfOk};
 ghost use Rattle.pp_prog.specs.Values.{IsBelow, height};
 
-use crate::{CtorId, NoMemory};
+use crate::CtorId;
 use pp_list::Items;
-use std::alloc::Global;
+use std::alloc::{AllocError, Global};
 
 /// A value of the language: a number of 32 bits, a truth value, or a constructor with a value for each field.
 #[derive(Drop)]
@@ -20,7 +20,7 @@ pub type Values = Items<Value>;
 
 impl Value {
     /// A value that equals this one. The only error is want of memory.
-    pub fn copy(&self, alloc: Global) -> Result<Value, NoMemory>
+    pub fn copy(&self, alloc: Global) -> Result<Value, AllocError>
         ensures { IfOk result (λ v. v ≡ self.now) }
     {
         match self {

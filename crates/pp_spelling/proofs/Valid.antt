@@ -1,14 +1,14 @@
--- The program of a form is valid.
-use Rattle.std.proofs.Common.{◌≡◌, suc, ◌+◌, Bool, true, ◌&&◌, IsTrue, ◌-◌, Some, List, [], ◌∷◌, ◌++◌, length, map, refl, ap, ◌∙◌, subst}
+-- The program of a form is Boolean.
+use Rattle.std.proofs.Common.{◌≡◌, suc, ◌+◌, Bool, true, ◌&&◌, IsTrue, ◌-◌, Some, List, [], ◌∷◌, ◌++◌, length, map, refl, ap, ◌∙◌, subst, Result, Ok, Err, IfOk}
 use Rattle.std.specs.List.{list_all}
-use Rattle.pp_prog.specs.Boolean.{is_boolean}
+use Rattle.pp_prog.specs.Boolean.{is_boolean, is_boolean_program}
 use Rattle.pp_prog.specs.Sorts.{param_sorts, same_sort}
-use Rattle.pp_prog.specs.Valid.{is_valid}
 use Rattle.pp_prog.specs.declared.check.Check.{Check}
 use Rattle.pp_prog.specs.declared.expr.Expr.{Expr}
 use Rattle.pp_prog.specs.declared.expr.Function.{Function}
 use Rattle.pp_prog.specs.declared.expr.Param.{Param}
 use Rattle.pp_prog.specs.declared.place.Place.{Place}
+use Rattle.pp_prog.specs.declared.program.Program.{Program}
 use Rattle.pp_prog.specs.declared.sort.Sort.TheVariants as sort
 use Rattle.pp_spelling.specs.Names.{Text}
 use Rattle.pp_spelling.specs.Form.{Form, IsForm}
@@ -32,7 +32,7 @@ is_boolean_all f a b c x y z =
     ap (λ l. (l && (a && (b && c))) && true) (all_boolean f.params)
     ∙ (ap (λ v. (v && (b && c)) && true) x ∙ (ap (λ v. (v && c) && true) y ∙ ap (λ v. v && true) z))
 
-pub valid : (f : Form) → IsForm f → IsTrue (is_valid (function_of f ∷ []) (check_of f ∷ []))
+pub valid : (f : Form) → IsForm f → IsTrue (is_boolean_program (function_of f ∷ []) (check_of f ∷ []))
 valid f is =
     let same = same_length f.params in
     let pre = subst (λ n. is_boolean (or_of f.params f.pre) n ≡ true) same (boolean_expression f.params f.pre is.pre_within.some is.pre) in
@@ -41,11 +41,17 @@ valid f is =
     is_boolean_all f (is_boolean (or_of f.params f.pre) (length (map param_of f.params))) (is_boolean (or_of f.params f.body) (length (map param_of f.params))) (is_boolean (or_of f.params f.claim) (length (map param_of f.params) + 1)) pre body claim
 
 -- the lists of a program that were made of the function and the check
-pub valid_lists : (f : Form) (fs functions : List Function) (ks checks : List Check) (g : Function) (k : Check) → IsForm f → fs ≡ [] → functions ≡ fs ++ g ∷ [] → g ≡ function_of f → ks ≡ [] → checks ≡ ks ++ k ∷ [] → k ≡ check_of f → IsTrue (is_valid functions checks)
+pub valid_lists : (f : Form) (fs functions : List Function) (ks checks : List Check) (g : Function) (k : Check) → IsForm f → fs ≡ [] → functions ≡ fs ++ g ∷ [] → g ≡ function_of f → ks ≡ [] → checks ≡ ks ++ k ∷ [] → k ≡ check_of f → IsTrue (is_boolean_program functions checks)
 valid_lists f fs functions ks checks g k is empty pushed the_function unchecked listed the_check =
     let one : functions ≡ function_of f ∷ [] = pushed ∙ (ap (λ l. l ++ g ∷ []) empty ∙ ap (λ x. x ∷ []) the_function) in
     let other : checks ≡ check_of f ∷ [] = listed ∙ (ap (λ l. l ++ k ∷ []) unchecked ∙ ap (λ x. x ∷ []) the_check) in
-    ap (λ l. is_valid l checks) one ∙ (ap (is_valid (function_of f ∷ [])) other ∙ valid f is)
+    ap (λ l. is_boolean_program l checks) one ∙ (ap (is_boolean_program (function_of f ∷ [])) other ∙ valid f is)
+
+-- a program that was made of such lists is Boolean
+pub boolean_of : {E : Type 0} (r : Result Program E) (functions : List Function) (checks : List Check) → IfOk r (λ p. p.functions ≡ functions) → IfOk r (λ p. p.checks ≡ checks) → IsTrue (is_boolean_program functions checks)
+    → IfOk r (λ p. IsTrue (is_boolean_program p.functions p.checks))
+boolean_of (Ok p) functions checks a b is = ap (λ l. is_boolean_program l p.checks) a ∙ (ap (is_boolean_program functions) b ∙ is)
+boolean_of (Err e) functions checks a b is = tt
 
 abbrev pub made : Text → Place → List Param → Expr → List Expr → Expr → Expr → Function
 made name place params pre measure body claim = record {

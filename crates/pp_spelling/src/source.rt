@@ -1,8 +1,9 @@
 //! The program that a text stands for.
 
-ghost use Rattle.std.specs.Prelude.{◌≡◌, ◌<◌, ◌≤◌, ◌-◌, ◌^◌, ℕ, List, IfOk, length, map};
+ghost use Rattle.std.specs.Prelude.{◌≡◌, ◌<◌, ◌≤◌, ◌-◌, ◌^◌, ℕ, List, IfOk, IfSome, IsTrue, length, map};
 ghost use Rattle.std.specs.List.{position};
 ghost use Rattle.std.specs.Str.{IsCharBoundary, bytes_eq};
+ghost use Rattle.pp_prog.specs.Boolean.{is_boolean_program};
 ghost use Rattle.pp_spelling.specs.Form.{Form, Spells};
 ghost use Rattle.pp_spelling.specs.Meaning.{
   IsRead,
@@ -144,23 +145,25 @@ fn check(text: &Text, parts: &Parts) -> Check
 /// The program of the parts of the text.
 fn program(alloc: Global, text: &Text, parts: &Parts) -> Result<Program, AllocError>
     requires { IsSpelled text.now parts.now }
-    ensures { IfOk result (λ p. IsRead text.now p) }
+    ensures read { IfOk result (λ p. IsRead text.now p) }
+    ensures boolean { IfOk result (λ p. IsTrue (is_boolean_program p.functions p.checks)) }
 {
     let mut functions = Items::new(alloc);
     functions.push(function(alloc, text, parts)?)?;
     let mut checks = Items::new(alloc);
     checks.push(check(text, parts))?;
     let types = TypeTable::of(Items::new(alloc), Items::new(alloc));
-    Program::of(types, functions, checks)
+    Program::of(alloc, types, functions, checks)
 }
 
 /// The program that the text stands for, where it is the spelling of a form, and none where it is that of no form.
 ///
-/// The program has one function of Boolean parameters, with its postcondition as its one check, and no datatype. The text
-/// is source 1; the function has the place of its name, and the check that of the word `ensuring`. The only error is want
-/// of memory.
+/// The program has one Boolean function, with its postcondition as its one check, and no datatype. The text is source
+/// 1; the function has the place of its name, and the check that of the word `ensuring`. The only error is want of
+/// memory.
 pub fn read(alloc: Global, text: &Text) -> Result<Option<Program>, AllocError>
     ensures spelled { IfOk result (λ o. Reads text.now o) }
+    ensures boolean { IfOk result (λ o. IfSome o (λ p. IsTrue (is_boolean_program p.functions p.checks))) }
 {
     match scan(alloc, text.as_str()) {
         Ok(parts) => {

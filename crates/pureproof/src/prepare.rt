@@ -1,9 +1,10 @@
 //! What is due: the report on the source, or why there is none.
 
-ghost use Rattle.std.specs.Prelude.{◌≡◌, ◌<◌, ◌≤◌, IfOk, IsErrOf, List, None, Some, length, slice_get, string_bytes, ℕ};
+ghost use Rattle.std.specs.Prelude.{◌≡◌, ◌<◌, ◌≤◌, IfOk, IsErrOf, IsTrue, List, None, Some, length, slice_get, string_bytes, ℕ};
 ghost use Rattle.std.specs.Str.{IsUtf8};
 ghost use Rattle.pp_text.specs.Limits.{most_bytes};
 ghost use Rattle.pp_flat.specs.Verdicts.{arity};
+ghost use Rattle.pp_prog.specs.Boolean.{is_boolean_program};
 ghost use Rattle.pp_prog.specs.declared.expr.Function.{Function};
 ghost use Rattle.pureproof.specs.Causes.{Fetched};
 ghost use Rattle.pureproof.specs.Dues.{Arises, IsReportOn, Judged, told};
@@ -106,6 +107,7 @@ fn verify(alloc: Global, text: &Text) -> Result<Due, NoMemory>
 
 // The report on the one function of the program.
 fn report(alloc: Global, program: &Program) -> Result<Due, NoMemory>
+    requires boolean { IsTrue (is_boolean_program program.now.functions program.now.checks) }
     requires one { length program.now.functions ≡ 1 }
     requires params { arity (slice_get program.now.functions 0) ≤ 10 }
     ensures { IfOk result (λ due. IsReportOn program.now.types.ctors program.now.functions program.now.checks (due_seen due)) }

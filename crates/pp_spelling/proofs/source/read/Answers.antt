@@ -9,9 +9,11 @@ program-requires c = is_spelled c.args.text.now c.in-Ok.parts (ap parts_of (sym 
 pub returns-in-Ok : goal.returns-in-Ok
 returns-in-Ok c = record {
   spelled = no_form c.args.text.now c.in-Ok.parts (ap parts_of (sym c.as_str.ensures.same) ∙ c.in-Ok.ensures) (sym c.is_form.ensures ∙ c.if-is_form.false);
+  boolean = tt;
 }
 
 pub returns-in-Err-Other : goal.returns-in-Err-Other
 returns-in-Err-Other c = record {
   spelled = no_parts c.args.text.now (ap parts_of (sym c.as_str.ensures.same) ∙ rw c.in-Err-Other.field-0-is at c.in-Err-Other.ensures);
+  boolean = tt;
 }

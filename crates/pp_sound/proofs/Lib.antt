@@ -1,0 +1,15 @@
+pub mod Env
+pub mod Words
+pub mod Patterns
+pub mod Parts
+pub mod Sites
+pub mod Sorting
+pub mod Operators
+pub mod Fields
+pub mod Cases
+pub mod Exprs
+pub mod Listed
+pub mod Calls
+pub mod Runs
+pub mod Laws
+pub mod Answered

@@ -1,0 +1,11 @@
+// The laws are contracts, and the calls do nothing.
+
+use super::*;
+
+#[test]
+fn laws_are_called() {
+    deep_by_fuel_alone();
+    can_answer_sorted();
+    keep_sorts();
+    fail_listed_checks();
+}
