@@ -1,0 +1,30 @@
+use Rattle.std.proofs.Common.{arith}
+use Rattle.pp_bits.proofs.Growing.{Digits_none, Digits_push, Grows_none}
+use Rattle.pp_bits.proofs.Choices.{constant_none, constant_turn, constant_value}
+use Rattle.pp_bits.proofs.choice.constant.Goals as goal
+
+pub loop-place-init : goal.loop-place-init
+loop-place-init c = record {
+  digits = Digits_none _ _ c.no_digits-digits.ensures.items;
+  value = λ s gives. constant_none s _ _ c.no_digits-digits.ensures.items;
+}
+
+pub loop-place-preserved : goal.loop-place-preserved
+loop-place-preserved c =
+    let now = c.loop-place.invariant in
+    let push = c.in_ok-push.ensures.items in
+    let known = c.known-digit.ensures in
+    record {
+      digits = Digits_push _ _ _ _ _ _ _ now.digits (Grows_none _) (known.of _ c.truth-truth.ensures.of) push;
+      value = λ s gives. constant_turn s _ _ _ _ _ _ now.digits.len push (known.value s (c.truth-truth.ensures.value s gives)) (now.value s gives);
+    }
+
+pub returns-clause-value : goal.returns-clause-value
+returns-clause-value c = λ s gives.
+    constant_value s _ _ _ _ _ (omega arith) c.loop-place.invariant.digits.len (c.loop-place.invariant.value s gives)
+
+pub returns-clause-len : goal.returns-clause-len
+returns-clause-len c = omega (arith, c.loop-place.invariant.digits.len)
+
+pub returns-clause-of : goal.returns-clause-of
+returns-clause-of c = c.loop-place.invariant.digits.of

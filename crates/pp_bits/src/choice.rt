@@ -1,0 +1,89 @@
+ghost use Rattle.std.specs.Prelude.{◌≡◌, ℕ, Bool, true, ◌+◌, ◌-◌, ◌*◌, ◌%◌, ◌^◌, ◌≤◌, ◌==◌, ◌&&◌, not, if◌then◌else◌, All, length, List, [], IfOk};
+ghost use Rattle.pp_clause.specs.Literal.{lit_value};
+ghost use Rattle.pp_gate.specs.declared.gate.Gate.{Gate};
+ghost use Rattle.pp_gate.specs.Circuit.{IsOf, IsCircuit, Gives};
+ghost use Rattle.pp_gate.specs.Gate.{xor_of};
+ghost use Rattle.pp_gate.specs.Growth.{Grows, NoNewInput};
+ghost use Rattle.pp_bits.specs.Number.{nat_of};
+
+use crate::NoMemory;
+use pp_clause::Lit;
+use pp_gate::Circuit;
+
+/// A list without literals, in the circuit's memory.
+pub(crate) fn no_digits(circuit: &Circuit) -> Vec<Lit>
+    ensures items { result.items ≡ [] }
+    ensures circuit { IsCircuit circuit.now }
+{
+    let _gates = circuit.gates();
+    Vec::new(circuit.allocator())
+}
+
+/// The literal that has this value, where `truth` is true.
+fn known(truth: Lit, value: bool) -> Lit
+    ensures of { (gs : List Gate) → IsOf gs truth → IsOf gs result }
+    ensures value { (s : ℕ → Bool) → lit_value s truth ≡ true → lit_value s result ≡ value }
+{
+    if value { truth } else { truth.negated() }
+}
+
+/// The lowest digits of a number, as many as `width`. It adds no gate.
+pub fn constant(circuit: &Circuit, value: u64, width: usize) -> Result<Vec<Lit>, NoMemory>
+    ensures len { IfOk result (λ r. length r.items ≡ width) }
+    ensures of { IfOk result (λ r. All (IsOf circuit.now) r.items) }
+    ensures value { IfOk result (λ r. (s : ℕ → Bool) → Gives s circuit.now → nat_of s r.items ≡ value % 2 ^ width) }
+    ensures circuit { IsCircuit circuit.now }
+{
+    let truth = circuit.truth();
+    let mut digits = no_digits(circuit);
+    let mut rest = value;
+    for _place in 0..width {
+        let digit = known(truth, rest % 2 == 1);
+        digits.push(digit)?;
+        rest /= 2;
+    }
+    Ok(digits)
+}
+
+/// Each digit negated. It adds no gate.
+pub fn invert(circuit: &Circuit, a: &[Lit]) -> Result<Vec<Lit>, NoMemory>
+    requires { All (IsOf circuit.now) a.now }
+    ensures len { IfOk result (λ r. length r.items ≡ length a.now) }
+    ensures of { IfOk result (λ r. All (IsOf circuit.now) r.items) }
+    ensures value { IfOk result (λ r. (s : ℕ → Bool) → nat_of s r.items ≡ 2 ^ length a.now - 1 - nat_of s a.now) }
+    ensures circuit { IsCircuit circuit.now }
+{
+    let mut digits = no_digits(circuit);
+    for i in 0..a.len() {
+        let digit = a[i].negated();
+        digits.push(digit)?;
+    }
+    Ok(digits)
+}
+
+/// `a` where the choice is true, and else `b`.
+pub fn choose(
+    circuit: &mut Circuit,
+    choice: Lit,
+    a: &[Lit],
+    b: &[Lit],
+) -> Result<Vec<Lit>, NoMemory>
+    requires same { length a.now ≡ length b.now }
+    requires choice { IsOf circuit.old choice }
+    requires left { All (IsOf circuit.old) a.now }
+    requires right { All (IsOf circuit.old) b.now }
+    requires room { length circuit.old + length a.now ≤ 2 ^ 30 }
+    ensures grows { Grows circuit.old circuit.new (length a.now) }
+    ensures inputs { NoNewInput circuit.old circuit.new }
+    ensures len { IfOk result (λ r. length r.items ≡ length a.now) }
+    ensures of { IfOk result (λ r. All (IsOf circuit.new) r.items) }
+    ensures value { IfOk result (λ r. (s : ℕ → Bool) → Gives s circuit.new → nat_of s r.items ≡ (if lit_value s choice then nat_of s a.now else nat_of s b.now)) }
+    ensures circuit { IsCircuit circuit.new }
+{
+    let mut digits = no_digits(circuit);
+    for i in 0..a.len() {
+        let digit = circuit.mux(choice, a[i], b[i])?;
+        digits.push(digit)?;
+    }
+    Ok(digits)
+}

@@ -1,0 +1,103 @@
+ghost use Rattle.std.specs.Prelude.{◌≡◌, ℕ, Bool, ◌+◌, ◌-◌, ◌*◌, ◌^◌, ◌<◌, ◌≤◌, ◌==◌, ◌&&◌, not, if◌then◌else◌, nat_lt, All, length, IfOk};
+ghost use Rattle.std.specs.Int.RustNames.{int_lt};
+ghost use Rattle.pp_clause.specs.Literal.{lit_value};
+ghost use Rattle.pp_gate.specs.Circuit.{IsOf, IsCircuit, Gives};
+ghost use Rattle.pp_gate.specs.Gate.{xor_of};
+ghost use Rattle.pp_gate.specs.Growth.{Grows, NoNewInput};
+ghost use Rattle.pp_bits.specs.Number.{nat_of, signed_of};
+
+use crate::NoMemory;
+use pp_clause::Lit;
+use pp_gate::Circuit;
+
+/// Whether `both` is true, and `a` and `b` are of one value.
+fn equal_so_far(circuit: &mut Circuit, both: Lit, a: Lit, b: Lit) -> Result<Lit, NoMemory>
+    requires both { IsOf circuit.old both }
+    requires left { IsOf circuit.old a }
+    requires right { IsOf circuit.old b }
+    requires room { length circuit.old + 2 ≤ 2 ^ 30 }
+    ensures grows { Grows circuit.old circuit.new 2 }
+    ensures inputs { NoNewInput circuit.old circuit.new }
+    ensures of { IfOk result (λ r. IsOf circuit.new r) }
+    ensures value { IfOk result (λ r. (s : ℕ → Bool) → Gives s circuit.new → lit_value s r ≡ (lit_value s both && not (xor_of (lit_value s a) (lit_value s b)))) }
+    ensures circuit { IsCircuit circuit.new }
+{
+    let differ = circuit.xor(a, b)?;
+    let equal = circuit.and(both, differ.negated())?;
+    Ok(equal)
+}
+
+/// Whether the two are equal.
+pub fn equal(circuit: &mut Circuit, a: &[Lit], b: &[Lit]) -> Result<Lit, NoMemory>
+    requires same { length a.now ≡ length b.now }
+    requires left { All (IsOf circuit.old) a.now }
+    requires right { All (IsOf circuit.old) b.now }
+    requires room { length circuit.old + 2 * length a.now ≤ 2 ^ 30 }
+    ensures grows { Grows circuit.old circuit.new (2 * length a.now) }
+    ensures inputs { NoNewInput circuit.old circuit.new }
+    ensures of { IfOk result (λ r. IsOf circuit.new r) }
+    ensures value { IfOk result (λ r. (s : ℕ → Bool) → Gives s circuit.new → lit_value s r ≡ (nat_of s a.now == nat_of s b.now)) }
+    ensures circuit { IsCircuit circuit.new }
+{
+    let mut equal = circuit.truth();
+    for i in 0..a.len() {
+        equal = equal_so_far(circuit, equal, a[i], b[i])?;
+    }
+    Ok(equal)
+}
+
+/// The digit of `b` where the two differ, and else `lower`: from the order of the lower digits that of one more.
+fn less_so_far(circuit: &mut Circuit, lower: Lit, a: Lit, b: Lit) -> Result<Lit, NoMemory>
+    requires lower { IsOf circuit.old lower }
+    requires left { IsOf circuit.old a }
+    requires right { IsOf circuit.old b }
+    requires room { length circuit.old + 2 ≤ 2 ^ 30 }
+    ensures grows { Grows circuit.old circuit.new 2 }
+    ensures inputs { NoNewInput circuit.old circuit.new }
+    ensures of { IfOk result (λ r. IsOf circuit.new r) }
+    ensures value { IfOk result (λ r. (s : ℕ → Bool) → Gives s circuit.new → lit_value s r ≡ (if xor_of (lit_value s a) (lit_value s b) then lit_value s b else lit_value s lower)) }
+    ensures circuit { IsCircuit circuit.new }
+{
+    let differ = circuit.xor(a, b)?;
+    let less = circuit.mux(differ, b, lower)?;
+    Ok(less)
+}
+
+/// Whether `a` is less than `b`, as natural numbers.
+pub fn less(circuit: &mut Circuit, a: &[Lit], b: &[Lit]) -> Result<Lit, NoMemory>
+    requires same { length a.now ≡ length b.now }
+    requires left { All (IsOf circuit.old) a.now }
+    requires right { All (IsOf circuit.old) b.now }
+    requires room { length circuit.old + 2 * length a.now ≤ 2 ^ 30 }
+    ensures grows { Grows circuit.old circuit.new (2 * length a.now) }
+    ensures inputs { NoNewInput circuit.old circuit.new }
+    ensures of { IfOk result (λ r. IsOf circuit.new r) }
+    ensures value { IfOk result (λ r. (s : ℕ → Bool) → Gives s circuit.new → lit_value s r ≡ nat_lt (nat_of s a.now) (nat_of s b.now)) }
+    ensures circuit { IsCircuit circuit.new }
+{
+    let mut less = circuit.truth().negated();
+    for i in 0..a.len() {
+        less = less_so_far(circuit, less, a[i], b[i])?;
+    }
+    Ok(less)
+}
+
+/// Whether `a` is less than `b`, as integers in two's complement of at least one digit.
+pub fn less_signed(circuit: &mut Circuit, a: &[Lit], b: &[Lit]) -> Result<Lit, NoMemory>
+    requires some { 0 < length a.now }
+    requires same { length a.now ≡ length b.now }
+    requires left { All (IsOf circuit.old) a.now }
+    requires right { All (IsOf circuit.old) b.now }
+    requires room { length circuit.old + 2 * length a.now ≤ 2 ^ 30 }
+    ensures grows { Grows circuit.old circuit.new (2 * length a.now) }
+    ensures inputs { NoNewInput circuit.old circuit.new }
+    ensures of { IfOk result (λ r. IsOf circuit.new r) }
+    ensures value { IfOk result (λ r. (s : ℕ → Bool) → Gives s circuit.new → lit_value s r ≡ int_lt (signed_of (length a.now) (nat_of s a.now)) (signed_of (length a.now) (nat_of s b.now))) }
+    ensures circuit { IsCircuit circuit.new }
+{
+    let top = a.len() - 1;
+    let lower = less(circuit, &a[..top], &b[..top])?;
+    // the sign's digit counts the other way round
+    let less = less_so_far(circuit, lower, b[top], a[top])?;
+    Ok(less)
+}

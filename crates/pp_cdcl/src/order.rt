@@ -1,0 +1,203 @@
+//! In which order variables are decided. The solver's answers are right in any order; this one is a guess at a good one:
+//! the variables that the last conflicts met come first, each with the sign that it had last. Of the heap only that its
+//! places are in range is proved.
+ghost use Rattle.std.specs.Prelude.{ℕ, ◌≡◌, ◌<◌, length, All, IfOk, OnOk};
+
+use crate::NoMemory;
+use pp_clause::Lit;
+use pp_trail::Step;
+use std::alloc::Global;
+use std::marker::Model;
+
+/// What a variable gains when a conflict meets it, at the start.
+const FIRST_GAIN: u64 = 1 << 20;
+
+/// Above this all activities are made smaller, each by the same shift.
+const GREATEST_ACTIVITY: u64 = 1 << 60;
+
+/// By how many bits they are made smaller then.
+const SHIFT: u32 = 40;
+
+/// Variables with the most active one on top, and the sign that each had last.
+#[derive(Drop)]
+pub struct Order {
+    // by variable
+    activity: Vec<u64>,
+    // by variable: its literal that is decided
+    preferred: Vec<Lit>,
+    // by variable: its place in the heap
+    places: Vec<Option<usize>>,
+    // no variable is less active than those at places 2 i + 1 and 2 i + 2 below its place i
+    heap: Vec<usize>,
+    gain: u64,
+}
+
+impl Model for Order {
+    ghost use Rattle.std.specs.Prelude.{ℕ, vec_len};
+    ghost use Rattle.pp_cdcl.specs.Order.{IsSized};
+
+    ghost Value = { ℕ };
+
+    ghost view = { λ o. vec_len o.activity };
+
+    ghost invariant = { λ o. IsSized (vec_len o.activity) (vec_len o.preferred) (vec_len o.places) o.heap.items };
+}
+
+impl Order {
+    /// All variables up to this one, each at first false.
+    pub fn new(alloc: Global, vars: u32) -> Result<Order, NoMemory> {
+        let count = vars as usize + 1;
+        let activity = vec![in alloc; 0; count]?;
+        let mut preferred = vec![in alloc; Lit::default(); count]?;
+        let places = vec![in alloc; None; count]?;
+        let heap = Vec::with_capacity(alloc, count)?;
+        for var in 1..count {
+            if var <= 1 << 30 {
+                preferred[var] = Lit::new(var as u32, false);
+            }
+        }
+        let mut order = Order {
+            activity,
+            preferred,
+            places,
+            heap,
+            gain: FIRST_GAIN,
+        };
+        for var in 1..count {
+            order.queue(var)?;
+        }
+        Ok(order)
+    }
+
+    /// How many variables wait to be decided.
+    pub fn len(&self) -> usize {
+        self.heap.len()
+    }
+
+    /// Takes the most active variable out, as the literal that is to be decided.
+    pub fn pop(&mut self) -> Option<Lit> {
+        let last = self.heap.pop()?;
+        self.places[last] = None;
+        if self.heap.is_empty() {
+            return Some(self.preferred[last]);
+        }
+        let top = self.heap[0];
+        self.places[top] = None;
+        self.heap[0] = last;
+        self.places[last] = Some(0);
+        sift_down(&mut self.heap, &mut self.places, &self.activity);
+        Some(self.preferred[top])
+    }
+
+    /// Lets the variables of steps wait again, which are taken off the trail.
+    pub fn release(&mut self, steps: &[Step]) -> Result<(), NoMemory> {
+        for step in steps {
+            self.keep(step.lit)?;
+        }
+        Ok(())
+    }
+
+    /// Lets the variable of a literal wait again, with its sign.
+    fn keep(&mut self, lit: Lit) -> Result<(), NoMemory> {
+        let var = lit.var() as usize;
+        if var < self.preferred.len() {
+            self.preferred[var] = lit;
+            self.queue(var)?;
+        }
+        Ok(())
+    }
+
+    /// Makes the variables more active that a conflict met. Later conflicts count more than earlier ones.
+    pub fn meet(&mut self, vars: &[u32]) {
+        for var in vars {
+            self.bump(*var);
+        }
+        self.gain = self.gain.saturating_add(self.gain / 16);
+    }
+
+    /// Makes a variable more active.
+    fn bump(&mut self, var: u32) {
+        let var = var as usize;
+        if var < self.activity.len() {
+            let raised = self.activity[var].saturating_add(self.gain);
+            self.activity[var] = raised;
+            if let Some(place) = self.places[var] {
+                sift_up(&mut self.heap, &mut self.places, &self.activity, place);
+            }
+            if raised > GREATEST_ACTIVITY {
+                self.shrink();
+            }
+        }
+    }
+
+    /// Makes all activities smaller. Those that differ little become the same.
+    fn shrink(&mut self) {
+        for activity in self.activity.iter_mut() {
+            *activity >>= SHIFT;
+        }
+        self.gain = (self.gain >> SHIFT).max(1);
+    }
+
+    /// Puts the variable into the heap, where it isn't there.
+    fn queue(&mut self, var: usize) -> Result<(), NoMemory>
+        requires { var < self.old }
+        ensures { self.new ≡ self.old }
+    {
+        if self.places[var].is_none() {
+            let place = self.heap.len();
+            self.heap.push(var)?;
+            self.places[var] = Some(place);
+            sift_up(&mut self.heap, &mut self.places, &self.activity, place);
+        }
+        Ok(())
+    }
+}
+
+/// Moves the variable at this place up, as long as it is more active than the one above it.
+fn sift_up(heap: &mut [usize], places: &mut [Option<usize>], activity: &[u64], place: usize)
+    requires places { length places.old ≡ length activity.now }
+    requires heap { All (λ x. x < length activity.now) heap.old }
+    ensures { All (λ x. x < length activity.now) heap.new }
+{
+    let mut at = place;
+    while 0 < at && at < heap.len() {
+        let above = (at - 1) / 2;
+        if activity[heap[at]] <= activity[heap[above]] {
+            return;
+        }
+        exchange(heap, places, at, above);
+        at = above;
+    }
+}
+
+/// Moves the variable on top down, as long as it is less active than one below it.
+fn sift_down(heap: &mut [usize], places: &mut [Option<usize>], activity: &[u64])
+    requires places { length places.old ≡ length activity.now }
+    requires heap { All (λ x. x < length activity.now) heap.old }
+    ensures { All (λ x. x < length activity.now) heap.new }
+{
+    let mut at = 0;
+    while at < heap.len() / 2 {
+        let mut below = 2 * at + 1;
+        if below + 1 < heap.len() && activity[heap[below]] < activity[heap[below + 1]] {
+            below += 1;
+        }
+        if activity[heap[below]] <= activity[heap[at]] {
+            return;
+        }
+        exchange(heap, places, at, below);
+        at = below;
+    }
+}
+
+/// Exchanges the variables at two places of the heap.
+fn exchange(heap: &mut [usize], places: &mut [Option<usize>], one: usize, other: usize)
+    requires one { one < length heap.old }
+    requires other { other < length heap.old }
+    requires heap { All (λ x. x < length places.old) heap.old }
+    ensures { All (λ x. x < length places.old) heap.new }
+{
+    heap.swap(one, other);
+    places[heap[one]] = Some(one);
+    places[heap[other]] = Some(other);
+}

@@ -1,0 +1,9 @@
+pub mod Places
+pub mod Chains
+pub mod Turning
+pub mod Reasons
+pub mod Walks
+pub mod Showing
+pub mod Points
+pub mod Beginning
+pub mod Deciding

@@ -1,0 +1,3 @@
+pub mod Marks
+pub mod Reached
+pub mod Conflict

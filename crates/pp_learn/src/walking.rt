@@ -1,0 +1,138 @@
+//! Walks down the trail, from its end.
+ghost use Rattle.std.specs.Prelude.{◌≡◌, ◌+◌, ◌<◌, ◌≤◌, length, OnOk, IfOk, IfSome, IfNone};
+ghost use Rattle.pp_trail.specs.Trail.{IsFalse, lits};
+ghost use Rattle.pp_learn.specs.Marks.{AreMet, MarkedAt, IsClear, IsMarkedIn, IsPoint, KeepsFrom, FitAll};
+ghost use Rattle.pp_learn.specs.Reached.{IsTrailFor, Reached, AreForced, AreDecisions};
+
+use crate::NoMemory;
+use crate::marks::last_marked;
+use crate::resolving::{minimize, resolve};
+use pp_clause::Clauses;
+use pp_trail::Step;
+
+/// Resolves until one step alone of those from `start` on is marked, and answers its place: the first unique
+/// implication point.
+pub fn first_point(
+    clauses: &Clauses,
+    trail: &[Step],
+    start: usize,
+    marks: &mut [bool],
+    met: &mut Vec<u32>,
+    chain: &mut Vec<u32>,
+) -> Result<usize, NoMemory>
+    requires trail { IsTrailFor clauses.now trail.now marks.old }
+    requires forced { AreForced trail.now start }
+    requires some { ¬ IsClear trail.now marks.old start (length trail.now) }
+    requires reached { Reached clauses.now trail.now marks.old chain.old.items }
+    requires met { AreMet (length marks.old) met.old.items }
+    ensures reached { OnOk result (Reached clauses.now trail.now marks.new chain.new.items) }
+    ensures point { IfOk result (IsPoint trail.now marks.new start) }
+    ensures met { OnOk result (AreMet (length marks.old) met.new.items) }
+{
+    let mut place = last_marked(trail, marks, start, trail.len()).unwrap();
+    let mut other = place;
+    while let Some(below) = marked_before(trail, marks, start, other, place) {
+        let reason = trail[place].reason.unwrap();
+        resolve(clauses, trail, place, reason, marks, met, chain)?;
+        place = last_marked(trail, marks, below, place).unwrap();
+        other = below;
+    }
+    Ok(place)
+}
+
+/// A marked step before this place, among those from `start` on. The step at `other` is marked.
+fn marked_before(
+    trail: &[Step],
+    marks: &[bool],
+    start: usize,
+    other: usize,
+    place: usize,
+) -> Option<usize>
+    requires fits { FitAll (length marks.now) trail.now }
+    requires end { place ≤ length trail.now }
+    requires low { start ≤ other }
+    requires marked { MarkedAt trail.now marks.now other }
+    ensures some { IfSome result (IsMarkedIn trail.now marks.now start place) }
+    ensures none { IfNone result (IsClear trail.now marks.now start place) }
+{
+    if other < place {
+        return Some(other);
+    }
+    last_marked(trail, marks, start, place)
+}
+
+/// Takes away, of the literals before this place, those that follow from the others by one reason, and those that no
+/// decision led to.
+pub fn minimize_before(
+    clauses: &Clauses,
+    trail: &[Step],
+    end: usize,
+    marks: &mut [bool],
+    met: &mut Vec<u32>,
+    chain: &mut Vec<u32>,
+) -> Result<(), NoMemory>
+    requires trail { IsTrailFor clauses.now trail.now marks.old }
+    requires end { end ≤ length trail.now }
+    requires reached { Reached clauses.now trail.now marks.old chain.old.items }
+    requires met { AreMet (length marks.old) met.old.items }
+    ensures reached { OnOk result (Reached clauses.now trail.now marks.new chain.new.items) }
+    ensures keeps { OnOk result (KeepsFrom trail.now end marks.old marks.new) }
+    ensures met { OnOk result (AreMet (length marks.old) met.new.items) }
+{
+    let ground = trail
+        .iter()
+        .take_while(|step| step.reason.is_some())
+        .count();
+    for place in (0..end).rev() {
+        minimize(clauses, trail, place, ground, marks, met, chain)?;
+    }
+    Ok(())
+}
+
+/// Resolves until decisions alone are marked.
+pub fn to_decisions(
+    clauses: &Clauses,
+    trail: &[Step],
+    marks: &mut [bool],
+    met: &mut Vec<u32>,
+    chain: &mut Vec<u32>,
+) -> Result<(), NoMemory>
+    requires trail { IsTrailFor clauses.now trail.now marks.old }
+    requires reached { Reached clauses.now trail.now marks.old chain.old.items }
+    requires met { AreMet (length marks.old) met.old.items }
+    ensures reached { OnOk result (Reached clauses.now trail.now marks.new chain.new.items) }
+    ensures decided { OnOk result (AreDecisions trail.now marks.new 0) }
+{
+    for place in (0..trail.len()).rev() {
+        resolve_marked(clauses, trail, place, marks, met, chain)?;
+    }
+    Ok(())
+}
+
+/// Resolves with the reason of the step at this place, where it is marked and has one.
+fn resolve_marked(
+    clauses: &Clauses,
+    trail: &[Step],
+    place: usize,
+    marks: &mut [bool],
+    met: &mut Vec<u32>,
+    chain: &mut Vec<u32>,
+) -> Result<(), NoMemory>
+    requires trail { IsTrailFor clauses.now trail.now marks.old }
+    requires within { place < length trail.now }
+    requires reached { Reached clauses.now trail.now marks.old chain.old.items }
+    requires met { AreMet (length marks.old) met.old.items }
+    requires decided { AreDecisions trail.now marks.old (place + 1) }
+    ensures reached { OnOk result (Reached clauses.now trail.now marks.new chain.new.items) }
+    ensures decided { OnOk result (AreDecisions trail.now marks.new place) }
+    ensures met { OnOk result (AreMet (length marks.old) met.new.items) }
+{
+    let step = trail[place];
+    if !marks[step.lit.var() as usize] {
+        return Ok(());
+    }
+    let Some(reason) = step.reason else {
+        return Ok(());
+    };
+    resolve(clauses, trail, place, reason, marks, met, chain)
+}

@@ -1,0 +1,13 @@
+use Rattle.std.proofs.Common.{ap, ◌∙◌}
+use Rattle.pp_bits.specs.Number.{nat_of}
+use Rattle.pp_bits.proofs.Growing as growing
+use Rattle.pp_products.proofs.Products.{none_is, row_turn}
+use Rattle.pp_products.proofs.product.row.Goals as goal
+
+pub returns-clause-value : goal.returns-clause-value
+returns-clause-value c = λ s gives.
+    let before = growing.Gives_old _ _ _ c.in_ok-high.ensures.grows s gives in
+    let first = growing.Gives_old _ _ _ c.in_ok-masked.ensures.grows s before in
+    let zero = ap (nat_of s) c.deref.ensures.value ∙ none_is _ _ (c.in_ok-zeros.ensures.value s first) in
+    row_turn s _ _ _ _ _ _ _ _ _ _ c.requires.same zero (c.in_ok-masked.ensures.value s before) c.in_ok-masked.ensures.len c.deref-2.ensures.value c.index.ensures
+    c.in_ok-high.ensures.len (c.in_ok-high.ensures.value s gives) c.deref-3.ensures.value c.in_ok-all.ensures

@@ -1,0 +1,5 @@
+pub mod Powers
+pub mod Moved
+pub mod Places
+pub mod Stages
+pub mod Signs

@@ -1,0 +1,98 @@
+-- The numbers of parts of lists of literals.
+use Rattle.std.proofs.Common.{◌≡◌, ℕ, zero, suc, ◌+◌, ◌-◌, ◌*◌, ◌/◌, ◌%◌, ◌^◌, ◌<◌, ◌≤◌, ⊎_elim, min, Bool, true, false, List, [], ◌∷◌, ◌++◌, length, take, drop, replicate, refl, sym, ap, ◌∙◌, subst, arith}
+use Rattle.std.proofs.Math.Nat.{mul-add, mul_comm, mul_assoc, pow-succ'}
+use Rattle.std.proofs.lemmas.Nat.{div_below, pow-add, pow_pos, div-mul-add, mod-mul-add}
+use Rattle.std.proofs.lemmas.Bool.{cases_lt}
+use Rattle.std.proofs.lemmas.List.{take-append-drop, length-drop, length-take-le, length-replicate}
+use Rattle.pp_clause.specs.Literal.{Literal, lit_value}
+use Rattle.pp_bits.specs.Number.{bit, lit_bit, nat_of}
+use Rattle.pp_bits.proofs.Numbers.{nat_of_below}
+use Rattle.pp_shifts.specs.Shift.{moved_right}
+use Rattle.pp_shifts.proofs.Powers.{product_low, product_none}
+use Rattle.pp_shifts.proofs.Moved.{complement_moved, moved_right_all}
+
+pub nat_of_append : (s : ℕ → Bool) (xs ys : List Literal) → nat_of s (xs ++ ys) ≡ nat_of s xs + 2 ^ length xs * nat_of s ys
+unfolding nat_of
+nat_of_append s [] ys = omega arith
+nat_of_append s (x ∷ xs) ys =
+    let e = nat_of_append s xs ys in
+    let t : 2 * (nat_of s xs + 2 ^ length xs * nat_of s ys) ≡ 2 * nat_of s xs + (2 * 2 ^ length xs) * nat_of s ys =
+    mul-add 2 (nat_of s xs) (2 ^ length xs * nat_of s ys) ∙ ap (λ k. 2 * nat_of s xs + k) (sym (mul_assoc 2 (2 ^ length xs) (nat_of s ys))) in
+    rw (e, pow-succ' 2 (length xs)) (omega (arith, t))
+
+pub nat_of_zeros : (s : ℕ → Bool) (n : ℕ) (l : Literal) → lit_value s l ≡ false → nat_of s (replicate n l) ≡ 0
+unfolding nat_of
+nat_of_zeros s zero l h = refl
+nat_of_zeros s (suc n) l h = let e : lit_bit s l ≡ 0 = ap bit h in omega (arith, e, nat_of_zeros s n l h)
+
+pub nat_of_ones : (s : ℕ → Bool) (n : ℕ) (l : Literal) → lit_value s l ≡ true → nat_of s (replicate n l) + 1 ≡ 2 ^ n
+unfolding nat_of
+nat_of_ones s zero l h = refl
+nat_of_ones s (suc n) l h = let e : lit_bit s l ≡ 1 = ap bit h in rw (pow-succ' 2 n) (omega (arith, e, nat_of_ones s n l h))
+
+split : (s : ℕ → Bool) (k : ℕ) (ls : List Literal) → k ≤ length ls → nat_of s ls ≡ nat_of s (drop k ls) * 2 ^ k + nat_of s (take k ls)
+split s k ls h =
+    let whole : nat_of s ls ≡ nat_of s (take k ls) + 2 ^ length (take k ls) * nat_of s (drop k ls) = ap (nat_of s) (sym (take-append-drop k ls)) ∙ nat_of_append s (take k ls) (drop k ls) in
+    let len : 2 ^ length (take k ls) * nat_of s (drop k ls) ≡ nat_of s (drop k ls) * 2 ^ k = ap (λ j. 2 ^ j * nat_of s (drop k ls)) (length-take-le k ls h) ∙ mul_comm (2 ^ k) (nat_of s (drop k ls)) in
+    omega arith
+
+low_part : (s : ℕ → Bool) (k : ℕ) (ls : List Literal) → k ≤ length ls → nat_of s (take k ls) < 2 ^ k
+low_part s k ls h = subst (λ j. nat_of s (take k ls) < 2 ^ j) (length-take-le k ls h) (nat_of_below s (take k ls))
+
+pub nat_of_take : (s : ℕ → Bool) (k : ℕ) (ls : List Literal) → k ≤ length ls → nat_of s (take k ls) ≡ nat_of s ls % 2 ^ k
+nat_of_take s k ls h =
+    sym (mod-mul-add (nat_of s (drop k ls)) (2 ^ k) (nat_of s (take k ls)) (low_part s k ls h)) ∙ ap (λ v. v % 2 ^ k) (sym (split s k ls h))
+
+pub nat_of_drop : (s : ℕ → Bool) (k : ℕ) (ls : List Literal) → k ≤ length ls → nat_of s (drop k ls) ≡ nat_of s ls / 2 ^ k
+nat_of_drop s k ls h =
+    sym (div-mul-add (nat_of s (drop k ls)) (2 ^ k) (nat_of s (take k ls)) (low_part s k ls h)) ∙ ap (λ v. v / 2 ^ k) (sym (split s k ls h))
+
+-- the literals that remain of a list that is moved to the right, and as many others after them as were dropped
+moved_by : (s : ℕ → Bool) (ls : List Literal) (m : ℕ) (fill : Literal) (b : Bool) → m ≤ length ls → lit_value s fill ≡ b
+    → nat_of s (drop m ls ++ replicate m fill) ≡ moved_right (length ls) b (nat_of s ls) m
+moved_by s ls m fill false le h =
+    let n : ℕ = length (drop m ls) in
+    let all : nat_of s (drop m ls ++ replicate m fill) ≡ nat_of s (drop m ls) + 2 ^ n * nat_of s (replicate m fill) = nat_of_append s (drop m ls) (replicate m fill) in
+    let none : 2 ^ n * nat_of s (replicate m fill) ≡ 0 = ap (λ v. 2 ^ n * v) (nat_of_zeros s m fill h) ∙ omega arith in
+    omega (arith, nat_of_drop s m ls le)
+moved_by s ls m fill true le h =
+    let v = nat_of s ls in
+    let p = 2 ^ (length ls - m) in
+    let q = 2 ^ m in
+    let high = v / q in
+    let places : p * q ≡ 2 ^ length ls = sym (pow-add 2 (length ls - m) m) ∙ ap (λ k. 2 ^ k) (omega arith) in
+    let within : v < p * q = omega (arith, nat_of_below s ls) in
+    let fewer : high < p = div_below v q p (pow_pos m) within in
+    let all : nat_of s (drop m ls ++ replicate m fill) ≡ high + p * nat_of s (replicate m fill) =
+    nat_of_append s (drop m ls) (replicate m fill) ∙ (λ i. nat_of_drop s m ls le i + 2 ^ length-drop m ls i * nat_of s (replicate m fill)) in
+    let ones : p * nat_of s (replicate m fill) + p ≡ p * q = sym (mul-add p (nat_of s (replicate m fill)) 1 ∙ ap (λ x. p * nat_of s (replicate m fill) + x) (omega arith)) ∙ ap (λ x. p * x) (nat_of_ones s m fill h) in
+    let rest : (p * q - 1 - v) / q ≡ p - 1 - high = complement_moved p q v (pow_pos m) within in
+    let same : (2 ^ length ls - 1 - v) / q ≡ p - 1 - high = ap (λ x. (x - 1 - v) / q) (sym places) ∙ rest in
+    omega arith
+
+pub nat_of_moved : (s : ℕ → Bool) (ls : List Literal) (by m : ℕ) (fill : Literal) → m ≡ min by (length ls)
+    → nat_of s (drop m ls ++ replicate m fill) ≡ moved_right (length ls) (lit_value s fill) (nat_of s ls) by
+nat_of_moved s ls by m fill e =
+    moved_by s ls m fill (lit_value s fill) (omega arith) refl
+    ∙ ⊎_elim
+    (λ lt. ap (moved_right (length ls) (lit_value s fill) (nat_of s ls)) (omega arith))
+    (λ ge. moved_right_all (length ls) (lit_value s fill) (nat_of s ls) m by (nat_of_below s ls) (omega arith) ge)
+    (cases_lt by (length ls))
+
+-- the literals that remain of a list that is moved to the left, and as many zeros before them as were dropped
+pub nat_of_raised : (s : ℕ → Bool) (ls : List Literal) (by m : ℕ) (fill : Literal) → lit_value s fill ≡ false → m ≡ min by (length ls)
+    → nat_of s (replicate m fill ++ take (length ls - m) ls) ≡ (nat_of s ls * 2 ^ by) % 2 ^ length ls
+nat_of_raised s ls by m fill h e =
+    let n : ℕ = length ls in
+    let v = nat_of s ls in
+    let whole : n - m + m ≡ n = omega arith in
+    let all : nat_of s (replicate m fill ++ take (n - m) ls) ≡ nat_of s (replicate m fill) + 2 ^ m * nat_of s (take (n - m) ls) =
+    nat_of_append s (replicate m fill) (take (n - m) ls) ∙ ap (λ k. nat_of s (replicate m fill) + 2 ^ k * nat_of s (take (n - m) ls)) (length-replicate m fill) in
+    let high : 2 ^ m * nat_of s (take (n - m) ls) ≡ (v * 2 ^ m) % 2 ^ n =
+    ap (λ k. 2 ^ m * k) (nat_of_take s (n - m) ls (omega arith)) ∙ sym (product_low v (n - m) m) ∙ ap (λ k. (v * 2 ^ m) % 2 ^ k) whole in
+    let zeros : nat_of s (replicate m fill) ≡ 0 = nat_of_zeros s m fill h in
+    let cut : (v * 2 ^ m) % 2 ^ n ≡ (v * 2 ^ by) % 2 ^ n = ⊎_elim
+    (λ lt. ap (λ k. (v * 2 ^ k) % 2 ^ n) (omega arith))
+    (λ ge. product_none v n m (omega arith) ∙ sym (product_none v n by ge))
+    (cases_lt by n) in
+    omega arith

@@ -1,0 +1,4 @@
+pub mod Trail
+pub mod Marks
+pub mod State
+pub mod Pass

@@ -1,0 +1,14 @@
+//! A trail by variable, for look-ups.
+ghost use Rattle.std.specs.Prelude.{◌≡◌, ◌<◌, length, slice_index_or, None};
+ghost use Rattle.pp_trail.specs.Marks.{mark_value};
+
+use pp_clause::Lit;
+
+/// How a variable stands in a trail.
+#[derive(Clone, Copy)]
+pub struct Mark {
+    /// Whether the variable itself stands there, and not its negation.
+    pub positive: bool,
+    /// The place of its step.
+    pub place: u32,
+}

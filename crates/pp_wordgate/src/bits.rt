@@ -1,0 +1,78 @@
+// The operations on each bit.
+
+ghost use Rattle.std.specs.Prelude.{◌≡◌, ℕ, Bool, ◌+◌, ◌^◌, ◌≤◌, All, length, IfOk};
+ghost use Rattle.std.specs.Int.{w32};
+ghost use Rattle.pp_gate.specs.Circuit.{IsOf, IsCircuit, Gives};
+ghost use Rattle.pp_gate.specs.Growth.{Grows, NoNewInput};
+ghost use Rattle.pp_wordgate.specs.Meaning.{word_of};
+ghost use Rattle.pp_word.specs.Word.{word_and, word_or, word_xor, word_not};
+
+use crate::NoMemory;
+use pp_gate::{Circuit, Word};
+
+/// The bits that both have, `&` (JLS 15.22.1): at most 64 gates.
+///
+/// On `NoMemory` the old gates stand, and some new ones may be left.
+pub fn and(circuit: &mut Circuit, a: Word, b: Word) -> Result<Word, NoMemory>
+    requires room { length circuit.old + 64 ≤ 2 ^ 30 }
+    requires left { All (IsOf circuit.old) a }
+    requires right { All (IsOf circuit.old) b }
+    ensures grows { Grows circuit.old circuit.new 64 }
+    ensures inputs { NoNewInput circuit.old circuit.new }
+    ensures of { IfOk result (λ r. All (IsOf circuit.new) r) }
+    ensures value { IfOk result (λ r. (s : ℕ → Bool) → Gives s circuit.new → word_of s r ≡ word_and w32 (word_of s a) (word_of s b)) }
+    ensures circuit { IsCircuit circuit.new }
+{
+    let digits = pp_bits::and(circuit, a.lits(), b.lits())?;
+    Ok(Word::from_lits(&digits))
+}
+
+/// The bits that one or both have, `|` (JLS 15.22.1): at most 64 gates.
+///
+/// On `NoMemory` the old gates stand, and some new ones may be left.
+pub fn or(circuit: &mut Circuit, a: Word, b: Word) -> Result<Word, NoMemory>
+    requires room { length circuit.old + 64 ≤ 2 ^ 30 }
+    requires left { All (IsOf circuit.old) a }
+    requires right { All (IsOf circuit.old) b }
+    ensures grows { Grows circuit.old circuit.new 64 }
+    ensures inputs { NoNewInput circuit.old circuit.new }
+    ensures of { IfOk result (λ r. All (IsOf circuit.new) r) }
+    ensures value { IfOk result (λ r. (s : ℕ → Bool) → Gives s circuit.new → word_of s r ≡ word_or w32 (word_of s a) (word_of s b)) }
+    ensures circuit { IsCircuit circuit.new }
+{
+    let digits = pp_bits::or(circuit, a.lits(), b.lits())?;
+    Ok(Word::from_lits(&digits))
+}
+
+/// The bits that one of the two has and the other has not, `^` (JLS 15.22.1): at most 64 gates.
+///
+/// On `NoMemory` the old gates stand, and some new ones may be left.
+pub fn xor(circuit: &mut Circuit, a: Word, b: Word) -> Result<Word, NoMemory>
+    requires room { length circuit.old + 64 ≤ 2 ^ 30 }
+    requires left { All (IsOf circuit.old) a }
+    requires right { All (IsOf circuit.old) b }
+    ensures grows { Grows circuit.old circuit.new 64 }
+    ensures inputs { NoNewInput circuit.old circuit.new }
+    ensures of { IfOk result (λ r. All (IsOf circuit.new) r) }
+    ensures value { IfOk result (λ r. (s : ℕ → Bool) → Gives s circuit.new → word_of s r ≡ word_xor w32 (word_of s a) (word_of s b)) }
+    ensures circuit { IsCircuit circuit.new }
+{
+    let digits = pp_bits::xor(circuit, a.lits(), b.lits())?;
+    Ok(Word::from_lits(&digits))
+}
+
+/// The bits that `a` has not, `~` (JLS 15.15.5): at most 64 gates.
+///
+/// On `NoMemory` the old gates stand, and some new ones may be left.
+pub fn not(circuit: &mut Circuit, a: Word) -> Result<Word, NoMemory>
+    requires room { length circuit.old + 64 ≤ 2 ^ 30 }
+    requires of { All (IsOf circuit.old) a }
+    ensures grows { Grows circuit.old circuit.new 64 }
+    ensures inputs { NoNewInput circuit.old circuit.new }
+    ensures of { IfOk result (λ r. All (IsOf circuit.new) r) }
+    ensures value { IfOk result (λ r. (s : ℕ → Bool) → Gives s circuit.new → word_of s r ≡ word_not w32 (word_of s a)) }
+    ensures circuit { IsCircuit circuit.new }
+{
+    let digits = pp_bits::invert(circuit, a.lits())?;
+    Ok(Word::from_lits(&digits))
+}

@@ -1,0 +1,5 @@
+pub mod Readings
+pub mod Sums
+pub mod Moves
+pub mod Digits
+pub mod Quotients
