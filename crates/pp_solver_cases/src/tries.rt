@@ -1,0 +1,127 @@
+//! What each task answers.
+
+use crate::case::{Case, MOST, text};
+use crate::lists;
+use crate::three::decided_lists;
+use anyhow::{Result, bail, ensure};
+use pp_cdcl::{Answer, solve};
+use pp_clause::{Clause, Lit, Log};
+use pp_refute::{LogFault, accepts, log_text, read_log};
+use std::alloc::Global;
+
+/// The answer to the task of a line.
+pub fn answer(alloc: Global, line: &str) -> Result<String> {
+    let (head, field) = line.split_once('|').unwrap_or((line, ""));
+    let (task, rest) = head.split_once(' ').unwrap_or((head, ""));
+    match task {
+        "log" => tried_text(alloc, text(alloc, field)?.as_str()),
+        "accepts" => checked(alloc, rest, text(alloc, field)?.as_str()),
+        "solve" => kind(alloc, &Case::read(alloc, rest)?),
+        "model" => model(alloc, &Case::read(alloc, rest)?),
+        "last" => last(alloc, &Case::read(alloc, rest)?),
+        "clause" => lists::clause(alloc, rest),
+        "chain" => lists::chain(alloc, rest),
+        "holds" => lists::holds(alloc, rest),
+        "three" => Ok(format!(in alloc;
+            "{} right",
+            decided_lists(alloc, &Case::read(alloc, rest)?)?
+        )?),
+        _ => bail!("no such task"),
+    }
+}
+
+/// Whether the text is that of a log that is written the same, or the first line that is wrong.
+fn tried_text(alloc: Global, text: &str) -> Result<String> {
+    match read_log(alloc, text.as_bytes()) {
+        Ok(log) if log_text(alloc, &log)?.as_slice() == text.as_bytes() => word(alloc, "log"),
+        Ok(_) => word(alloc, "written otherwise"),
+        Err(LogFault::Syntax(line)) => Ok(format!(in alloc; "line {line}")?),
+        Err(fault) => Err(fault.into()),
+    }
+}
+
+/// Whether the log of this text refutes the clauses under the assumptions.
+fn checked(alloc: Global, problem: &str, text: &str) -> Result<String> {
+    let case = Case::read(alloc, problem)?;
+    let log = read_log(alloc, text.as_bytes())?;
+    let yes = accepts(alloc, &case.clauses, &case.assumptions, &log)?;
+    Ok(format!(in alloc; "{yes}")?)
+}
+
+/// What the solver answers, where no assumption is the negation of another.
+fn solved(alloc: Global, case: &Case) -> Result<Answer> {
+    let lemmas = case.lemmas;
+    ensure!(
+        1 <= lemmas && lemmas <= MOST && case.clauses.len() as u64 <= MOST,
+        "no such number of lemmas"
+    );
+    match Clause::of(alloc, &case.assumptions)? {
+        Some(_) => Ok(solve(alloc, &case.clauses, &case.assumptions, lemmas)?),
+        None => bail!("an assumption is the negation of another"),
+    }
+}
+
+/// The kind of the answer, and `wrong` where it isn't what its kind promises.
+pub fn kind(alloc: Global, case: &Case) -> Result<String> {
+    let (right, kind) = match solved(alloc, case)? {
+        Answer::Sat(a) => {
+            let assumed = case
+                .assumptions
+                .iter()
+                .all(|lit| a.value(lit.var()) == lit.is_positive());
+            (case.clauses.holds(&a) && assumed, "sat")
+        }
+        Answer::Unsat(log) => (
+            accepts(alloc, &case.clauses, &case.assumptions, &log)?,
+            "unsat",
+        ),
+        Answer::Spent(log) => (log.as_slice().len() as u64 == case.lemmas, "spent"),
+    };
+    word(alloc, if right { kind } else { "wrong" })
+}
+
+/// The variables from 1 to 9 that are true, where the answer is an assignment.
+fn model(alloc: Global, case: &Case) -> Result<String> {
+    match solved(alloc, case)? {
+        Answer::Sat(a) => {
+            let mut line = word(alloc, "sat")?;
+            for var in 1..10u32 {
+                if a.value(var) {
+                    write!(line, " {var}")?;
+                }
+            }
+            Ok(line)
+        }
+        _ => bail!("no assignment"),
+    }
+}
+
+/// The last clause of the log, where the answer refutes.
+fn last(alloc: Global, case: &Case) -> Result<String> {
+    match solved(alloc, case)? {
+        Answer::Unsat(log) => last_clause(alloc, &log),
+        _ => bail!("no refutation"),
+    }
+}
+
+fn last_clause(alloc: Global, log: &Log) -> Result<String> {
+    let mut line = word(alloc, "last")?;
+    if let Some(last) = log.as_slice().last() {
+        push_lits(&mut line, last.clause.lits())?;
+    }
+    Ok(line)
+}
+
+/// Adds the numbers of literals, each behind a blank.
+pub fn push_lits(line: &mut String, lits: &[Lit]) -> Result<()> {
+    for lit in lits {
+        line.push_str(if lit.is_positive() { " " } else { " -" })?;
+        let var = lit.var();
+        write!(line, "{var}")?;
+    }
+    Ok(())
+}
+
+pub fn word(alloc: Global, word: &str) -> Result<String> {
+    Ok(String::from_str(alloc, word)?)
+}

@@ -1,0 +1,74 @@
+#!/usr/bin/env bash
+# What the gate costs: the lines and the processor minutes of each crate, as the table of docs/ARCHITECTURE.md.
+#
+#   costs.sh record LOG [COMMAND ..]   runs the command (rt ci where none is given), and notes in LOG, each second, how
+#                                      much processor time each check of the prover has used: its process, its crate,
+#                                      whether it is a proof, a proof with tests or a try of an edit, and its seconds
+#   costs.sh table LOG                 prints the table of what LOG has
+set -u
+root=$(cd "$(dirname "${BASH_SOURCE[0]}")/.." && pwd)
+
+# The checks that run now: those processes of the prover that were started by none of its own.
+sample() {
+    local process parent line words crate kind place
+    for process in /proc/[0-9]*; do
+        mapfile -d '' -t words 2> /dev/null < "$process/cmdline" || continue
+        [[ ${words[0]:-} == */rattle && ${words[1]:-} == check ]] || continue
+        line=$(< "$process/stat") 2> /dev/null || continue
+        line=${line##*) }
+        read -ra fields <<< "$line"
+        parent=$(tr '\0' ' ' 2> /dev/null < "/proc/${fields[1]}/cmdline") || continue
+        [[ $parent == */rattle\ check* ]] && continue
+        crate=${words[3]}
+        place=$(readlink "$process/cwd") || continue
+        kind=proof
+        [[ " ${words[*]} " == *' --test '* ]] && kind=tests
+        [[ $place == */rt-edit* ]] && kind=edits
+        printf '%s %s %s %s\n' "${process#/proc/}" "$crate" "$kind" \
+            $(((fields[11] + fields[12] + fields[13] + fields[14]) / ticks))
+    done
+}
+
+record() {
+    local log=$1 run
+    shift
+    [ $# -gt 0 ] || set -- rt ci
+    ticks=$(getconf CLK_TCK)
+    : > "$log"
+    "$@" &
+    run=$!
+    while kill -0 "$run" 2> /dev/null; do
+        sample >> "$log"
+        sleep 1
+    done
+    wait "$run"
+}
+
+# The lines of a crate's src, specs and proofs.
+lines_of() {
+    local part
+    for part in src specs proofs; do
+        find "$root/crates/$1/$part" \( -name '*.rt' -o -name '*.antt' \) -exec cat {} + 2> /dev/null | wc -l
+    done | paste -sd/ | sed 's,/, / ,g'
+}
+
+table() {
+    local crate
+    printf '| Crate | Lines | Proof | Tests | Edits |\n|---|---|---|---|---|\n'
+    awk '{ if ($4 > most[$1 " " $2 " " $3]) most[$1 " " $2 " " $3] = $4 }
+        END { for (key in most) { split(key, part, " "); spent[part[2] " " part[3]] += most[key]; seen[part[2]] = 1 }
+            for (crate in seen) printf "%s %.1f %.1f %.1f\n", crate, spent[crate " proof"] / 60,
+                spent[crate " tests"] / 60, spent[crate " edits"] / 60 }' "$1" | sort |
+        while read -r crate proof tests edits; do
+            printf '| `%s` | %s | %s | %s | %s |\n' "$crate" "$(lines_of "$crate")" "$proof" "$tests" "$edits"
+        done
+    awk '{ if ($4 > most[$1 " " $3]) most[$1 " " $3] = $4 }
+        END { for (key in most) { split(key, part, " "); spent[part[2]] += most[key] }
+            printf "| all | | %.1f | %.1f | %.1f |\n", spent["proof"] / 60, spent["tests"] / 60, spent["edits"] / 60 }' "$1"
+}
+
+case ${1:-} in
+    record) record "${@:2}" ;;
+    table) table "$2" ;;
+    *) sed -n '2,8s/^# \{0,1\}//p' "${BASH_SOURCE[0]}"; exit 2 ;;
+esac
