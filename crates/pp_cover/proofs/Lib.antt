@@ -1,0 +1,11 @@
+pub mod Constraints
+pub mod Lists
+pub mod Specialize
+pub mod Typed
+pub mod Fresh
+pub mod Blocks
+pub mod Parts
+pub mod Weight
+pub mod WellFormed
+pub mod Coverage
+pub mod Samples

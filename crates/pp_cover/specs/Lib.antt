@@ -1,0 +1,4 @@
+pub mod Constraint
+pub mod Matrix
+pub mod Split
+pub mod Cover
