@@ -2,6 +2,7 @@ pub mod BlockLen
 pub mod Bodies
 pub mod Booleans
 pub mod Capped
+pub mod Counts
 pub mod Every
 pub mod Feeds
 pub mod Keeping

@@ -16,7 +16,7 @@ use Rattle.pp_tokens.specs.Spans.{IsSpan, AreInOrder}
 use Rattle.pp_tokens.proofs.Booleans.{and_right}
 use Rattle.pp_tokens.proofs.Widths.{width-encodes}
 
-scalars_behind : (xs ys : List ℕ) → scalars (xs ++ ys) ≡ true → scalars ys ≡ true
+pub scalars_behind : (xs ys : List ℕ) → scalars (xs ++ ys) ≡ true → scalars ys ≡ true
 scalars_behind [] ys h = h
 scalars_behind (x ∷ xs) ys h = scalars_behind xs ys (and_right (scalar x) (scalars (xs ++ ys)) h)
 
@@ -30,7 +30,7 @@ one_more P None from to ts h all = all
 one_more P (Some kind) from to ts h all = (h, all)
 
 module _ (bs : List ℕ) where
-  seam : (xs ys : List ℕ) → scalars ys ≡ true → encodes (xs ++ ys) ≡ bs → IsCharBoundary bs (width xs)
+  pub seam : (xs ys : List ℕ) → scalars ys ≡ true → encodes (xs ++ ys) ≡ bs → IsCharBoundary bs (width xs)
   seam xs ys h is =
       let P : ℕ → Type 0 = λ n. IsCharBoundary bs n in
       subst P (width-encodes xs) (IsCharBoundary-at_seam bs (encodes xs) (encodes ys) (sym is ∙ encodes-append xs ys) (ys, (h, refl)))

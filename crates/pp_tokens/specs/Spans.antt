@@ -1,6 +1,8 @@
 -- Where the tokens of a text stand.
-use Rattle.std.specs.Prelude.{ℕ, ◌≡◌, ◌≢◌, ◌≤◌, List, [], ◌∷◌, ◌++◌, All}
+use Rattle.std.specs.Prelude.{ℕ, ◌≡◌, ◌≢◌, ◌<◌, ◌≤◌, List, [], ◌∷◌, ◌++◌, All, length}
 use Rattle.std.specs.Str.{IsCharBoundary}
+use Rattle.pp_tokens.specs.declared.token.LexFault.{LexFault}
+use Rattle.pp_tokens.specs.declared.token.LexFault.TheVariants.{BadChar, BadNumber, OpenComment, Memory}
 use Rattle.pp_tokens.specs.declared.token.Token.{Token}
 use Rattle.pp_tokens.specs.declared.token.TokenKind.TheVariants.{End}
 use Rattle.pp_tokens.specs.Cutting.{token}
@@ -21,3 +23,15 @@ pub record HasEnd (at : ℕ) (ts : List Token) : Type 0 where
   pub front : List Token
   pub whole : ts ≡ front ++ token End at at ∷ []
   pub once : All (λ t. t.kind ≢ End) front
+
+-- a character of the text begins at the offset
+pub record BeginsCharacter (text : List ℕ) (at : ℕ) : Type 0 where
+  pub boundary : IsCharBoundary text at
+  pub inside : at < length text
+
+-- the offset of a fault is where a character begins; want of memory has none
+abbrev pub FaultBegins : List ℕ → LexFault → Type 0
+FaultBegins text (BadChar at) = BeginsCharacter text at
+FaultBegins text (BadNumber at) = BeginsCharacter text at
+FaultBegins text (OpenComment at) = BeginsCharacter text at
+FaultBegins text Memory = Unit {0}

@@ -1,8 +1,8 @@
 // The tokens of a text.
 
-ghost use Rattle.std.specs.Prelude.{◌≡◌, ◌≤◌, All, length, IfOk, IfErr};
+ghost use Rattle.std.specs.Prelude.{◌≡◌, ◌+◌, ◌≤◌, All, length, IfOk, IfErr};
 ghost use Rattle.std.specs.Str.{chars};
-ghost use Rattle.pp_tokens.specs.Spans.{IsSpan, AreInOrder, HasEnd};
+ghost use Rattle.pp_tokens.specs.Spans.{IsSpan, AreInOrder, HasEnd, FaultBegins};
 ghost use Rattle.pp_tokens.specs.Tokens.{spelled, tokens_of, IsCause, IsLayout, IsBehind};
 
 use crate::cutting::cut;
@@ -44,6 +44,10 @@ pub fn tokens(alloc: Global, text: &Text) -> Result<Vec<Token>, LexFault>
     ensures whole_characters { IfOk result (λ v. All (IsSpan text.now) v.items) }
     ensures in_order { IfOk result (λ v. AreInOrder 0 v.items) }
     ensures ended { IfOk result (λ v. HasEnd (length text.now) v.items) }
+    ensures fault_begins { IfErr result (λ fault. FaultBegins text.now fault) }
+
+    // There are at most as many tokens, the end not counted, as bytes.
+    ensures few { IfOk result (λ v. length v.items ≤ length text.now + 1) }
 
     // White space, comments and tokens put together give the text, each right where it stands.
     ensures laid_out { IfOk result (λ v. IsLayout (chars text.now) v.items) }
