@@ -9,3 +9,6 @@ pub mod Listing
 pub mod Names
 pub mod Boolean
 pub mod Valid
+pub mod Cone
+pub mod Sizes
+pub mod Results

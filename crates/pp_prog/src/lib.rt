@@ -9,6 +9,10 @@
 //! may carry checks, `specs/Names` which function has a name, and `specs/Valid` which programs are valid. `proofs/Sure`
 //! gives the whole validity of a program from its type. `specs/Boolean` says which functions are Boolean, and
 //! `proofs/Boolean` that one Boolean function with its check is a valid program.
+//!
+//! `specs/Cone` says what the cone of a function is, which functions are recursive and which meet no datatype,
+//! `specs/Sizes` how large the values of a sort are up to a height, and `specs/Results` how the sort of an expression
+//! is read off its form; `proofs/Results` has the lemma that it is the expression's sort.
 #![tactic(auto)]
 
 mod calls;

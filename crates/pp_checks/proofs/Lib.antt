@@ -1,0 +1,10 @@
+pub mod Called
+pub mod Binding
+pub mod Descending
+pub mod Ruling
+pub mod Counting
+pub mod Cones
+pub mod Settling
+pub mod Tallest
+pub mod Arguments
+pub mod Plans

@@ -1,0 +1,5 @@
+use Rattle.pp_checks.specs.Tables.{MarkPlain}
+use Rattle.pp_checks.proofs.plain.plains_of.Given as goal
+
+abbrev pub invariant-loop-f : goal.invariant-loop-f
+invariant-loop-f l = MarkPlain l.functions l.f-index l.checks l.plains

@@ -1,0 +1,7 @@
+pub mod Ranks
+pub mod Closed
+pub mod Rules
+pub mod Plain
+pub mod Plan
+pub mod Laws
+pub mod Tables
