@@ -17,7 +17,14 @@ module _ (calls : List (List ℕ)) where
   Cone f g = (f ≡ g) ⊎ Reaches calls f g
 
   cone_or_not : (f g : ℕ) → Cone f g ⊎ (Cone f g → ⊥)
-  cone_or_not f g = elim (eqb_tells f g) [ inl e ↦ inl (inl e.1) | inr ne ↦ elim (reaches_or_not calls f g) [ inl r ↦ inl (inr r) | inr never ↦ inr (λ c. ⊎_elim ne.1 never c) ] ]
+  cone_or_not f g = elim (eqb_tells f g) [
+    | inl e ↦ inl (inl e.1)
+    | inr ne ↦ elim (reaches_or_not calls f g) [
+      | inl r
+          ↦ inl (inr r)
+      | inr never ↦ inr (λ c. ⊎_elim ne.1 never c)
+    ]
+  ]
 
   -- from a function that f reaches, or is, its cone is within that of f
   cone_within : (f g h : ℕ) → Cone f g → Cone g h → Cone f h
@@ -36,9 +43,11 @@ module _ (calls : List (List ℕ)) where
       let ge = count_le (Cone g) (Cone f) N m n (λ h lt c. cone_within f g h both.0 c) b a in
       omega (arith, le, ge)
 
-  pub lower_rank : (N f g n m : ℕ) → f < N → Contains (calls_of calls f) g → (SameGroup calls f g → ⊥) → CountBelow (Cone f) N n → CountBelow (Cone g) N m → m < n
+  pub lower_rank : (N f g n m : ℕ) → f < N → Contains (calls_of calls f) g → (SameGroup calls f g → ⊥)
+      → CountBelow (Cone f) N n → CountBelow (Cone g) N m → m < n
   lower_rank N f g n m lt called other a b =
-      count_lt (Cone g) (Cone f) N m n f (λ h less c. cone_within f g h (inr (by_call f g called)) c) lt (inl refl) (back (by_call f g called)) b a
+      count_lt (Cone g) (Cone f) N m n f (λ h less c. cone_within f g h (inr (by_call f g called)) c) lt (inl refl)
+      (back (by_call f g called)) b a
     where
       back : Reaches calls f g → Cone g f → ⊥
       back r (inl e) = other (inl (sym e))
@@ -76,17 +85,23 @@ module _ (calls : List (List ℕ)) where
     where
       none : (h : ℕ) → Contains (calls_of calls g) h → ⊥
       none h c =
-          elim (slice_get_cases calls g).1 [ inl here ↦ absurd (omega (arith, here.1, past)) | inr p ↦ nothing h (subst (λ o. Contains (called_by o) h) p.1 c) ]
+          elim (slice_get_cases calls g).1 [
+            | inl here ↦ absurd (omega (arith, here.1, past))
+            | inr p ↦ nothing h
+                (subst (λ o. Contains (called_by o) h) p.1 c)
+          ]
 
       by : (k : ℕ) → Nests calls k g
       by zero = none
       by (suc k) = λ h c. absurd (none h c)
 
   -- a call tree with an end is at most as deep as its cone has functions
-  nests_rank : (m f r k : ℕ) → Nests calls m f → f < length calls → CountBelow (Cone f) (length calls) r → r ≤ k → Nests calls k f
+  nests_rank : (m f r k : ℕ) → Nests calls m f → f < length calls → CountBelow (Cone f) (length calls) r → r ≤ k
+      → Nests calls k f
   nests_rank zero f r k nests lt count le = nests_more 0 k f (omega arith) nests
   nests_rank (suc m) f r zero nests lt count le =
-      absurd (by (count_lt (λ g. ⊥) (Cone f) (length calls) 0 r f (λ g less no. absurd no) lt (inl refl) (λ no. no) (none (length calls)) count))
+      absurd (by (count_lt (λ g. ⊥) (Cone f) (length calls) 0 r f (λ g less no. absurd no) lt (inl refl) (λ no. no)
+      (none (length calls)) count))
     where
       by : 0 < r → ⊥
       by h = omega (arith, h, le)
@@ -100,7 +115,9 @@ module _ (calls : List (List ℕ)) where
       eqb_less : (g : ℕ) → (g < length calls) ⊎ (length calls ≤ g)
       eqb_less g = elim (leb_tells (length calls) g) [ inl e ↦ inr e.1 | inr e ↦ inl (omega (arith, e.1)) ]
 
-      by : (g : ℕ) → ((x : ℕ) → g < length calls → CountBelow (Cone g) (length calls) x → x ≤ k → Nests calls k g) → Contains (calls_of calls f) g → (g < length calls) ⊎ (length calls ≤ g) → Nests calls k g
+      by : (g : ℕ) → ((x : ℕ) → g < length calls → CountBelow (Cone g) (length calls) x → x ≤ k
+          → Nests calls k g) → Contains (calls_of calls f) g → (g < length calls) ⊎ (length calls ≤ g)
+          → Nests calls k g
       by g again c (inr past) = past_nests k g past
       by g again c (inl less) =
           let rank = count_of (Cone g) (length calls) (cone_or_not g) in
@@ -121,9 +138,13 @@ module _ (calls : List (List ℕ)) where
       nests_rank m f rank.0 (length calls) nests lt rank.1 (count_within (Cone f) (length calls) rank.0 rank.1)
 
   -- the rank that the rows show
-  pub rank_shown : (rows : List (List Bool)) (f r : ℕ) → f < length calls → Tells calls (length calls) rows → IsRankIn rows f (length rows) r → CountBelow (Cone f) (length calls) r
+  pub rank_shown : (rows : List (List Bool)) (f r : ℕ) → f < length calls → Tells calls (length calls) rows
+      → IsRankIn rows f (length rows) r → CountBelow (Cone f) (length calls) r
   rank_shown rows f r lt t count =
-      count_same (λ g. (f ≡ g) ⊎ IsTrue (bit rows f g)) (Cone f) (length calls) r (λ g less. (λ c. there g less c, λ c. back g less c)) (subst (λ n. IsRankIn rows f n r) t.size count)
+      count_same (λ g. (f ≡ g) ⊎ IsTrue (bit rows f g)) (Cone f) (length calls) r (λ g less. (
+        λ c. there g less c,
+        λ c. back g less c,
+      )) (subst (λ n. IsRankIn rows f n r) t.size count)
     where
       there : (g : ℕ) → g < length calls → (f ≡ g) ⊎ IsTrue (bit rows f g) → Cone f g
       there g less (inl e) = inl e

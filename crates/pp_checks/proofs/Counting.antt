@@ -4,7 +4,8 @@ use Rattle.std.proofs.lemmas.Bool.Decides.{eqb_tells}
 use Rattle.pp_checks.specs.Ranks.{CountBelow}
 
 -- a smaller set has at most as many
-pub count_le : (P Q : ℕ → Type 0) (n k m : ℕ) → ((g : ℕ) → g < n → P g → Q g) → CountBelow P n k → CountBelow Q n m → k ≤ m
+pub count_le : (P Q : ℕ → Type 0) (n k m : ℕ) → ((g : ℕ) → g < n → P g → Q g) → CountBelow P n k
+    → CountBelow Q n m → k ≤ m
 count_le P Q zero k m within p q = omega (arith, p, q)
 count_le P Q (suc n) k m within (inl p) (inl q) =
     omega (arith, p.1.2, q.1.2, count_le P Q n p.1.0 q.1.0 (λ g lt. within g (omega arith)) p.1.1 q.1.1)
@@ -15,7 +16,8 @@ count_le P Q (suc n) k m within (inr p) (inr q) =
     count_le P Q n k m (λ g lt. within g (omega arith)) p.1 q.1
 
 -- a set that lacks a number of the other has fewer
-pub count_lt : (P Q : ℕ → Type 0) (n k m j : ℕ) → ((g : ℕ) → g < n → P g → Q g) → j < n → Q j → (P j → ⊥) → CountBelow P n k → CountBelow Q n m → k < m
+pub count_lt : (P Q : ℕ → Type 0) (n k m j : ℕ) → ((g : ℕ) → g < n → P g → Q g) → j < n → Q j → (P j → ⊥)
+    → CountBelow P n k → CountBelow Q n m → k < m
 count_lt P Q zero k m j within lt has lacks p q = absurd (omega arith)
 count_lt P Q (suc n) k m j within lt has lacks p q =
     by (λ x y below a b. count_lt P Q n x y j (λ g h. within g (omega arith)) below has lacks a b) (eqb_tells j n) p q
@@ -23,7 +25,9 @@ count_lt P Q (suc n) k m j within lt has lacks p q =
     less : (g : ℕ) → g < n → P g → Q g
     less g h = within g (omega arith)
 
-    by : ((x y : ℕ) → j < n → CountBelow P n x → CountBelow Q n y → x < y) → ((nat_eq j n ≡ true) × (j ≡ n)) ⊎ ((nat_eq j n ≡ false) × (j ≢ n)) → CountBelow P (suc n) k → CountBelow Q (suc n) m → k < m
+    by : ((x y : ℕ) → j < n → CountBelow P n x → CountBelow Q n y → x < y)
+        → ((nat_eq j n ≡ true) × (j ≡ n)) ⊎ ((nat_eq j n ≡ false) × (j ≢ n)) → CountBelow P (suc n) k
+        → CountBelow Q (suc n) m → k < m
     by again (inl e) (inl a) b = absurd (lacks (subst P (sym e.1) a.0))
     by again (inl e) (inr a) (inl b) = omega (arith, b.1.2, count_le P Q n k b.1.0 less a.1 b.1.1)
     by again (inl e) (inr a) (inr b) = absurd (b.0 (subst Q e.1 has))

@@ -15,7 +15,8 @@ use Rattle.pp_checks.specs.Tables.{IsPlainBelow, MarkPlain}
 use Rattle.pp_checks.specs.Plain.{IsPlain, plain_descents, CaseDescents, Seen, case_step, descents_in_case, goes_down, inside_at, is_inside, seen, seen_step, variable_in, variable_of}
 
 module _ (functions : List Function) (p : ℕ) where
-  variable_of_layer : (y : layer.Expr-F Expr Case) → (seen_step functions p (map-Expr Expr Case Seen CaseDescents (seen functions p) (descents_in_case functions p) y)).0 ≡ variable_in y
+  variable_of_layer : (y : layer.Expr-F Expr Case) → (seen_step functions p (map-Expr Expr Case Seen CaseDescents
+      (seen functions p) (descents_in_case functions p) y)).0 ≡ variable_in y
   variable_of_layer (layer.Int n) = refl
   variable_of_layer (layer.Bool b) = refl
   variable_of_layer (layer.Var i) = refl
@@ -31,12 +32,15 @@ module _ (functions : List Function) (p : ℕ) where
 
   variable_seen : (e : Expr) → (seen functions p e).0 ≡ variable_of e
   variable_seen e =
-      ap (λ (s : Seen). s.0) (fold_out-Expr Seen CaseDescents (seen_step functions p) case_step e) ∙ variable_of_layer (out-Expr e)
+      ap (λ (s : Seen). s.0) (fold_out-Expr Seen CaseDescents (seen_step functions p) case_step e)
+      ∙ variable_of_layer (out-Expr e)
 
   -- whether the argument at a place is inside
-  pub goes_down_at : (q : ℕ) (args : List Expr) (arg : Expr) (marks : List Bool) → slice_get args q ≡ Some arg → goes_down (Some q) (map (seen functions p) args) marks ≡ is_inside marks (variable_of arg)
+  pub goes_down_at : (q : ℕ) (args : List Expr) (arg : Expr) (marks : List Bool) → slice_get args q ≡ Some arg
+      → goes_down (Some q) (map (seen functions p) args) marks ≡ is_inside marks (variable_of arg)
   goes_down_at q args arg marks is =
-      ap (λ o. inside_at o marks) (slice_get-map (seen functions p) args q ∙ ap (option_map (seen functions p)) is) ∙ ap (is_inside marks) (variable_seen arg)
+      ap (λ o. inside_at o marks) (slice_get-map (seen functions p) args q
+      ∙ ap (option_map (seen functions p)) is) ∙ ap (is_inside marks) (variable_seen arg)
 
 -- the item at a place
 pub get_at : {A : Type 0} (xs : List A) (i : ℕ) (x : A) → i < length xs → x ≡ get_or xs i x → slice_get xs i ≡ Some x
@@ -62,23 +66,34 @@ module _ (functions : List Function) (i : ℕ) where
   last_or : (k : ℕ) → k < i + 1 → (k < i) ⊎ (k ≡ i)
   last_or k less = elim (eqb_tells k i) [ inl h ↦ inr h.1 | inr h ↦ inl (omega (arith, h.1)) ]
 
-  pub more_plain : (f : Function) (n : ℕ) (old new : List Bool) (found : List ℕ) → i < length functions → f ≡ get_or functions i f → found ≡ plain_descents functions f → MarkPlain functions i n old → length new ≡ length old → ((c : ℕ) → c < length old → IsTrue (marked new c) ↔ (IsTrue (marked old c) ⊎ Contains found c)) → MarkPlain functions (i + 1) n new
+  pub more_plain : (f : Function) (n : ℕ) (old new : List Bool) (found : List ℕ) → i < length functions
+      → f ≡ get_or functions i f → found ≡ plain_descents functions f → MarkPlain functions i n old
+      → length new ≡ length old → ((c : ℕ) → c < length old → IsTrue (marked new c) ↔ (IsTrue (marked old c) ⊎
+      Contains found c)) → MarkPlain functions (i + 1) n new
   more_plain f n old new found lt is all m size each = record {
     size = size ∙ m.size;
     each = λ c inside. let e = each c (omega (arith, m.size, inside)) in (
-      λ t. ⊎_elim (λ o. earlier c ((m.each c inside).0 o)) (λ h. (i, f, omega arith, get_at functions i f lt is, subst (λ l. Contains l c) all h)) (e.0 t),
+      λ t. ⊎_elim (λ o. earlier c ((m.each c inside).0 o)) (λ h. (
+        i,
+        f,
+        omega arith,
+        get_at functions i f lt is,
+        subst (λ l. Contains l c) all h,
+      )) (e.0 t),
       λ p. e.1 (by c inside p (last_or p.0 p.2)),
     );
   }
     where
-      by : (c : ℕ) → c < n → (p : IsPlainBelow functions (i + 1) c) → (p.0 < i) ⊎ (p.0 ≡ i) → IsTrue (marked old c) ⊎ Contains found c
+      by : (c : ℕ) → c < n → (p : IsPlainBelow functions (i + 1) c) → (p.0 < i) ⊎ (p.0 ≡ i)
+          → IsTrue (marked old c) ⊎ Contains found c
       by c inside p (inl before) = inl ((m.each c inside).1 (p.0, p.1, before, p.3, p.4))
       by c inside p (inr here) =
           let same : Some p.1 ≡ Some f = sym p.3 ∙ ap (slice_get functions) here ∙ get_at functions i f lt is in
           let function : p.1 ≡ f = (cc) in
           inr (subst (λ l. Contains l c) (ap (plain_descents functions) function ∙ sym all) p.4)
 
-pub all_plain : (functions : List Function) (n m : ℕ) (marks : List Bool) → length functions ≤ n → MarkPlain functions n m marks → (c : ℕ) → c < m → IsTrue (marked marks c) ↔ IsPlain functions c
+pub all_plain : (functions : List Function) (n m : ℕ) (marks : List Bool) → length functions ≤ n
+    → MarkPlain functions n m marks → (c : ℕ) → c < m → IsTrue (marked marks c) ↔ IsPlain functions c
 all_plain functions n m marks over all c inside = (
   λ t. let p = (all.each c inside).0 t in (p.0, p.1, p.3, p.4),
   λ p. (all.each c inside).1 (p.0, p.1, omega (arith, over, slice_get_within functions p.0 p.1 p.2), p.2, p.3),

@@ -36,4 +36,5 @@ pub record Closed (types : TypeTable) (functions : List Function) (f n d : ℕ) 
   -- its call tree, contracts included, is at most n deep
   pub nested : Nests (call_table functions) n f
   -- each value of each parameter's sort has at most the height d
-  pub low : (function : Function) → slice_get functions f ≡ Some function → AreUpTo types.ctors (param_sorts function.params) d
+  pub low : (function : Function) → slice_get functions f ≡ Some function
+      → AreUpTo types.ctors (param_sorts function.params) d

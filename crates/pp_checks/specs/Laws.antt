@@ -17,13 +17,15 @@ use Rattle.pp_checks.specs.Rules.{contract_calls, measure_sorts}
 -- functions of one group have one rank
 abbrev pub ShareRanks : Type 0
 ShareRanks =
-    (functions : List Function) (f g n m : ℕ) → OneGroup functions f g → IsRank functions f n → IsRank functions g m → n ≡ m
+    (functions : List Function) (f g n m : ℕ) → OneGroup functions f g → IsRank functions f n
+    → IsRank functions g m → n ≡ m
 
 -- a function of another group that f calls, contracts included, has a lower rank
 abbrev pub CallLowerRanks : Type 0
 CallLowerRanks =
     (functions : List Function) (f g n m : ℕ) (function : Function) → slice_get functions f ≡ Some function
-    → Contains (function_calls function) g → (OneGroup functions f g → ⊥) → IsRank functions f n → IsRank functions g m → m < n
+    → Contains (function_calls function) g → (OneGroup functions f g → ⊥) → IsRank functions f n
+    → IsRank functions g m → m < n
 
 -- in a program that has a plan, preconditions and measure lists call functions of lower ranks alone
 abbrev pub ContractsCallLowerRanks : Type 0
@@ -35,7 +37,8 @@ ContractsCallLowerRanks =
 -- in a program that has a plan, the measure lists of a group have one list of sorts
 abbrev pub MeasuresShareSorts : Type 0
 MeasuresShareSorts =
-    (plan : Plan) (program : Program) (f g : ℕ) (one other : Function) → IsPlanOf plan program → OneGroup program.functions f g
+    (plan : Plan) (program : Program) (f g : ℕ) (one other : Function) → IsPlanOf plan program
+    → OneGroup program.functions f g
     → slice_get program.functions f ≡ Some one → slice_get program.functions g ≡ Some other
     → IsTrue (is_written one.measure) → IsTrue (is_written other.measure)
     → measure_sorts program.types program.functions one ≡ measure_sorts program.types program.functions other

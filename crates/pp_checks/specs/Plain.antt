@@ -128,8 +128,11 @@ module _ (functions : List Function) (p : ℕ) where
   seen_step (layer.Match e cases check) = (None, λ marks. e.1 marks ++ in_cases cases (is_live p marks e.0) marks)
   seen_step (layer.Val bound rest) = (None, λ marks. bound.1 marks ++ rest.1 (marks ++ false ∷ []))
   seen_step (layer.Assert check c rest) = (None, λ marks. c.1 marks ++ rest.1 marks)
-  seen_step (layer.Call g args pre measure) =
-      (None, λ marks. in_all args marks ++ when (goes_down (first_param_of (slice_get functions g.0)) args marks) (as_check measure))
+  seen_step (layer.Call g args pre measure) = (
+    None,
+    λ marks. in_all args marks ++ when (goes_down (first_param_of (slice_get functions g.0)) args marks)
+        (as_check measure),
+  )
 
   -- what an expression is
   abbrev pub seen : Expr → Seen
@@ -156,7 +159,8 @@ module _ (functions : List Function) (p : ℕ) where
   abbrev pub descents_from : Function → List ℕ
   descents_from f =
       let marks = replicate (length f.params) false in
-      pre_descents f.pre marks ++ in_all (map seen f.measure) marks ++ descents f.body marks ++ post_descents f.post marks
+      pre_descents f.pre marks ++ in_all (map seen f.measure) marks ++ descents f.body marks ++ post_descents
+      f.post marks
 
 abbrev pub is_tree : Sort → Bool
 is_tree sort.Int = false
@@ -186,4 +190,5 @@ plain_descents functions f = descents_at functions f (tree_param f)
 -- check c is a plain descent of some function
 abbrev pub IsPlain : List Function → ℕ → Type 0
 IsPlain functions c =
-    (f : ℕ) × (function : Function) × (slice_get functions f ≡ Some function) × Contains (plain_descents functions function) c
+    (f : ℕ) × (function : Function) × (slice_get functions f ≡ Some function) × Contains (plain_descents functions
+    function) c

@@ -21,7 +21,8 @@ pub record AreOf {A : Type 0} (Is : ℕ → A → Type 0) (n : ℕ) (table : Lis
 -- the greatest height of an argument of the function
 abbrev pub IsTallestOf : Program → ℕ → Option ℕ → Type 0
 IsTallestOf program f tallest =
-    (function : Function) → slice_get program.functions f ≡ Some function → IsTallest program.types.ctors (param_sorts function.params) tallest
+    (function : Function) → slice_get program.functions f ≡ Some function
+    → IsTallest program.types.ctors (param_sorts function.params) tallest
 
 -- the plan is that of the program
 pub record IsPlanOf (plan : Plan) (program : Program) : Type 0 where

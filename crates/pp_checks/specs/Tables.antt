@@ -97,7 +97,8 @@ tallest_params depths f = tallest_in depths (Some 0) (param_sorts f.params)
 -- check c is a plain descent of one of the first n functions
 abbrev pub IsPlainBelow : List Function → ℕ → ℕ → Type 0
 IsPlainBelow functions n c =
-    (f : ℕ) × (function : Function) × (f < n) × (slice_get functions f ≡ Some function) × Contains (plain_descents functions function) c
+    (f : ℕ) × (function : Function) × (f < n) × (slice_get functions f ≡ Some function) × Contains (plain_descents
+    functions function) c
 
 -- the marks of the first m checks are at the plain descents of the first n functions
 pub record MarkPlain (functions : List Function) (n m : ℕ) (marks : List Bool) : Type 0 where

@@ -5,4 +5,5 @@ use Rattle.pp_checks.proofs.heights.tallest.Given as goal
 
 abbrev pub invariant-loop-p : goal.invariant-loop-p
 invariant-loop-p l =
-    tallest_in l.depths (Some 0) (param_sorts l.params) ≡ tallest_in l.depths l.most (param_sorts (drop l.p-index l.params))
+    tallest_in l.depths (Some 0) (param_sorts l.params) ≡ tallest_in l.depths l.most (param_sorts (drop l.p-index
+    l.params))

@@ -6,4 +6,5 @@ use Rattle.pp_checks.proofs.heights.trees_of.Given as goal
 
 abbrev pub invariant-loop-c : goal.invariant-loop-c
 invariant-loop-c l =
-    trees_in (joined (map sorts_in_ctor l.ctors)) ≡ l.found ++ trees_in (joined (map sorts_in_ctor (drop l.c-index l.ctors)))
+    trees_in (joined (map sorts_in_ctor l.ctors)) ≡ l.found ++ trees_in (joined (map sorts_in_ctor (drop l.c-index
+    l.ctors)))

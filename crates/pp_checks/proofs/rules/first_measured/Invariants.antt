@@ -5,4 +5,5 @@ use Rattle.pp_checks.proofs.rules.first_measured.Given as goal
 
 abbrev pub invariant-loop-g : goal.invariant-loop-g
 invariant-loop-g l =
-    (h : ℕ) → h < l.g → OneGroup l.program.functions l.f.0 h → IsTrue (has_measure (slice_get l.program.functions h)) → ⊥
+    (h : ℕ) → h < l.g → OneGroup l.program.functions l.f.0 h → IsTrue (has_measure (slice_get l.program.functions
+    h)) → ⊥

@@ -6,5 +6,6 @@ use Rattle.pp_checks.proofs.sorts.measure_sorts.Given as goal
 
 abbrev pub invariant-loop-e : goal.invariant-loop-e
 invariant-loop-e l =
-    (l.sorts ≡ map (λ (e : Expr). result_of l.types l.functions e (param_sorts l.f.params)) (take l.e-index l.f.measure))
+    (l.sorts ≡ map (λ (e : Expr). result_of l.types l.functions e (param_sorts l.f.params)) (take l.e-index
+    l.f.measure))
     × (l.scope ≡ param_sorts l.f.params)

@@ -1,0 +1,12 @@
+pub mod Imported
+pub mod Left
+pub mod Owned
+pub mod Parts
+pub mod Counting
+pub mod NextCtor
+pub mod Sound
+pub mod Steps
+pub mod Complete
+pub mod Known
+pub mod Broken
+pub mod Whole

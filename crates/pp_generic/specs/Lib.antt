@@ -1,0 +1,4 @@
+pub mod Equal
+pub mod Expected
+pub mod Found
+pub mod Put

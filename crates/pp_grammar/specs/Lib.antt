@@ -1,0 +1,14 @@
+pub mod Words
+pub mod Types
+pub mod Patterns
+pub mod Exprs
+pub mod Bodies
+pub mod Units
+pub mod LeftOut
+pub mod Frames
+pub mod Joining
+pub mod StepTypes
+pub mod StepExprs
+pub mod StepBodies
+pub mod StepItems
+pub mod Automaton

@@ -1,0 +1,16 @@
+pub mod Steps
+pub mod ReachTypes
+pub mod ReachPatterns
+pub mod Starts
+pub mod ReachExprs
+pub mod Leftmost
+pub mod ReachContracts
+pub mod ReachPosts
+pub mod ReachBodies
+pub mod ReachHeads
+pub mod Complete
+pub mod ExprSteps
+pub mod ExprParts
+pub mod ReachHoles
+pub mod StatSteps
+pub mod ReachItems

@@ -1,0 +1,15 @@
+pub mod Unique
+pub mod Faults
+pub mod FaultTypes
+pub mod FaultExprs
+pub mod FaultBodies
+pub mod FaultModes
+pub mod FaultItems
+pub mod Sized
+pub mod SizeTypes
+pub mod SizePatterns
+pub mod SizeExprs
+pub mod SizeBodies
+pub mod SizeDecls
+pub mod Sizes
+pub mod Unused

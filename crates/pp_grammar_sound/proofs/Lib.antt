@@ -1,0 +1,16 @@
+pub mod Fronts
+pub mod Opens
+pub mod Modes
+pub mod SoundTypes
+pub mod SoundPatterns
+pub mod Unwound
+pub mod SoundContracts
+pub mod SoundEnds
+pub mod SoundExprs
+pub mod SoundBodies
+pub mod SoundModes
+pub mod UnitFronts
+pub mod SoundItems
+pub mod SoundMatches
+pub mod SoundHeads
+pub mod SoundStates

@@ -1,0 +1,4 @@
+pub mod Grouped
+pub mod Mapped
+pub mod Owners
+pub mod Texts

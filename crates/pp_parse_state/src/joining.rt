@@ -1,0 +1,117 @@
+//! Operands joined with the operators before them, and expressions with the statements before them.
+
+ghost use Rattle.std.specs.Prelude.{◌≡◌, IfOk};
+ghost use Rattle.pp_tree.specs.Shown.{tree_of};
+ghost use Rattle.pp_grammar.specs.Joining.{unwind, seal};
+ghost use Rattle.pp_parse_state.specs.Joining.{binds, join, operand_of, joined, is_statement, join_statement, sealed};
+ghost use Rattle.pp_parse_state.specs.Shown.{frame_of, frames};
+
+use crate::operators::{TIGHTEST, level};
+use crate::{Frame, NoMemory, Stack};
+use bumpalo::Bump;
+use pp_tree::{Built, Expr, build};
+
+/// An operand, and whether the hole stands in it.
+#[derive(Clone, Copy)]
+pub struct Operand<'a> {
+    pub tree: Built<Expr<'a>>,
+    pub holed: bool,
+}
+
+/// Whether the frame is an operator before an operand that binds at least as tight as the level.
+pub(crate) fn binds(frame: &Frame, tight: u32) -> bool
+    ensures { result ≡ binds tight (frame_of frame.now) }
+{
+    match frame {
+        Frame::Prefixing(_, _) => tight <= TIGHTEST,
+        Frame::Left(_, op, _, _) => tight <= level(*op),
+        Frame::IfRest(_, _, _) => tight == 0,
+        _ => false,
+    }
+}
+
+/// The operand with the operator before it.
+fn join<'a>(
+    arena: &'a Bump,
+    frame: Frame<'a>,
+    operand: Operand<'a>,
+) -> Result<Operand<'a>, NoMemory>
+    ensures { IfOk result (λ o. operand_of o ≡ join (frame_of frame.entry) (operand_of operand.entry)) }
+{
+    match frame {
+        Frame::Prefixing(at, op) => Ok(Operand {
+            tree: build::unary(arena, at, op, operand.tree)?,
+            holed: operand.holed,
+        }),
+        Frame::Left(at, op, left, holed) => Ok(Operand {
+            tree: build::binary(arena, at, op, left, operand.tree)?,
+            holed: holed || operand.holed,
+        }),
+        Frame::IfRest(at, test, yes) => Ok(Operand {
+            tree: build::choice(arena, at, test, yes, operand.tree)?,
+            holed: operand.holed,
+        }),
+        _ => Ok(operand),
+    }
+}
+
+/// The operand joined with all before it that binds at least as tight as the level.
+pub fn unwind<'a>(
+    arena: &'a Bump,
+    stack: &mut Stack<'a>,
+    tight: u32,
+    tree: Built<Expr<'a>>,
+    holed: bool,
+) -> Result<Operand<'a>, NoMemory>
+    ensures { IfOk result (λ o. unwind tight (frames stack.old) (tree_of tree.entry.tree) holed ≡ joined (frames stack.new) (operand_of o)) }
+{
+    let mut operand = Operand { tree, holed };
+    while stack.binds(tight) {
+        if let Some(frame) = stack.pop() {
+            operand = join(arena, frame, operand)?;
+        }
+    }
+    Ok(operand)
+}
+
+/// Whether the frame is a finished statement.
+pub(crate) fn is_statement(frame: &Frame) -> bool
+    ensures { result ≡ is_statement (frame_of frame.now) }
+{
+    matches!(
+        frame,
+        Frame::AfterVal(_, _, _, _) | Frame::AfterAssert(_, _)
+    )
+}
+
+/// The expression with the statement before it.
+fn join_statement<'a>(
+    arena: &'a Bump,
+    frame: Frame<'a>,
+    rest: Built<Expr<'a>>,
+) -> Result<Built<Expr<'a>>, NoMemory>
+    ensures { IfOk result (λ e. tree_of e.tree ≡ join_statement (frame_of frame.entry) (tree_of rest.entry.tree)) }
+{
+    match frame {
+        Frame::AfterVal(at, name, of, value) => build::val_in(arena, at, name, of, value, rest),
+        Frame::AfterAssert(at, claim) => build::assert_in(arena, at, claim, rest),
+        _ => Ok(rest),
+    }
+}
+
+/// The last expression of a block joined with the statements before it.
+pub fn seal<'a>(
+    arena: &'a Bump,
+    stack: &mut Stack<'a>,
+    last: Built<Expr<'a>>,
+) -> Result<Built<Expr<'a>>, NoMemory>
+    ensures { IfOk result (λ e. seal (frames stack.old) (tree_of last.entry.tree) ≡ sealed (frames stack.new) (tree_of e.tree)) }
+{
+    let mut sealed = last;
+    while stack.ends_statement() {
+        if let Some(frame) = stack.pop() {
+            sealed = join_statement(arena, frame, sealed)?;
+        }
+    }
+    Ok(sealed)
+}

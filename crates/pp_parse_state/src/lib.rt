@@ -1,0 +1,23 @@
+//! What the parser keeps: the frames of what is open, the modes, and the words and numbers of single tokens.
+//!
+//! The parser is an automaton that takes one token at a time, whose definition stands in `pp_grammar`. Each value here
+//! stands for one of that definition: `specs/Shown.antt` says which.
+#![tactic(auto)]
+
+mod current;
+mod fault;
+mod frame;
+mod joining;
+mod mode;
+pub mod numbers;
+pub mod operators;
+mod stack;
+pub mod words;
+
+pub use current::Current;
+pub use fault::Stop;
+pub use frame::{Around, Contracts, Frame, Head, Kind, Placed};
+pub use joining::{Operand, seal, unwind};
+pub use mode::{Mode, Move};
+pub use pp_tree::NoMemory;
+pub use stack::Stack;

@@ -1,0 +1,4 @@
+pub mod Broken
+pub mod Computed
+pub mod Places
+pub mod Sizes

@@ -1,0 +1,4 @@
+pub mod IsSort
+pub mod Laws
+pub mod SortOf
+pub mod Words

@@ -1,0 +1,5 @@
+pub mod Folded
+mod Highest
+mod Heights
+mod Highs
+mod Deep

@@ -1,0 +1,7 @@
+pub mod Count
+pub mod Height
+pub mod Offsets
+pub mod Parts
+pub mod Plain
+pub mod Roots
+pub mod Shown

@@ -1,0 +1,3 @@
+pub mod Unique
+pub mod RootFacts
+pub mod Refused

@@ -1,0 +1,126 @@
+//! Why units have no typing.
+
+ghost use Rattle.pp_types.specs.Kinds.{IsKindOf};
+
+use pp_fault::{Fault, Rule};
+use pp_text::Name;
+use thiserror::Error;
+
+/// A rule that is broken, with the name that is written there, its source from 1 and its offset; or want of memory.
+#[derive(Debug, Drop, Error)]
+pub enum TypeFault {
+    /// The name stands for nothing.
+    #[error("unknown")]
+    Unknown {
+        name: Name,
+        source: u32,
+        offset: u32,
+    },
+    /// The name is declared twice, or can't be declared.
+    #[error("duplicate")]
+    Duplicate {
+        name: Name,
+        source: u32,
+        offset: u32,
+    },
+    /// The type is another one than is wanted.
+    #[error("mismatch")]
+    Mismatch {
+        name: Name,
+        source: u32,
+        offset: u32,
+    },
+    /// There are more or fewer arguments than declared.
+    #[error("arity")]
+    Arity {
+        name: Name,
+        source: u32,
+        offset: u32,
+    },
+    /// A type argument is neither written nor found.
+    #[error("cannot infer")]
+    CannotInfer {
+        name: Name,
+        source: u32,
+        offset: u32,
+    },
+    /// The type has no finite value.
+    #[error("uninhabited")]
+    Uninhabited {
+        name: Name,
+        source: u32,
+        offset: u32,
+    },
+    /// A condition, a guard, a precondition or a postcondition isn't Boolean.
+    #[error("not a boolean")]
+    NotABoolean {
+        name: Name,
+        source: u32,
+        offset: u32,
+    },
+    /// There are more constructors, parameters, fields or type parameters than allowed.
+    #[error("over limit")]
+    OverLimit {
+        name: Name,
+        source: u32,
+        offset: u32,
+    },
+    /// Memory was wanting.
+    #[error("out of memory")]
+    Memory,
+}
+
+/// The refusal for a broken rule.
+pub fn type_fault(fault: Fault) -> TypeFault
+    ensures { IsKindOf result fault }
+{
+    let Fault {
+        rule,
+        name,
+        source,
+        at,
+    } = fault;
+    let offset = at;
+    match rule {
+        Rule::Unknown => TypeFault::Unknown {
+            name,
+            source,
+            offset,
+        },
+        Rule::Duplicate => TypeFault::Duplicate {
+            name,
+            source,
+            offset,
+        },
+        Rule::Mismatch => TypeFault::Mismatch {
+            name,
+            source,
+            offset,
+        },
+        Rule::Arity => TypeFault::Arity {
+            name,
+            source,
+            offset,
+        },
+        Rule::CannotInfer => TypeFault::CannotInfer {
+            name,
+            source,
+            offset,
+        },
+        Rule::Uninhabited => TypeFault::Uninhabited {
+            name,
+            source,
+            offset,
+        },
+        Rule::NotABoolean => TypeFault::NotABoolean {
+            name,
+            source,
+            offset,
+        },
+        Rule::OverLimit => TypeFault::OverLimit {
+            name,
+            source,
+            offset,
+        },
+    }
+}

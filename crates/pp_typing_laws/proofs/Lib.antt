@@ -1,0 +1,9 @@
+pub mod BodyStands
+pub mod Complete
+pub mod Faulty
+pub mod Functions
+pub mod Patterns
+pub mod Sound
+pub mod Stands
+pub mod Steps
+pub mod WrittenSorts

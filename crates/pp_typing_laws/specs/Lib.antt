@@ -1,0 +1,3 @@
+pub mod BodyFaults
+pub mod Faults
+pub mod Laws
