@@ -13,12 +13,12 @@ sample() {
     local process parent line words crate kind place
     for process in /proc/[0-9]*; do
         mapfile -d '' -t words 2> /dev/null < "$process/cmdline" || continue
-        [[ ${words[0]:-} == */rattle && ${words[1]:-} == check ]] || continue
+        [[ ${words[0]:-} == */rattle && ${words[1]:-} =~ ^(check|build)$ ]] || continue
         line=$(< "$process/stat") 2> /dev/null || continue
         line=${line##*) }
         read -ra fields <<< "$line"
         parent=$(tr '\0' ' ' 2> /dev/null < "/proc/${fields[1]}/cmdline") || continue
-        [[ $parent == */rattle\ check* ]] && continue
+        [[ $parent =~ /rattle\ (check|build) ]] && continue
         crate=${words[3]}
         place=$(readlink "$process/cwd") || continue
         kind=proof
