@@ -1,0 +1,6 @@
+pub mod Parts
+pub mod Mentioned
+pub mod Fed
+pub mod Kept
+pub mod Grown
+pub mod Pieces
