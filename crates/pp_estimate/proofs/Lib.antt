@@ -1,0 +1,10 @@
+pub mod Sums
+pub mod Rows
+pub mod Merged
+pub mod Width
+pub mod Bound
+pub mod Visited
+pub mod Parts
+pub mod Calling
+pub mod Totals
+pub mod Singles

@@ -1,0 +1,121 @@
+//! The estimate of a round.
+
+ghost use Rattle.std.specs.Prelude.{◌≡◌, ◌<◌, ◌≤◌, IfOk, OnOk, length, true};
+ghost use Rattle.pp_prog.specs.Sorts.{param_sorts};
+ghost use Rattle.pp_checks.specs.Plan.{IsPlanOf};
+ghost use Rattle.pp_estimate.specs.Counted.{AllTrue};
+ghost use Rattle.pp_estimate.specs.Estimates as spec;
+ghost use Rattle.pp_estimate.specs.Cut.{cut};
+
+use crate::NoMemory;
+use crate::instances::instances_of;
+use crate::memo::Known;
+use crate::place::Place;
+use crate::shape::{Shape, Shapes, height_in};
+use crate::sizes::size_of;
+use crate::visit::frame_of;
+use pp_checks::Plan;
+use pp_list::{Items, at};
+use pp_prog::{CheckId, Function, Param, Program, TypeTable};
+use std::alloc::Global;
+
+/// The estimate of a round of the check, at this depth: at most how large its circuit is. Each sum and product is
+/// cut at the greatest number of 64 bits. The only error is want of memory.
+pub fn estimate(
+    alloc: Global,
+    program: &Program,
+    plan: &Plan,
+    check: CheckId,
+    round: u32,
+    depth: u32,
+) -> Result<u64, NoMemory>
+    requires plan { IsPlanOf plan.now program.now }
+    requires check { check.0 < length program.now.checks }
+    requires round { round ≤ 12 }
+    requires depth { (1 ≤ depth) × (depth ≤ 6) }
+    ensures { IfOk result (λ e. e ≡ spec.estimate program.now.types program.now.functions program.now.checks check.0 round depth) }
+{
+    let functions = program.functions.as_slice();
+    let f = plan.checks()[check.0 as usize].function;
+    match at(functions, f.0 as usize) {
+        None => Ok(0),
+        Some(f) => rounds(alloc, program.types(), functions, f, round, depth),
+    }
+}
+
+/// The rounds from 0 to the last, together.
+pub(crate) fn rounds(
+    alloc: Global,
+    types: &TypeTable,
+    functions: &[Function],
+    f: &Function,
+    last: u32,
+    depth: u32,
+) -> Result<u64, NoMemory>
+    requires { last ≤ 12 }
+    ensures { IfOk result (λ e. e ≡ cut (spec.rounds types.now functions.now f.now last depth)) }
+{
+    let mut memo = Items::new(alloc);
+    let mut total = 0u64;
+    for round in 0..last + 1 {
+        let place = Place {
+            types,
+            functions,
+            fuel: round,
+            own: true,
+        };
+        total = total.saturating_add(single(alloc, place, &mut memo, f, depth)?);
+    }
+    Ok(total)
+}
+
+/// One round by itself.
+fn single(
+    alloc: Global,
+    place: Place<'_>,
+    memo: &mut Items<Known>,
+    f: &Function,
+    depth: u32,
+) -> Result<u64, NoMemory>
+    requires memo { AllTrue place.types.now place.functions.now memo.old }
+    requires own { place.own ≡ true }
+    ensures single { IfOk result (λ e. e ≡ cut (spec.single place.entry.types.now place.entry.functions.now f.now place.entry.fuel depth)) }
+    ensures sound { OnOk result (AllTrue place.entry.types.now place.entry.functions.now memo.new) }
+{
+    let args = shapes_to(alloc, depth, f.params.as_slice())?;
+    let frame = frame_of(alloc, place, memo, f, args.as_slice())?;
+    let inputs = inputs_of(alloc, place.types, depth, f.params.as_slice())?;
+    let own = inputs.saturating_add(frame.counts.work).saturating_mul(2);
+    Ok(own.saturating_add(instances_of(place.types, place.functions, &frame.counts)))
+}
+
+/// The shapes of parameters up to a depth.
+fn shapes_to(alloc: Global, depth: u32, params: &[Param]) -> Result<Shapes, NoMemory>
+    ensures { IfOk result (λ shapes. shapes ≡ spec.shapes_to depth (param_sorts params.now)) }
+{
+    let mut shapes = Items::new(alloc);
+    for p in params {
+        shapes.push(Shape {
+            sort: p.sort,
+            height: height_in(p.sort, depth as u64),
+        })?;
+    }
+    Ok(shapes)
+}
+
+/// The inputs of the arguments.
+fn inputs_of(
+    alloc: Global,
+    types: &TypeTable,
+    depth: u32,
+    params: &[Param],
+) -> Result<u64, NoMemory>
+    ensures { IfOk result (λ n. n ≡ cut (spec.inputs types.now depth (param_sorts params.now))) }
+{
+    let mut total = 0u64;
+    for p in params {
+        let size = size_of(alloc, types, p.sort, depth as u64)?;
+        total = total.saturating_add(size.bits.saturating_add(32).saturating_mul(4));
+    }
+    Ok(total)
+}

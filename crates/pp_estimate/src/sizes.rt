@@ -1,0 +1,199 @@
+//! How large the values of sorts are. Each sum is cut at the greatest number.
+
+ghost use Rattle.std.specs.Prelude.{◌≡◌, ◌+◌, IfOk, OnOk, map, sum};
+ghost use Rattle.pp_prog.specs.Calls.{joined};
+ghost use Rattle.pp_prog.specs.declared.sort.Sort.TheVariants as sort;
+ghost use Rattle.pp_prog.specs.Sizes.{flat, sorts_in_ctor, width};
+ghost use Rattle.pp_prog.specs.Sorts.{param_sorts};
+ghost use Rattle.pp_estimate.specs.Bounds.{full_row, size, sizes};
+ghost use Rattle.pp_estimate.specs.Cut.{cut};
+ghost use Rattle.pp_estimate.specs.Estimates.{widths};
+
+use crate::NoMemory;
+use pp_checks::ctors_of;
+use pp_list::Items;
+use pp_prog::{Ctor, DataId, Function, Param, Sort, TypeTable};
+use std::alloc::Global;
+
+/// The bits and the nodes of a block that holds every value of a sort up to a height.
+#[derive(Clone, Copy, PartialEq, Eq, Debug)]
+pub(crate) struct Size {
+    pub bits: u64,
+    pub nodes: u64,
+}
+
+/// The size of a number.
+const INT: Size = Size { bits: 32, nodes: 0 };
+
+/// The size of a truth value.
+const BOOL: Size = Size { bits: 1, nodes: 0 };
+
+impl Size {
+    fn add(self, more: Size) -> Size
+        ensures { result ≡ record { bits = cut (self.bits + more.bits); nodes = cut (self.nodes + more.nodes) } }
+    {
+        Size {
+            bits: self.bits.saturating_add(more.bits),
+            nodes: self.nodes.saturating_add(more.nodes),
+        }
+    }
+}
+
+/// The sizes of the values of each datatype up to one height, in the table's order.
+type Row = Items<Size>;
+
+/// The size of the values of the sort up to a height. It makes a row for each height, of the row below. The only
+/// error is want of memory.
+pub(crate) fn size_of(
+    alloc: Global,
+    types: &TypeTable,
+    s: Sort,
+    height: u64,
+) -> Result<Size, NoMemory>
+    ensures { IfOk result (λ z. z ≡ size types.now height s) }
+{
+    match s {
+        Sort::Int => Ok(INT),
+        Sort::Bool => Ok(BOOL),
+        Sort::Tree(_) => {
+            let row = row_at(alloc, types, height)?;
+            Ok(size_in(types, row.as_slice(), height, s))
+        }
+    }
+}
+
+/// The sizes up to a height.
+fn row_at(alloc: Global, types: &TypeTable, height: u64) -> Result<Row, NoMemory>
+    ensures { IfOk result (λ row. row ≡ full_row types.now height) }
+{
+    let mut row = lowest(alloc, types)?;
+    for h in 0..height {
+        row = next_row(alloc, types, row.as_slice(), h)?;
+    }
+    Ok(row)
+}
+
+/// The sizes up to the height 0, which no tree has.
+fn lowest(alloc: Global, types: &TypeTable) -> Result<Row, NoMemory>
+    ensures { IfOk result (λ row. row ≡ full_row types.now 0) }
+{
+    let mut row = Items::new(alloc);
+    for d in 0..types.datatypes.len() {
+        row.push(Size { bits: 0, nodes: 0 })?;
+    }
+    Ok(row)
+}
+
+/// The sizes up to one more than this height, for which the sizes are given.
+fn next_row(alloc: Global, types: &TypeTable, below: &[Size], height: u64) -> Result<Row, NoMemory>
+    requires { below.now ≡ full_row types.now height }
+    ensures { IfOk result (λ row. row ≡ full_row types.now (height + 1)) }
+{
+    let mut row = Items::new(alloc);
+    for d in 0..types.datatypes.len() {
+        row.push(higher_size(types, below, height, DataId(d as u32)))?;
+    }
+    Ok(row)
+}
+
+/// The size of the values of a datatype, up to one more than this height.
+fn higher_size(types: &TypeTable, below: &[Size], height: u64, d: DataId) -> Size
+    requires { below.now ≡ full_row types.now height }
+    ensures { result ≡ size types.now (height + 1) (sort.Tree d) }
+{
+    let ctors = ctors_of(types, d);
+    let own = Size {
+        bits: ctors.len() as u64,
+        nodes: 1,
+    };
+    own.add(size_of_fields(types, below, height, ctors))
+}
+
+/// The size of all fields of these constructors.
+fn size_of_fields(types: &TypeTable, row: &[Size], height: u64, ctors: &[Ctor]) -> Size
+    requires { row.now ≡ full_row types.now height }
+    ensures { result ≡ sizes types.now height (joined (map sorts_in_ctor ctors.now)) }
+{
+    let mut total = Size { bits: 0, nodes: 0 };
+    for c in ctors {
+        total = total.add(size_of_all(types, row, height, c.fields.as_slice()));
+    }
+    total
+}
+
+/// The size of values of these sorts, together.
+fn size_of_all(types: &TypeTable, row: &[Size], height: u64, sorts: &[Sort]) -> Size
+    requires { row.now ≡ full_row types.now height }
+    ensures { result ≡ sizes types.now height sorts.now }
+{
+    let mut total = Size { bits: 0, nodes: 0 };
+    for s in sorts {
+        total = total.add(size_in(types, row, height, *s));
+    }
+    total
+}
+
+/// The size of the values of a sort, where those of the datatypes stand in a row.
+fn size_in(types: &TypeTable, row: &[Size], height: u64, s: Sort) -> Size
+    requires { row.now ≡ full_row types.now height }
+    ensures { result ≡ size types.now height s }
+{
+    match s {
+        Sort::Int => INT,
+        Sort::Bool => BOOL,
+        Sort::Tree(d) => {
+            if (d.0 as usize) < types.datatypes.len() {
+                row[d.0 as usize]
+            } else {
+                Size {
+                    bits: 0,
+                    nodes: height.min(1),
+                }
+            }
+        }
+    }
+}
+
+fn width_of(s: Sort) -> u64
+    ensures { result ≡ width s }
+{
+    match s {
+        Sort::Int => 32,
+        Sort::Bool => 1,
+        Sort::Tree(_) => 32,
+    }
+}
+
+/// The widths of these sorts, together.
+fn widths_of(sorts: &[Sort]) -> u64
+    ensures { result ≡ cut (sum (map width sorts.now)) }
+{
+    let mut total = 0u64;
+    for s in sorts {
+        total = total.saturating_add(width_of(*s));
+    }
+    total
+}
+
+/// The bits of a node of the datatype whose fields have names.
+pub(crate) fn flat_of(types: &TypeTable, d: DataId) -> u64
+    ensures { result ≡ cut (flat types.now d) }
+{
+    let ctors = ctors_of(types, d);
+    let mut total = ctors.len() as u64;
+    for c in ctors {
+        total = total.saturating_add(widths_of(c.fields.as_slice()));
+    }
+    total
+}
+
+/// The widths of the parameters and the result of the function.
+pub(crate) fn function_widths(f: &Function) -> u64
+    ensures { result ≡ cut (widths f.now) }
+{
+    let mut total = width_of(f.result);
+    for p in f.params.as_slice() {
+        total = total.saturating_add(width_of(p.sort));
+    }
+    total
+}

@@ -1,0 +1,98 @@
+//! What operators, choices and nodes weigh besides, and what the comparison of a measure's component weighs.
+
+ghost use Rattle.std.specs.Prelude.{◌≡◌, ◌+◌, ◌*◌, IfOk, OnOk};
+ghost use Rattle.pp_prog.specs.Sizes.{bits, nodes};
+ghost use Rattle.pp_estimate.specs.Cut.{cut};
+ghost use Rattle.pp_estimate.specs.Visits as spec;
+
+use crate::NoMemory;
+use crate::shape::Shape;
+use crate::sizes::size_of;
+use pp_prog::{BinaryOp, Sort, TypeTable, UnaryOp};
+use std::alloc::Global;
+
+/// What the comparison of an Int component weighs.
+pub(crate) const COMPARED_INT: u64 = 1024;
+
+/// What a literal in a pattern weighs besides its node.
+pub(crate) const LITERAL: u64 = 128;
+
+/// What a call weighs that has no fuel left.
+pub(crate) const UNFINISHED: u64 = 32;
+
+pub(crate) fn unary_extra(op: UnaryOp) -> u64
+    ensures { result ≡ spec.unary_extra op }
+{
+    match op {
+        UnaryOp::Neg => 256,
+        UnaryOp::Not => 0,
+        UnaryOp::Flip => 64,
+    }
+}
+
+fn bits_extra(s: Sort) -> u64
+    ensures { result ≡ spec.bits_extra s }
+{
+    match s {
+        Sort::Int => 64,
+        Sort::Bool | Sort::Tree(_) => 0,
+    }
+}
+
+fn equality_extra(alloc: Global, types: &TypeTable, a: Shape, b: Shape) -> Result<u64, NoMemory>
+    ensures { IfOk result (λ n. n ≡ cut (spec.equality_extra types.now a b)) }
+{
+    let size = size_of(alloc, types, a.sort, a.height.max(b.height))?;
+    Ok(size.bits.saturating_add(32).saturating_mul(4))
+}
+
+/// What an operator weighs besides its node.
+pub(crate) fn binary_extra(
+    alloc: Global,
+    types: &TypeTable,
+    op: BinaryOp,
+    a: Shape,
+    b: Shape,
+) -> Result<u64, NoMemory>
+    ensures { IfOk result (λ n. n ≡ cut (spec.binary_extra types.now op a b)) }
+{
+    match op {
+        BinaryOp::Add | BinaryOp::Sub => Ok(256),
+        BinaryOp::Less | BinaryOp::AtMost | BinaryOp::More | BinaryOp::AtLeast => Ok(256),
+        BinaryOp::Mul => Ok(8192),
+        BinaryOp::Div | BinaryOp::Rem => Ok(16384),
+        BinaryOp::Equal | BinaryOp::Differ => equality_extra(alloc, types, a, b),
+        BinaryOp::AndAlso | BinaryOp::OrElse => Ok(0),
+        BinaryOp::And | BinaryOp::Or | BinaryOp::Xor => Ok(bits_extra(a.sort)),
+        BinaryOp::Shl | BinaryOp::Shr | BinaryOp::Ushr => Ok(512),
+    }
+}
+
+/// What a choice between values of this sort weighs, up to a height.
+pub(crate) fn choice_extra(
+    alloc: Global,
+    types: &TypeTable,
+    s: Sort,
+    height: u64,
+) -> Result<u64, NoMemory>
+    ensures { IfOk result (λ n. n ≡ cut (spec.choice_extra types.now s height)) }
+{
+    let size = size_of(alloc, types, s, height)?;
+    Ok(size.bits.saturating_add(32))
+}
+
+/// What the comparison of a datatype's component weighs.
+pub(crate) fn descent_weight(
+    alloc: Global,
+    types: &TypeTable,
+    new: Shape,
+    old: u64,
+) -> Result<u64, NoMemory>
+    ensures { IfOk result (λ n. n ≡ cut (64 + 4 * (32 + bits types.now new.height new.sort) * (1 + nodes types.now old new.sort))) }
+{
+    let size = size_of(alloc, types, new.sort, new.height)?;
+    let old_size = size_of(alloc, types, new.sort, old)?;
+    let equal = size.bits.saturating_add(32).saturating_mul(4);
+    let nodes = old_size.nodes.saturating_add(1);
+    Ok(equal.saturating_mul(nodes).saturating_add(64))
+}
