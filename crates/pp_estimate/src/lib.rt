@@ -14,4 +14,5 @@ mod visit;
 mod weights;
 
 pub use estimating::estimate;
+pub use shape::Shape;
 pub use std::alloc::AllocError as NoMemory;

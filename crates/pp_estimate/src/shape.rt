@@ -11,7 +11,7 @@ use pp_prog::{Ctor, CtorId, Sort, UnaryOp};
 
 /// What is known of a value: its sort, and how high it is at most. Numbers and truth values have the height 0.
 #[derive(Clone, Copy, PartialEq, Eq, Debug)]
-pub(crate) struct Shape {
+pub struct Shape {
     pub sort: Sort,
     pub height: u64,
 }

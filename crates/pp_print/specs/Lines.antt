@@ -28,6 +28,11 @@ check_text kind place = kind_text kind ++ (codes " at " ++ place_text place)
 abbrev pub valid_text : Text → ℕ → Text
 valid_text name checks = name ++ (codes ": valid, " ++ (decimal checks ++ codes " checks\n"))
 
+-- `NAME: depends on OTHER, K checks`
+abbrev pub depends_text : Text → Text → ℕ → Text
+depends_text name other checks =
+    name ++ (codes ": depends on " ++ (other ++ (codes ", " ++ (decimal checks ++ codes " checks\n"))))
+
 -- `NAME: invalid, KIND at S:L:C, x = V, y = W`
 abbrev pub invalid_text : List Ctor → Text → CheckKind → Place → List Param → List Value → Text
 invalid_text ctors name kind place params values =
@@ -36,4 +41,6 @@ invalid_text ctors name kind place params values =
 -- `V valid, I invalid, O open, D depending`
 abbrev pub summary_text : ℕ → ℕ → ℕ → ℕ → Text
 summary_text valid invalid undecided depending =
-    decimal valid ++ (codes " valid, " ++ (decimal invalid ++ (codes " invalid, " ++ (decimal undecided ++ (codes " open, " ++ (decimal depending ++ codes " depending\n"))))))
+    decimal valid ++ (codes " valid, " ++
+    (decimal invalid ++ (codes " invalid, " ++
+    (decimal undecided ++ (codes " open, " ++ (decimal depending ++ codes " depending\n"))))))

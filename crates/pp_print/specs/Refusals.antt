@@ -8,7 +8,8 @@ too_long_text source = codes "refused: too long source " ++ (decimal source ++ c
 
 -- at this byte of the source, from 0, no character begins
 abbrev pub not_utf8_text : ℕ → ℕ → Text
-not_utf8_text offset source = codes "refused: not utf-8 at byte " ++ (decimal offset ++ (codes " of source " ++ (decimal source ++ codes "\n")))
+not_utf8_text offset source = codes "refused: not utf-8 at byte " ++
+    (decimal offset ++ (codes " of source " ++ (decimal source ++ codes "\n")))
 
 -- the sources have a form that the program doesn't read
 abbrev pub other_form_text : Text

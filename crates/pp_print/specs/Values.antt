@@ -1,6 +1,7 @@
 -- How values print, and the arguments of a function. Source: Scala Language Specification 6.1 for a literal and 6.6 for
 -- an application; the empty name of a constructor that isn't there is own.
-use Rattle.std.specs.Prelude.{ℕ, Bool, true, false, List, [], ◌∷◌, ◌++◌, Option, Some, None, map, codes, slice_get, cond}
+use Rattle.std.specs.Prelude.{ℕ, Bool, true, false, List, [], ◌∷◌, ◌++◌, Option, Some, None, map, codes, slice_get}
+use Rattle.std.specs.Prelude.{cond}
 use Rattle.std.specs.Fmt.{signed_decimal}
 use Rattle.std.specs.List.{concat, zip}
 use Rattle.pp_prog.specs.declared.expr.Param.{Param}

@@ -1,23 +1,32 @@
 //! The texts that the program writes, line by line, and putting them.
 //!
-//! Each line is made whole, with the newline that ends it, before anything is put: `valid_line`, `invalid_line` and
-//! `summary_line` speak of verdicts, and the others say why there is none. `put_lines` then puts each line as one piece.
-//! `specs/Values.antt` says how values print, `specs/Lines.antt` and `specs/Refusals.antt` what the bytes of each line
-//! are, and `specs/Puts.antt` what lines leave that are put in part. The bytes are a promise to whoever reads them; how a
-//! line is made may change freely.
+//! Each line is made whole, with the newline that ends it, before anything is put: `line` has those on verdicts, `run`
+//! those on a run, `list` those of a list of checks, `fault` those on faults of sources, and `refusal` those on why
+//! else there is no answer. `put_lines` then puts each line as one piece. `specs/Values` says how values print,
+//! `specs/Lines`, `Runs`, `Listed`, `Faults` and `Refusals` what the bytes of each line are, and `specs/Puts` what lines
+//! leave that are put in part. The bytes are a promise to whoever reads them; how a line is made may change freely.
 #![tactic(auto)]
 
+mod check;
+mod fault;
 mod line;
+mod list;
 mod put;
 mod refusal;
+mod run;
 mod value;
 
-pub use line::{invalid_line, summary_line, valid_line};
+pub use fault::{
+    NamedFault, SourceFault, named_fault_line, source_fault_line, too_many_instances_line,
+};
+pub use line::{depends_line, invalid_line, summary_line, valid_line};
+pub use list::{count_line, estimate_line};
 pub use put::put_lines;
 pub use refusal::{
     memory_line, not_utf8_line, other_form_line, read_fault_line, too_long_line, words_line,
     write_fault_line,
 };
+pub use run::{deep_line, done_line, fails_line, inner_line, outside_line};
 
 #[cfg(test)]
 mod tests;

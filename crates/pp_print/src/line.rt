@@ -1,39 +1,13 @@
-// The lines on the verdicts.
+//! The lines on the verdicts.
 
-ghost use Rattle.std.specs.Prelude.{◌≡◌, ◌++◌, IfOk, OnOk, string_bytes};
-ghost use Rattle.pp_print.specs.Lines.{check_text, invalid_text, kind_text, summary_text, valid_text};
+ghost use Rattle.std.specs.Prelude.{◌≡◌, IfOk, string_bytes};
+ghost use Rattle.pp_print.specs.Lines.{depends_text, invalid_text, summary_text, valid_text};
 
+use crate::check::push_check;
 use crate::value::push_arguments;
 use pp_prog::{CheckKind, Ctor, Param, Place, Value};
 use pp_text::NoMemory;
 use std::alloc::Global;
-
-/// The word for a kind of check. It takes no memory.
-fn kind_word(kind: CheckKind) -> &'static str
-    ensures { result.now ≡ kind_text kind }
-{
-    match kind {
-        CheckKind::Precondition => "precondition",
-        CheckKind::Postcondition => "postcondition",
-        CheckKind::Match => "match",
-        CheckKind::Division => "division",
-        CheckKind::Measure => "measure",
-        CheckKind::Assertion => "assertion",
-    }
-}
-
-/// Adds `KIND at S:L:C`.
-fn push_check(out: &mut String, kind: CheckKind, place: Place) -> Result<(), NoMemory>
-    ensures { OnOk result (string_bytes out.new ≡ string_bytes out.old ++ check_text kind place) }
-{
-    let word = kind_word(kind);
-    let Place {
-        source,
-        line,
-        column,
-    } = place;
-    write!(out, "{word} at {source}:{line}:{column}")
-}
 
 /// The line `NAME: valid, K checks` of a valid function, with the number of its own checks. The word is `checks` also
 /// after 1. The only error is want of memory.
@@ -41,6 +15,14 @@ pub fn valid_line(alloc: Global, name: &str, checks: u32) -> Result<String, NoMe
     ensures { IfOk result (λ s. string_bytes s ≡ valid_text name.now checks) }
 {
     format!(in alloc; "{name}: valid, {checks} checks\n")
+}
+
+/// The line `NAME: depends on OTHER, K checks` of a function whose own checks are done, where those of another that it
+/// calls aren't. The only error is want of memory.
+pub fn depends_line(alloc: Global, name: &str, other: &str, checks: u32) -> Result<String, NoMemory>
+    ensures { IfOk result (λ s. string_bytes s ≡ depends_text name.now other.now checks) }
+{
+    format!(in alloc; "{name}: depends on {other}, {checks} checks\n")
 }
 
 /// The line `NAME: invalid, KIND at S:L:C, x = V, y = W` of a function that fails the check of this kind at this place,

@@ -1,4 +1,4 @@
-// Putting lines.
+//! Putting lines.
 
 ghost use Rattle.std.specs.Prelude.{◌≡◌, ◌≤◌, OnOk, OnErr, map, string_bytes};
 ghost use Rattle.std.specs.Io.KnownBytes.{Appends};
@@ -13,15 +13,16 @@ use pp_seam::{PutFault, Sink};
 ///
 /// # Errors
 ///
-/// `Failed` where a put failed, and so the sink's count of faults rose. Then the lines before this one were taken whole,
-/// of this one a front was taken, and nothing was put after it.
+/// `Failed` where a put failed, and so the sink's count of faults rose. Then the lines before this one were taken
+/// whole, of this one a front was taken, and nothing was put after it.
 pub fn put_lines<K: Sink>(out: &mut K, lines: &[String]) -> Result<(), PutFault>
     ensures whole { OnOk result (Appends (K.taken out.old) (K.taken out.new) (concat (map string_bytes lines.now))) }
     ensures steady { OnOk result (K.faults out.new ≡ K.faults out.old) }
 
     // on a fault
     ensures front { OnErr result (IsCut (map string_bytes lines.now) (K.taken out.old) (K.taken out.new)) }
-    ensures prefix { OnErr result (AppendsFront (K.taken out.old) (K.taken out.new) (concat (map string_bytes lines.now))) }
+    ensures prefix { OnErr result (AppendsFront (K.taken out.old) (K.taken out.new)
+        (concat (map string_bytes lines.now))) }
     ensures cause { OnErr result (Rose (K.faults out.old) (K.faults out.new)) }
 
     ensures later { K.faults out.old ≤ K.faults out.new }

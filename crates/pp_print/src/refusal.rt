@@ -1,7 +1,8 @@
-// The lines on why there is no verdict.
+//! The lines on why there is no verdict.
 
 ghost use Rattle.std.specs.Prelude.{◌≡◌, IfOk, string_bytes};
-ghost use Rattle.pp_print.specs.Refusals.{memory_text, not_utf8_text, other_form_text, read_fault_text, too_long_text, words_text, write_fault_text};
+ghost use Rattle.pp_print.specs.Refusals.{memory_text, not_utf8_text, other_form_text, read_fault_text};
+ghost use Rattle.pp_print.specs.Refusals.{too_long_text, words_text, write_fault_text};
 
 use pp_text::NoMemory;
 use std::alloc::Global;

@@ -317,3 +317,55 @@ fn puts(rt: HostRuntime) -> Result<(), Fail> {
     assert_eq!(rt; out.puts, 0);
     Ok(())
 }
+
+/// The lines on a run.
+#[test]
+fn runs(rt: HostRuntime) -> Result<(), Fail> {
+    let alloc = rt.alloc();
+    let kind = CheckKind::Division;
+    let done = done_line(alloc, &ctors(alloc)?, "edge", &Value::Int(-1))?;
+    assert_eq!(rt; done.as_str(), "edge = -1\n");
+    let fails = fails_line(alloc, "s", CheckKind::Match, PLACE)?;
+    assert_eq!(rt; fails.as_str(), "s fails match at 1:2:51\n");
+    let inner = inner_line(alloc, "y", "z", kind, PLACE)?;
+    assert_eq!(rt; inner.as_str(), "y fails inside z, division at 1:2:51\n");
+    Ok(())
+}
+
+/// The lines on a run that ends without a value or a failure, and those of a list.
+#[test]
+fn other_ends_and_lists(rt: HostRuntime) -> Result<(), Fail> {
+    let alloc = rt.alloc();
+    assert_eq!(rt;
+        outside_line(alloc, "f")?.as_str(),
+        "f is outside its precondition\n"
+    );
+    assert_eq!(rt;
+        deep_line(alloc, "go", 5)?.as_str(),
+        "go needs more than 5 nested calls\n"
+    );
+    assert_eq!(rt; count_line(alloc, "f", 1)?.as_str(), "f: 1 checks\n");
+    let estimate = estimate_line(alloc, CheckKind::Postcondition, PLACE, 4288)?;
+    assert_eq!(rt;
+        estimate.as_str(),
+        "  postcondition at 1:2:51, estimate 4288\n"
+    );
+    Ok(())
+}
+
+/// The lines on faults of sources, and on a function that depends on another.
+#[test]
+fn faults(rt: HostRuntime) -> Result<(), Fail> {
+    let alloc = rt.alloc();
+    let syntax = source_fault_line(alloc, SourceFault::Syntax, PLACE)?;
+    assert_eq!(rt; syntax.as_str(), "refused: syntax at 1:2:51\n");
+    let cycle = named_fault_line(alloc, NamedFault::ContractCycle, "f[Int]", PLACE)?;
+    assert_eq!(rt;
+        cycle.as_str(),
+        "refused: contract cycle f[Int] at 1:2:51\n"
+    );
+    assert_eq!(rt; too_many_instances_line(), "refused: too many instances\n");
+    let depends = depends_line(alloc, "f", "g", 2)?;
+    assert_eq!(rt; depends.as_str(), "f: depends on g, 2 checks\n");
+    Ok(())
+}

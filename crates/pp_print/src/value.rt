@@ -1,4 +1,4 @@
-// How values print.
+//! How values print.
 
 ghost use Rattle.std.specs.Prelude.{◌≡◌, ◌++◌, OnOk, slice_get, string_bytes, map};
 ghost use Rattle.pp_print.specs.Values.{argument_text, arguments_text, joined, tree_text, value_text};
@@ -8,7 +8,7 @@ use pp_text::NoMemory;
 
 /// Adds the text of a value: a decimal number, `true`, `false`, `Cons(3, Nil())`, or the bare name of a case object.
 #[cycle(push)]
-fn push_value(out: &mut String, ctors: &[Ctor], value: &Value) -> Result<(), NoMemory>
+pub(crate) fn push_value(out: &mut String, ctors: &[Ctor], value: &Value) -> Result<(), NoMemory>
     ensures { OnOk result (string_bytes out.new ≡ string_bytes out.old ++ value_text ctors.now value.now) }
 {
     match value {
@@ -42,7 +42,8 @@ fn push_tree(out: &mut String, ctors: &[Ctor], ctor: u32, fields: &[Value]) -> R
 /// Adds the texts of values, with a comma between two.
 #[cycle(push)]
 fn push_values(out: &mut String, ctors: &[Ctor], values: &[Value]) -> Result<(), NoMemory>
-    ensures { OnOk result (string_bytes out.new ≡ string_bytes out.old ++ joined (map (value_text ctors.now) values.now)) }
+    ensures { OnOk result (string_bytes out.new ≡ string_bytes out.old ++ joined
+        (map (value_text ctors.now) values.now)) }
 {
     if let [first, rest @ ..] = values {
         push_value(out, ctors, first)?;
@@ -61,7 +62,8 @@ fn push_argument(
     param: &Param,
     value: &Value,
 ) -> Result<(), NoMemory>
-    ensures { OnOk result (string_bytes out.new ≡ string_bytes out.old ++ argument_text ctors.now (param.now, value.now)) }
+    ensures { OnOk result (string_bytes out.new ≡ string_bytes out.old ++ argument_text ctors.now
+        (param.now, value.now)) }
 {
     let name = param.name.as_str();
     write!(out, ", {name} = ")?;
@@ -75,7 +77,8 @@ pub(crate) fn push_arguments(
     params: &[Param],
     values: &[Value],
 ) -> Result<(), NoMemory>
-    ensures { OnOk result (string_bytes out.new ≡ string_bytes out.old ++ arguments_text ctors.now params.now values.now) }
+    ensures { OnOk result (string_bytes out.new ≡ string_bytes out.old ++ arguments_text ctors.now params.now
+        values.now) }
 {
     for (param, value) in params.iter().zip(values) {
         push_argument(out, ctors, param, value)?;

@@ -1,0 +1,5 @@
+pub mod Command
+pub mod Number
+pub mod Task
+pub mod Line
+pub mod Told

@@ -1,0 +1,59 @@
+//! Tries lines of words, one a line of standard input, and prints what each asks. What the answers must be was worked out
+//! apart from the program: `stdout` has it.
+//!
+//! Words stand apart by blanks; `''` is the empty word. The answer is `refused`, or the task with its numbers, and the paths.
+#![tactic(auto)]
+
+use anyhow::Result;
+use pp_words::{Line, Task, WordsFault, read};
+use std::alloc::Global;
+use std::io::{BufRead, BufReader};
+
+fn words<'a>(alloc: Global, line: &'a str) -> Result<Vec<&'a str>> {
+    let mut words = Vec::new(alloc);
+    for word in line.split_whitespace() {
+        words.push(if word == "''" { "" } else { word })?;
+    }
+    Ok(words)
+}
+
+fn task(alloc: Global, task: Task) -> Result<String> {
+    Ok(match task {
+        Task::Verify {
+            rounds,
+            depth,
+            lemmas,
+            gates,
+        } => format!(in alloc; "verify {rounds} {depth} {lemmas} {gates}")?,
+        Task::List { rounds, depth } => format!(in alloc; "list {rounds} {depth}")?,
+        Task::Run { function, fuel } => format!(in alloc; "run ({function}) {fuel}")?,
+    })
+}
+
+fn told(alloc: Global, line: &Line) -> Result<String> {
+    let mut text = task(alloc, line.task)?;
+    for file in &line.files {
+        text.push_str(" ")?;
+        text.push_str(if file.is_empty() { "''" } else { file })?;
+    }
+    Ok(text)
+}
+
+fn answer(alloc: Global, line: &str) -> Result<String> {
+    let words = words(alloc, line)?;
+    match read(alloc, &words) {
+        Ok(line) => told(alloc, &line),
+        Err(WordsFault::Refused) => Ok(String::from_str(alloc, "refused")?),
+        Err(WordsFault::Memory) => Ok(String::from_str(alloc, "memory")?),
+    }
+}
+
+fn main(rt: HostRuntime) -> Result<()> {
+    let alloc = rt.alloc();
+    for line in BufReader::new(alloc, rt.reader())?.lines(alloc) {
+        let line = line?;
+        let answer = answer(alloc, line.as_str())?;
+        println!(rt; "{answer}")?;
+    }
+    Ok(())
+}
