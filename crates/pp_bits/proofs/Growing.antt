@@ -4,7 +4,7 @@ use Rattle.std.proofs.lemmas.List.Elements.{All-push, All-nil}
 use Rattle.pp_clause.specs.Literal.{Literal, opposite}
 use Rattle.pp_gate.specs.declared.gate.Gate.{Gate}
 use Rattle.pp_gate.specs.Circuit.{IsOf, IsCircuit, Gives}
-use Rattle.pp_gate.specs.Growth.{Grows, NoNewInput}
+use Rattle.pp_gate.specs.Growth.{Grows, AddsGates}
 use Rattle.pp_gate.proofs.Agreement as agreement
 use Rattle.pp_gate.proofs.Growing as growing
 
@@ -23,11 +23,17 @@ Grows_weaker = growing.Grows_weaker
 pub length-Grows : (old new : List Gate) (n : ℕ) → Grows old new n → (length old ≤ length new) × (length new ≤ length old + n)
 length-Grows = growing.length-Grows
 
-pub NoNewInput_none : (gs : List Gate) → NoNewInput gs gs
-NoNewInput_none = growing.NoNewInput_none
+pub AddsGates_none : (gs : List Gate) (n : ℕ) → IsCircuit gs → AddsGates gs gs n
+AddsGates_none = growing.AddsGates_none
 
-pub NoNewInput_more : (a b c : List Gate) → NoNewInput a b → NoNewInput b c → NoNewInput a c
-NoNewInput_more = growing.NoNewInput_more
+pub AddsGates_more : (a b c : List Gate) (m n k : ℕ) → AddsGates a b m → AddsGates b c n → m + n ≤ k → AddsGates a c k
+AddsGates_more = growing.AddsGates_more
+
+pub AddsGates_weaker : (old new : List Gate) (m n : ℕ) → AddsGates old new m → m ≤ n → AddsGates old new n
+AddsGates_weaker = growing.AddsGates_weaker
+
+pub Gives_before : (old new : List Gate) (n : ℕ) → AddsGates old new n → (s : ℕ → Bool) → Gives s new → Gives s old
+Gives_before old new n adds s gives = Gives_old old new n adds.grows s gives
 
 pub IsOf_more : (old new : List Gate) (n : ℕ) (l : Literal) → Grows old new n → IsOf old l → IsOf new l
 IsOf_more = growing.IsOf_more
@@ -37,19 +43,6 @@ AreOf_more old new n ls g all = λ k x h. IsOf_more old new n (get_or ls k x) g 
 
 pub IsOf_opposite : (gs : List Gate) (l : Literal) → IsOf gs l → IsOf gs (opposite l)
 IsOf_opposite gs l of = record { least = of.least; most = of.most }
-
--- what a loop has done before its turn i: the circuit grew by at most n gates, none of them an input
-pub record Grown (old new : List Gate) (n : ℕ) : Type 0 where
-  pub grows : Grows old new n
-  pub inputs : NoNewInput old new
-  pub circuit : IsCircuit new
-
-pub Grown_none : (gs : List Gate) → IsCircuit gs → Grown gs gs 0
-Grown_none gs is = record { grows = Grows_none gs; inputs = NoNewInput_none gs; circuit = is }
-
-pub Grown_more : (a b c : List Gate) (m n k : ℕ) → Grown a b m → Grows b c n → NoNewInput b c → IsCircuit c → m + n ≤ k → Grown a c k
-Grown_more a b c m n k g grows inputs circuit le =
-    record { grows = Grows_more a b c m n k g.grows grows le; inputs = NoNewInput_more a b c g.inputs inputs; circuit = circuit }
 
 -- n literals of the circuit
 pub record Digits (gs : List Gate) (n : ℕ) (ls : List Literal) : Type 0 where

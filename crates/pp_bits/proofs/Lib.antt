@@ -5,3 +5,5 @@ pub mod Sums
 pub mod Orders
 pub mod Signs
 pub mod ByDigit
+pub mod Parts
+pub mod Chosen

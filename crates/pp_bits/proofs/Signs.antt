@@ -1,5 +1,5 @@
 -- The order of numbers in two's complement.
-use Rattle.std.proofs.Common.{◌≡◌, ℕ, suc, ◌+◌, ◌-◌, ◌*◌, ◌^◌, ◌<◌, ◌≤◌, nat_lt, Bool, true, false, if◌then◌else◌, List, length, take, get_or, refl, sym, ap, ◌∙◌, arith}
+use Rattle.std.proofs.Common.{◌≡◌, ℕ, suc, ◌+◌, ◌-◌, ◌*◌, ◌^◌, ◌<◌, ◌≤◌, nat_lt, Bool, true, false, not, if◌then◌else◌, List, length, take, get_or, refl, sym, ap, ◌∙◌, arith}
 use Rattle.std.specs.Prelude.{ℤ, pos, negsuc, neg_ℤ}
 use Rattle.std.specs.Int.{Width, w8, w16, w32, w64, w128}
 use Rattle.std.specs.Int.RustNames.{int_lt}
@@ -7,7 +7,7 @@ use mir.Val.{bits, hbits}
 use Rattle.std.proofs.lemmas.Bool.Decides.{nat_tests}
 use Rattle.std.proofs.lemmas.List.{take_all}
 use Rattle.pp_clause.specs.Literal.{Literal, lit_value}
-use Rattle.pp_gate.specs.Gate.{xor_of}
+use Rattle.pp_gate.specs.Gate.{majority_of}
 use Rattle.pp_bits.specs.Number.{bit, lit_bit, nat_of, signed_of}
 use Rattle.pp_bits.specs.Laws.{SignedByCast}
 use Rattle.pp_bits.proofs.Numbers.{nat_of_next, nat_of_first, power_next}
@@ -37,7 +37,7 @@ signed_high p q v m twice h e =
     ap (λ (b : Bool). if b then pos v else neg_ℤ (pos (q - v))) (test_false v p (omega arith)) ∙ negative (q - v) (p - m - 1) (omega arith)
 
 -- the order of two signed numbers, from that of their lower digits and their signs
-signs_less : (p q a b : ℕ) (x y : Bool) → q ≡ 2 * p → a < p → b < p → (if xor_of y x then x else nat_lt a b) ≡ int_lt (signed_at p q (a + p * bit x)) (signed_at p q (b + p * bit y))
+signs_less : (p q a b : ℕ) (x y : Bool) → q ≡ 2 * p → a < p → b < p → majority_of (not y) x (nat_lt a b) ≡ int_lt (signed_at p q (a + p * bit x)) (signed_at p q (b + p * bit y))
 signs_less p q a b true true twice ha hb =
     test_swapped p a b ha hb ∙ sym (λ j. int_lt (signed_high p q (a + p * 1) a twice ha (omega arith) j) (signed_high p q (b + p * 1) b twice hb (omega arith) j))
 signs_less p q a b true false twice ha hb =
@@ -54,13 +54,13 @@ nat_of_top s ls top x len e = ap (nat_of s) (sym (take_all (top + 1) ls (omega a
 pub less_signed_turn : (s : ℕ → Bool) (us vs : List Literal) (n top : ℕ) (x y lower next : Literal)
     → length us ≡ n → length vs ≡ n → top + 1 ≡ n → top ≡ n - 1 → x ≡ get_or us top x → y ≡ get_or vs top y
     → lit_value s lower ≡ nat_lt (nat_of s (take top us)) (nat_of s (take top vs))
-    → lit_value s next ≡ (if xor_of (lit_value s y) (lit_value s x) then lit_value s x else lit_value s lower)
+    → lit_value s next ≡ majority_of (not (lit_value s y)) (lit_value s x) (lit_value s lower)
     → lit_value s next ≡ int_lt (signed_of n (nat_of s us)) (signed_of n (nat_of s vs))
 less_signed_turn s us vs n top x y lower next lu lv next_top is ex ey f e =
     let low_a = nat_of s (take top us) in
     let low_b = nat_of s (take top vs) in
     let twice : 2 ^ n ≡ 2 * 2 ^ top = ap (λ (k : ℕ). 2 ^ k) (sym next_top) ∙ power_next top in
-    e ∙ ap (λ (b : Bool). if xor_of (lit_value s y) (lit_value s x) then lit_value s x else b) f
+    e ∙ ap (majority_of (not (lit_value s y)) (lit_value s x)) f
     ∙ signs_less (2 ^ top) (2 ^ n) low_a low_b (lit_value s x) (lit_value s y) twice (nat_of_first s us top (omega arith)) (nat_of_first s vs top (omega arith))
     ∙ sym (λ j. int_lt (signed_at (2 ^ sym is j) (2 ^ n) (nat_of_top s us top x (next_top ∙ sym lu) ex j)) (signed_at (2 ^ sym is j) (2 ^ n) (nat_of_top s vs top y (next_top ∙ sym lv) ey j)))
 

@@ -1,3 +1,4 @@
 pub mod Number
+pub mod Inputs
 pub mod Bitwise
 pub mod Laws

@@ -1,10 +1,12 @@
+//! Operations digit by digit.
+
 ghost use Rattle.std.specs.Prelude.{◌≡◌, ℕ, Bool, ◌+◌, ◌<◌, ◌≤◌, ◌^◌, All, length, IfOk};
 ghost use Rattle.std.specs.Int.RustNames.{bit_and, bit_or, bit_xor};
 ghost use Rattle.pp_clause.specs.Literal.{lit_value};
-ghost use Rattle.pp_gate.specs.Circuit.{IsOf, IsCircuit, Gives};
-ghost use Rattle.pp_gate.specs.Growth.{Grows, NoNewInput};
+ghost use Rattle.pp_gate.specs.Circuit.{IsOf, StandsFor};
+ghost use Rattle.pp_gate.specs.Growth.{AddsGates};
 ghost use Rattle.pp_bits.specs.Bitwise.{bit_by, bits_by};
-ghost use Rattle.pp_bits.specs.Number.{nat_of};
+ghost use Rattle.pp_bits.specs.Number.{nat_of, StandsForNumber};
 
 use crate::NoMemory;
 use crate::choice::no_digits;
@@ -24,11 +26,8 @@ fn digit_by(circuit: &mut Circuit, op: Bitwise, a: Lit, b: Lit) -> Result<Lit, N
     requires left { IsOf circuit.old a }
     requires right { IsOf circuit.old b }
     requires room { length circuit.old < 2 ^ 30 }
-    ensures grows { Grows circuit.old circuit.new 1 }
-    ensures inputs { NoNewInput circuit.old circuit.new }
-    ensures of { IfOk result (λ r. IsOf circuit.new r) }
-    ensures value { IfOk result (λ r. (s : ℕ → Bool) → Gives s circuit.new → lit_value s r ≡ bit_by op (lit_value s a) (lit_value s b)) }
-    ensures circuit { IsCircuit circuit.new }
+    ensures adds { AddsGates circuit.old circuit.new 1 }
+    ensures stands { IfOk result (λ r. StandsFor circuit.new r (λ s. bit_by op (lit_value s a) (lit_value s b))) }
 {
     match op {
         Bitwise::And => circuit.and(a, b),
@@ -43,12 +42,8 @@ fn by_digit(circuit: &mut Circuit, op: Bitwise, a: &[Lit], b: &[Lit]) -> Result<
     requires left { All (IsOf circuit.old) a.now }
     requires right { All (IsOf circuit.old) b.now }
     requires room { length circuit.old + length a.now ≤ 2 ^ 30 }
-    ensures grows { Grows circuit.old circuit.new (length a.now) }
-    ensures inputs { NoNewInput circuit.old circuit.new }
-    ensures len { IfOk result (λ r. length r.items ≡ length a.now) }
-    ensures of { IfOk result (λ r. All (IsOf circuit.new) r.items) }
-    ensures value { IfOk result (λ r. (s : ℕ → Bool) → Gives s circuit.new → nat_of s r.items ≡ bits_by op (nat_of s a.now) (nat_of s b.now)) }
-    ensures circuit { IsCircuit circuit.new }
+    ensures adds { AddsGates circuit.old circuit.new (length a.now) }
+    ensures stands { IfOk result (λ r. StandsForNumber circuit.new (length a.now) r.items (λ s. bits_by op (nat_of s a.now) (nat_of s b.now))) }
 {
     let mut digits = no_digits(circuit);
     for i in 0..a.len() {
@@ -64,12 +59,8 @@ pub fn and(circuit: &mut Circuit, a: &[Lit], b: &[Lit]) -> Result<Vec<Lit>, NoMe
     requires left { All (IsOf circuit.old) a.now }
     requires right { All (IsOf circuit.old) b.now }
     requires room { length circuit.old + length a.now ≤ 2 ^ 30 }
-    ensures grows { Grows circuit.old circuit.new (length a.now) }
-    ensures inputs { NoNewInput circuit.old circuit.new }
-    ensures len { IfOk result (λ r. length r.items ≡ length a.now) }
-    ensures of { IfOk result (λ r. All (IsOf circuit.new) r.items) }
-    ensures value { IfOk result (λ r. (s : ℕ → Bool) → Gives s circuit.new → nat_of s r.items ≡ bit_and (nat_of s a.now) (nat_of s b.now)) }
-    ensures circuit { IsCircuit circuit.new }
+    ensures adds { AddsGates circuit.old circuit.new (length a.now) }
+    ensures stands { IfOk result (λ r. StandsForNumber circuit.new (length a.now) r.items (λ s. bit_and (nat_of s a.now) (nat_of s b.now))) }
 {
     let all = by_digit(circuit, Bitwise::And, a, b)?;
     Ok(all)
@@ -81,12 +72,8 @@ pub fn or(circuit: &mut Circuit, a: &[Lit], b: &[Lit]) -> Result<Vec<Lit>, NoMem
     requires left { All (IsOf circuit.old) a.now }
     requires right { All (IsOf circuit.old) b.now }
     requires room { length circuit.old + length a.now ≤ 2 ^ 30 }
-    ensures grows { Grows circuit.old circuit.new (length a.now) }
-    ensures inputs { NoNewInput circuit.old circuit.new }
-    ensures len { IfOk result (λ r. length r.items ≡ length a.now) }
-    ensures of { IfOk result (λ r. All (IsOf circuit.new) r.items) }
-    ensures value { IfOk result (λ r. (s : ℕ → Bool) → Gives s circuit.new → nat_of s r.items ≡ bit_or (nat_of s a.now) (nat_of s b.now)) }
-    ensures circuit { IsCircuit circuit.new }
+    ensures adds { AddsGates circuit.old circuit.new (length a.now) }
+    ensures stands { IfOk result (λ r. StandsForNumber circuit.new (length a.now) r.items (λ s. bit_or (nat_of s a.now) (nat_of s b.now))) }
 {
     let all = by_digit(circuit, Bitwise::Or, a, b)?;
     Ok(all)
@@ -98,12 +85,8 @@ pub fn xor(circuit: &mut Circuit, a: &[Lit], b: &[Lit]) -> Result<Vec<Lit>, NoMe
     requires left { All (IsOf circuit.old) a.now }
     requires right { All (IsOf circuit.old) b.now }
     requires room { length circuit.old + length a.now ≤ 2 ^ 30 }
-    ensures grows { Grows circuit.old circuit.new (length a.now) }
-    ensures inputs { NoNewInput circuit.old circuit.new }
-    ensures len { IfOk result (λ r. length r.items ≡ length a.now) }
-    ensures of { IfOk result (λ r. All (IsOf circuit.new) r.items) }
-    ensures value { IfOk result (λ r. (s : ℕ → Bool) → Gives s circuit.new → nat_of s r.items ≡ bit_xor (nat_of s a.now) (nat_of s b.now)) }
-    ensures circuit { IsCircuit circuit.new }
+    ensures adds { AddsGates circuit.old circuit.new (length a.now) }
+    ensures stands { IfOk result (λ r. StandsForNumber circuit.new (length a.now) r.items (λ s. bit_xor (nat_of s a.now) (nat_of s b.now))) }
 {
     let all = by_digit(circuit, Bitwise::Xor, a, b)?;
     Ok(all)

@@ -1,10 +1,11 @@
+//! Constants, negated digits and choices.
+
 ghost use Rattle.std.specs.Prelude.{◌≡◌, ℕ, Bool, true, ◌+◌, ◌-◌, ◌*◌, ◌%◌, ◌^◌, ◌≤◌, ◌==◌, ◌&&◌, not, if◌then◌else◌, All, length, List, [], IfOk};
 ghost use Rattle.pp_clause.specs.Literal.{lit_value};
 ghost use Rattle.pp_gate.specs.declared.gate.Gate.{Gate};
-ghost use Rattle.pp_gate.specs.Circuit.{IsOf, IsCircuit, Gives};
-ghost use Rattle.pp_gate.specs.Gate.{xor_of};
-ghost use Rattle.pp_gate.specs.Growth.{Grows, NoNewInput};
-ghost use Rattle.pp_bits.specs.Number.{nat_of};
+ghost use Rattle.pp_gate.specs.Circuit.{IsOf, IsCircuit, StandsFor};
+ghost use Rattle.pp_gate.specs.Growth.{AddsGates};
+ghost use Rattle.pp_bits.specs.Number.{nat_of, StandsForNumber};
 
 use crate::NoMemory;
 use pp_clause::Lit;
@@ -29,9 +30,7 @@ fn known(truth: Lit, value: bool) -> Lit
 
 /// The lowest digits of a number, as many as `width`. It adds no gate.
 pub fn constant(circuit: &Circuit, value: u64, width: usize) -> Result<Vec<Lit>, NoMemory>
-    ensures len { IfOk result (λ r. length r.items ≡ width) }
-    ensures of { IfOk result (λ r. All (IsOf circuit.now) r.items) }
-    ensures value { IfOk result (λ r. (s : ℕ → Bool) → Gives s circuit.now → nat_of s r.items ≡ value % 2 ^ width) }
+    ensures stands { IfOk result (λ r. StandsForNumber circuit.now width r.items (λ s. value % 2 ^ width)) }
     ensures circuit { IsCircuit circuit.now }
 {
     let truth = circuit.truth();
@@ -48,9 +47,7 @@ pub fn constant(circuit: &Circuit, value: u64, width: usize) -> Result<Vec<Lit>,
 /// Each digit negated. It adds no gate.
 pub fn invert(circuit: &Circuit, a: &[Lit]) -> Result<Vec<Lit>, NoMemory>
     requires { All (IsOf circuit.now) a.now }
-    ensures len { IfOk result (λ r. length r.items ≡ length a.now) }
-    ensures of { IfOk result (λ r. All (IsOf circuit.now) r.items) }
-    ensures value { IfOk result (λ r. (s : ℕ → Bool) → nat_of s r.items ≡ 2 ^ length a.now - 1 - nat_of s a.now) }
+    ensures stands { IfOk result (λ r. StandsForNumber circuit.now (length a.now) r.items (λ s. 2 ^ length a.now - 1 - nat_of s a.now)) }
     ensures circuit { IsCircuit circuit.now }
 {
     let mut digits = no_digits(circuit);
@@ -73,12 +70,8 @@ pub fn choose(
     requires left { All (IsOf circuit.old) a.now }
     requires right { All (IsOf circuit.old) b.now }
     requires room { length circuit.old + length a.now ≤ 2 ^ 30 }
-    ensures grows { Grows circuit.old circuit.new (length a.now) }
-    ensures inputs { NoNewInput circuit.old circuit.new }
-    ensures len { IfOk result (λ r. length r.items ≡ length a.now) }
-    ensures of { IfOk result (λ r. All (IsOf circuit.new) r.items) }
-    ensures value { IfOk result (λ r. (s : ℕ → Bool) → Gives s circuit.new → nat_of s r.items ≡ (if lit_value s choice then nat_of s a.now else nat_of s b.now)) }
-    ensures circuit { IsCircuit circuit.new }
+    ensures adds { AddsGates circuit.old circuit.new (length a.now) }
+    ensures stands { IfOk result (λ r. StandsForNumber circuit.new (length a.now) r.items (λ s. if lit_value s choice then nat_of s a.now else nat_of s b.now)) }
 {
     let mut digits = no_digits(circuit);
     for i in 0..a.len() {

@@ -1,9 +1,11 @@
+//! Comparisons.
+
 ghost use Rattle.std.specs.Prelude.{◌≡◌, ℕ, Bool, ◌+◌, ◌-◌, ◌*◌, ◌^◌, ◌<◌, ◌≤◌, ◌==◌, ◌&&◌, not, if◌then◌else◌, nat_lt, All, length, IfOk};
 ghost use Rattle.std.specs.Int.RustNames.{int_lt};
 ghost use Rattle.pp_clause.specs.Literal.{lit_value};
-ghost use Rattle.pp_gate.specs.Circuit.{IsOf, IsCircuit, Gives};
-ghost use Rattle.pp_gate.specs.Gate.{xor_of};
-ghost use Rattle.pp_gate.specs.Growth.{Grows, NoNewInput};
+ghost use Rattle.pp_gate.specs.Circuit.{IsOf, StandsFor};
+ghost use Rattle.pp_gate.specs.Gate.{xor_of, majority_of};
+ghost use Rattle.pp_gate.specs.Growth.{AddsGates};
 ghost use Rattle.pp_bits.specs.Number.{nat_of, signed_of};
 
 use crate::NoMemory;
@@ -16,11 +18,8 @@ fn equal_so_far(circuit: &mut Circuit, both: Lit, a: Lit, b: Lit) -> Result<Lit,
     requires left { IsOf circuit.old a }
     requires right { IsOf circuit.old b }
     requires room { length circuit.old + 2 ≤ 2 ^ 30 }
-    ensures grows { Grows circuit.old circuit.new 2 }
-    ensures inputs { NoNewInput circuit.old circuit.new }
-    ensures of { IfOk result (λ r. IsOf circuit.new r) }
-    ensures value { IfOk result (λ r. (s : ℕ → Bool) → Gives s circuit.new → lit_value s r ≡ (lit_value s both && not (xor_of (lit_value s a) (lit_value s b)))) }
-    ensures circuit { IsCircuit circuit.new }
+    ensures adds { AddsGates circuit.old circuit.new 2 }
+    ensures stands { IfOk result (λ r. StandsFor circuit.new r (λ s. lit_value s both && not (xor_of (lit_value s a) (lit_value s b)))) }
 {
     let differ = circuit.xor(a, b)?;
     let equal = circuit.and(both, differ.negated())?;
@@ -33,11 +32,8 @@ pub fn equal(circuit: &mut Circuit, a: &[Lit], b: &[Lit]) -> Result<Lit, NoMemor
     requires left { All (IsOf circuit.old) a.now }
     requires right { All (IsOf circuit.old) b.now }
     requires room { length circuit.old + 2 * length a.now ≤ 2 ^ 30 }
-    ensures grows { Grows circuit.old circuit.new (2 * length a.now) }
-    ensures inputs { NoNewInput circuit.old circuit.new }
-    ensures of { IfOk result (λ r. IsOf circuit.new r) }
-    ensures value { IfOk result (λ r. (s : ℕ → Bool) → Gives s circuit.new → lit_value s r ≡ (nat_of s a.now == nat_of s b.now)) }
-    ensures circuit { IsCircuit circuit.new }
+    ensures adds { AddsGates circuit.old circuit.new (2 * length a.now) }
+    ensures stands { IfOk result (λ r. StandsFor circuit.new r (λ s. nat_of s a.now == nat_of s b.now)) }
 {
     let mut equal = circuit.truth();
     for i in 0..a.len() {
@@ -46,20 +42,16 @@ pub fn equal(circuit: &mut Circuit, a: &[Lit], b: &[Lit]) -> Result<Lit, NoMemor
     Ok(equal)
 }
 
-/// The digit of `b` where the two differ, and else `lower`: from the order of the lower digits that of one more.
+/// Whether `a` is less than `b` once a digit of each stands above the digits of which `lower` is the order.
 fn less_so_far(circuit: &mut Circuit, lower: Lit, a: Lit, b: Lit) -> Result<Lit, NoMemory>
     requires lower { IsOf circuit.old lower }
     requires left { IsOf circuit.old a }
     requires right { IsOf circuit.old b }
-    requires room { length circuit.old + 2 ≤ 2 ^ 30 }
-    ensures grows { Grows circuit.old circuit.new 2 }
-    ensures inputs { NoNewInput circuit.old circuit.new }
-    ensures of { IfOk result (λ r. IsOf circuit.new r) }
-    ensures value { IfOk result (λ r. (s : ℕ → Bool) → Gives s circuit.new → lit_value s r ≡ (if xor_of (lit_value s a) (lit_value s b) then lit_value s b else lit_value s lower)) }
-    ensures circuit { IsCircuit circuit.new }
+    requires room { length circuit.old + 1 ≤ 2 ^ 30 }
+    ensures adds { AddsGates circuit.old circuit.new 1 }
+    ensures stands { IfOk result (λ r. StandsFor circuit.new r (λ s. majority_of (not (lit_value s a)) (lit_value s b) (lit_value s lower))) }
 {
-    let differ = circuit.xor(a, b)?;
-    let less = circuit.mux(differ, b, lower)?;
+    let less = circuit.majority(a.negated(), b, lower)?;
     Ok(less)
 }
 
@@ -68,12 +60,9 @@ pub fn less(circuit: &mut Circuit, a: &[Lit], b: &[Lit]) -> Result<Lit, NoMemory
     requires same { length a.now ≡ length b.now }
     requires left { All (IsOf circuit.old) a.now }
     requires right { All (IsOf circuit.old) b.now }
-    requires room { length circuit.old + 2 * length a.now ≤ 2 ^ 30 }
-    ensures grows { Grows circuit.old circuit.new (2 * length a.now) }
-    ensures inputs { NoNewInput circuit.old circuit.new }
-    ensures of { IfOk result (λ r. IsOf circuit.new r) }
-    ensures value { IfOk result (λ r. (s : ℕ → Bool) → Gives s circuit.new → lit_value s r ≡ nat_lt (nat_of s a.now) (nat_of s b.now)) }
-    ensures circuit { IsCircuit circuit.new }
+    requires room { length circuit.old + length a.now ≤ 2 ^ 30 }
+    ensures adds { AddsGates circuit.old circuit.new (length a.now) }
+    ensures stands { IfOk result (λ r. StandsFor circuit.new r (λ s. nat_lt (nat_of s a.now) (nat_of s b.now))) }
 {
     let mut less = circuit.truth().negated();
     for i in 0..a.len() {
@@ -88,12 +77,9 @@ pub fn less_signed(circuit: &mut Circuit, a: &[Lit], b: &[Lit]) -> Result<Lit, N
     requires same { length a.now ≡ length b.now }
     requires left { All (IsOf circuit.old) a.now }
     requires right { All (IsOf circuit.old) b.now }
-    requires room { length circuit.old + 2 * length a.now ≤ 2 ^ 30 }
-    ensures grows { Grows circuit.old circuit.new (2 * length a.now) }
-    ensures inputs { NoNewInput circuit.old circuit.new }
-    ensures of { IfOk result (λ r. IsOf circuit.new r) }
-    ensures value { IfOk result (λ r. (s : ℕ → Bool) → Gives s circuit.new → lit_value s r ≡ int_lt (signed_of (length a.now) (nat_of s a.now)) (signed_of (length a.now) (nat_of s b.now))) }
-    ensures circuit { IsCircuit circuit.new }
+    requires room { length circuit.old + length a.now ≤ 2 ^ 30 }
+    ensures adds { AddsGates circuit.old circuit.new (length a.now) }
+    ensures stands { IfOk result (λ r. StandsFor circuit.new r (λ s. int_lt (signed_of (length a.now) (nat_of s a.now)) (signed_of (length a.now) (nat_of s b.now)))) }
 {
     let top = a.len() - 1;
     let lower = less(circuit, &a[..top], &b[..top])?;

@@ -7,3 +7,4 @@ pub mod Sorting
 pub mod Resolving
 pub mod Soundness
 pub mod Counting
+pub mod Climbing

@@ -26,7 +26,7 @@ before_at sorted i x o lt is = λ k d h.
     let same : get_or (take i sorted) k d ≡ get_or sorted k x = get_or-take i sorted k d inside ∙ get_or_default sorted k d x (omega arith) in
     subst (λ (z : Literal). z.var ≤ x.var) (sym same) here
 
-one_more : (sorted : List Literal) (i : ℕ) (x : Literal) → i < length sorted → x ≡ get_or sorted i x → take (i + 1) sorted ≡ take i sorted ++ x ∷ []
+pub one_more : (sorted : List Literal) (i : ℕ) (x : Literal) → i < length sorted → x ≡ get_or sorted i x → take (i + 1) sorted ≡ take i sorted ++ x ∷ []
 one_more sorted i x lt is = take_more sorted i x lt ∙ ap (λ (z : Literal). take i sorted ++ z ∷ []) (sym is)
 
 -- the literal stands there already

@@ -1,4 +1,4 @@
-ghost use Rattle.std.specs.Prelude.{ℕ, ◌≡◌, ◌<◌, ◌≤◌, Bool, true, IfOk, IfNone, IfSome};
+ghost use Rattle.std.specs.Prelude.{ℕ, ◌≡◌, ◌<◌, ◌≤◌, ◌↔◌, Bool, true, IsTrue, IfOk, IfNone, IfSome};
 ghost use Rattle.pp_clause.specs.Literal.{Literal};
 ghost use Rattle.pp_clause.specs.Clause.{HasBoth, SameLiterals, IsClause, clause_value, IsInOrder};
 
@@ -42,6 +42,15 @@ impl Clause {
         merged(alloc, sorted.as_slice())
     }
 
+    /// The clause of these literals, which stand in ascending order of variable. It sorts nothing.
+    pub fn of_ascending(alloc: Global, lits: &[Lit]) -> Result<Clause, NoMemory>
+        requires { IsClause lits.now }
+        ensures { IfOk result (λ c. c ≡ lits.now) }
+    {
+        let lits = SmallVec::from_slice(alloc, lits)?;
+        Ok(Clause { lits })
+    }
+
     /// The same clause once more.
     pub fn copy(&self, alloc: Global) -> Result<Clause, NoMemory>
         ensures { IfOk result (λ c. c ≡ self.now) }
@@ -57,6 +66,21 @@ impl Clause {
     {
         self.lits.as_slice()
     }
+}
+
+/// Whether the literals stand in ascending order of variable, and no variable twice.
+pub fn is_ascending(lits: &[Lit]) -> bool
+    ensures { IsTrue result ↔ IsClause lits.now }
+{
+    let mut last = 0;
+    for lit in lits {
+        let var = lit.var();
+        if var <= last {
+            return false;
+        }
+        last = var;
+    }
+    true
 }
 
 /// These literals in order of variable.

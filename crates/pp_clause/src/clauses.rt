@@ -1,4 +1,4 @@
-ghost use Rattle.std.specs.Prelude.{◌≡◌, ◌-◌, ◌^◌, ◌<◌, ◌≤◌, ◌↔◌, [], ◌∷◌, ◌++◌, length, slice_get, Some, IsTrue, OnOk, OnErr, All};
+ghost use Rattle.std.specs.Prelude.{◌≡◌, ◌-◌, ◌^◌, ◌<◌, ◌≤◌, ◌↔◌, [], ◌∷◌, ◌++◌, length, slice_get, Some, IsTrue, IfOk, OnOk, OnErr, All};
 ghost use Rattle.pp_clause.specs.Literal.{lit_value};
 ghost use Rattle.pp_clause.specs.Clause.{IsClause, clause_value, clauses_value};
 ghost use Rattle.pp_clause.specs.Assignment.{assigned};
@@ -36,6 +36,14 @@ impl Clauses {
         Clauses {
             items: Vec::new(alloc),
         }
+    }
+
+    /// No clauses, with room for so many.
+    pub fn with_capacity(alloc: Global, clauses: usize) -> Result<Clauses, NoMemory>
+        ensures { IfOk result (λ r. r ≡ []) }
+    {
+        let items = Vec::with_capacity(alloc, clauses)?;
+        Ok(Clauses { items })
     }
 
     /// How many clauses there are: the number of the last one.

@@ -18,7 +18,7 @@ pub mod spent;
 
 pub use assignment::Assignment;
 pub use chain::Chain;
-pub use clause::Clause;
+pub use clause::{Clause, is_ascending};
 pub use clauses::Clauses;
 pub use lit::Lit;
 pub use lits::Lits;

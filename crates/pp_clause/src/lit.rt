@@ -23,6 +23,7 @@ impl Model for Lit {
 }
 
 impl Lit {
+    ghost use Rattle.std.specs.Prelude.{◌*◌, ◌+◌, if◌then◌else◌};
     ghost use Rattle.pp_clause.specs.Literal.{opposite};
 
     /// The literal of the variable `var`, or of its negation.
@@ -57,6 +58,13 @@ impl Lit {
         ensures high { result ≤ 2 ^ 30 }
     {
         self.code / 2
+    }
+
+    /// A number of its own for each literal, for tables: that of a variable is even, that of its negation one more.
+    pub fn index(self) -> usize
+        ensures { result ≡ 2 * self.var + (if self.positive then 0 else 1) }
+    {
+        self.code as usize
     }
 
     /// Whether the literal is the variable itself, and not its negation.

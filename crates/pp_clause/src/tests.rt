@@ -1,6 +1,8 @@
 //! The happy path of each public call. The program `pp_solver_cases` has the tables.
 
-use crate::{Assignment, Chain, Clause, Clauses, Lemma, Lit, Lits, Log, NoMemory, Spent, laws};
+use crate::{
+    Assignment, Chain, Clause, Clauses, Lemma, Lit, Lits, Log, NoMemory, Spent, is_ascending, laws,
+};
 
 /// The literal that a number stands for, as in the texts of the field: negative for a negation.
 fn lit(number: i32) -> Lit {
@@ -30,6 +32,7 @@ fn literals(rt: HostRuntime) {
         );
     }
     assert_eq!(rt; Lit::default(), lit(1));
+    assert_eq!(rt; (lit(3).index(), lit(-3).index()), (6, 7));
 }
 
 #[test]
@@ -44,6 +47,18 @@ fn one_clause(rt: HostRuntime) -> Result<(), NoMemory> {
         let a = Assignment::of(rt.alloc(), &[false])?;
         assert!(rt; clauses.holds(&a) && !a.value(4000000000));
     }
+    Ok(())
+}
+
+/// A clause whose literals are in order already.
+#[test]
+fn in_order(rt: HostRuntime) -> Result<(), NoMemory> {
+    let lits = [lit(-1), lit(4)];
+    let mut clauses = Clauses::with_capacity(rt.alloc(), 1)?;
+    assert!(rt; is_ascending(&lits) && !is_ascending(&[lit(4), lit(-4)]));
+    clauses.add(Clause::of_ascending(rt.alloc(), &lits)?)?;
+    assert!(rt; clauses.len() == 1);
+    assert_eq!(rt; clauses.get(1).lits(), lits.as_slice());
     Ok(())
 }
 

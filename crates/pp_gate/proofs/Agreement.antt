@@ -4,8 +4,8 @@ use Rattle.std.proofs.lemmas.Bool.{cases_lt}
 use Rattle.std.proofs.lemmas.Option.{slice_get_within}
 use Rattle.pp_clause.specs.Literal.{Literal, lit_value}
 use Rattle.pp_gate.specs.declared.gate.Gate.{Gate}
-use Rattle.pp_gate.specs.declared.gate.Gate.TheVariants.{Truth, Input, And, Xor, Mux}
-use Rattle.pp_gate.specs.Gate.{gate_value, xor_of}
+use Rattle.pp_gate.specs.declared.gate.Gate.TheVariants.{Truth, Input, And, Xor, Mux, Majority}
+use Rattle.pp_gate.specs.Gate.{gate_value, xor_of, majority_of}
 use Rattle.pp_gate.specs.Circuit.{IsWithin, FitsAfter, IsCircuit, Gives}
 use Rattle.pp_gate.specs.Laws.{AgreeUpTo, AgreeOnInputs, InputsDetermine, GrowthKeeps, GivesByVariables, LiteralByVariables}
 use Rattle.pp_gate.proofs.Places.{at_left, at_some}
@@ -31,12 +31,15 @@ pub gate_agree : (n : ℕ) (s t : ℕ → Bool) (g : Gate) → FitsAfter n g →
 gate_agree n s t Truth f a own = refl
 gate_agree n s t (Input x) f a own = own x refl
 gate_agree n s t (And l m) f a own =
-    let el = lit_agree n s t l f.left a in let em = lit_agree n s t m f.right a in λ i. el i && em i
+    let el = lit_agree n s t l f.0 a in let em = lit_agree n s t m f.1 a in λ i. el i && em i
 gate_agree n s t (Xor l m) f a own =
-    let el = lit_agree n s t l f.left a in let em = lit_agree n s t m f.right a in λ i. xor_of (el i) (em i)
+    let el = lit_agree n s t l f.0 a in let em = lit_agree n s t m f.1 a in λ i. xor_of (el i) (em i)
 gate_agree n s t (Mux c l m) f a own =
-    let ec = lit_agree n s t c f.choice a in let el = lit_agree n s t l f.left a in let em = lit_agree n s t m f.right a in
+    let ec = lit_agree n s t c f.0 a in let el = lit_agree n s t l f.1.0 a in let em = lit_agree n s t m f.1.1 a in
     λ i. if ec i then el i else em i
+gate_agree n s t (Majority l m o) f a own =
+    let el = lit_agree n s t l f.0 a in let em = lit_agree n s t m f.1.0 a in let eo = lit_agree n s t o f.1.1 a in
+    λ i. majority_of (el i) (em i) (eo i)
 
 pub input_variable : (k x : ℕ) (g : Gate) → FitsAfter k g → g ≡ Input x → x ≡ k + 1
 input_variable k x g f e = subst (λ (h : Gate). FitsAfter k h) e f

@@ -4,9 +4,10 @@ use Rattle.std.proofs.lemmas.Bool.{cases_lt, ne_eqb}
 use Rattle.std.proofs.lemmas.List.{append-nil}
 use Rattle.std.proofs.lemmas.Option.{slice_get_within}
 use Rattle.pp_gate.specs.declared.gate.Gate.{Gate}
-use Rattle.pp_gate.specs.declared.gate.Gate.TheVariants.{Truth, Input, And, Xor, Mux}
+use Rattle.pp_gate.specs.declared.gate.Gate.TheVariants.{Truth, Input, And, Xor, Mux, Majority}
 use Rattle.pp_gate.specs.Gate.{gate_value}
 use Rattle.pp_gate.specs.Circuit.{FitsAfter, Gives, IsInput}
+use Rattle.pp_gate.specs.Completion.{next_value}
 use Rattle.pp_gate.specs.Laws.{AgreeUpTo, Extended, InputsComplete, GrowthExtends}
 use Rattle.pp_gate.proofs.Places.{at_left, at_push, at_next}
 use Rattle.pp_gate.proofs.Agreement.{AllFit, all_fit, agree_along, gate_agree, gives_agree}
@@ -23,29 +24,24 @@ with_agree : (s : ℕ → Bool) (n : ℕ) (v : Bool) → AgreeUpTo n s (with s (
 unfolding with
 with_agree s n v = record { agree = λ x low high. let e : nat_eq x (n + 1) ≡ false = ne_eqb x (n + 1) (λ q. omega arith) in rw e }
 
--- the value that the next gate is given
-chosen : (ℕ → Bool) → (ℕ → Bool) → Gate → Bool
-chosen s values (Input x) = values x
-chosen s values g = gate_value s g
+-- an assignment that agrees with `s` and has the next value gives the next gate its value
+pub next_is : (n : ℕ) (s t values : ℕ → Bool) (g : Gate) → FitsAfter n g → AgreeUpTo n s t → t (n + 1) ≡ next_value s values g → t (n + 1) ≡ gate_value t g
+next_is n s t values Truth f a e = e
+next_is n s t values (Input x) f a e = ap t (sym f)
+next_is n s t values (And l m) f a e = e ∙ gate_agree n s t (And l m) f a (λ x q. cc)
+next_is n s t values (Xor l m) f a e = e ∙ gate_agree n s t (Xor l m) f a (λ x q. cc)
+next_is n s t values (Mux c l m) f a e = e ∙ gate_agree n s t (Mux c l m) f a (λ x q. cc)
+next_is n s t values (Majority l m o) f a e = e ∙ gate_agree n s t (Majority l m o) f a (λ x q. cc)
 
-chosen_is : (n : ℕ) (s t values : ℕ → Bool) (g : Gate) → FitsAfter n g → AgreeUpTo n s t → t (n + 1) ≡ chosen s values g → t (n + 1) ≡ gate_value t g
-unfolding chosen
-chosen_is n s t values Truth f a e = e
-chosen_is n s t values (Input x) f a e = ap t (sym f)
-chosen_is n s t values (And l m) f a e = e ∙ gate_agree n s t (And l m) f a (λ x q. cc)
-chosen_is n s t values (Xor l m) f a e = e ∙ gate_agree n s t (Xor l m) f a (λ x q. cc)
-chosen_is n s t values (Mux c l m) f a e = e ∙ gate_agree n s t (Mux c l m) f a (λ x q. cc)
-
-chosen_input : (s values : ℕ → Bool) (x : ℕ) (g : Gate) → g ≡ Input x → chosen s values g ≡ values x
-unfolding chosen
-chosen_input s values x g e = ap (chosen s values) e
+pub next_input : (s values : ℕ → Bool) (x : ℕ) (g : Gate) → g ≡ Input x → next_value s values g ≡ values x
+next_input s values x g e = ap (next_value s values) e
 
 fit_left : (gs hs : List Gate) → AllFit (gs ++ hs) → AllFit gs
 fit_left gs hs fit = record { fits = λ k g at. fit.fits k g (at_left gs hs k g at) }
 
 -- the next gate has its value too
 gives_next : (gs : List Gate) (g : Gate) (s values : ℕ → Bool) → AllFit gs → FitsAfter (length gs) g → Gives s gs
-    → Gives (with s (length gs + 1) (chosen s values g)) (gs ++ g ∷ [])
+    → Gives (with s (length gs + 1) (next_value s values g)) (gs ++ g ∷ [])
 gives_next gs g s values fit fits gives = record {
   gives = λ k h at.
       elim (at_push gs g k h at) [
@@ -55,13 +51,13 @@ gives_next gs g s values fit fits gives = record {
 }
   where
     t : ℕ → Bool
-    t = with s (length gs + 1) (chosen s values g)
+    t = with s (length gs + 1) (next_value s values g)
 
     olds : Gives t gs
-    olds = gives_agree gs s t fit (with_agree s (length gs) (chosen s values g)) gives
+    olds = gives_agree gs s t fit (with_agree s (length gs) (next_value s values g)) gives
 
     here : t (length gs + 1) ≡ gate_value t g
-    here = chosen_is (length gs) s t values g fits (with_agree s (length gs) (chosen s values g)) (with_same s (length gs + 1) (chosen s values g))
+    here = next_is (length gs) s t values g fits (with_agree s (length gs) (next_value s values g)) (with_same s (length gs + 1) (next_value s values g))
 
 place_of_next : (gs rest : List Gate) (g : Gate) (x : ℕ) → IsInput (gs ++ g ∷ rest) x → x ≡ length gs + 1 → g ≡ Input x
 place_of_next gs rest g x is e =
@@ -83,7 +79,7 @@ extended gs [] fit s values gives = record {
 extended gs (g ∷ rest) fit s values gives =
     let e : (gs ++ g ∷ []) ++ rest ≡ gs ++ g ∷ rest = append_assoc gs (g ∷ []) rest in
     let longer : length (gs ++ g ∷ []) ≡ length gs + 1 = length-append gs (g ∷ []) in
-    let v = chosen s values g in
+    let v = next_value s values g in
     let next : Gives (with s (length gs + 1) v) (gs ++ g ∷ []) = gives_next gs g s values (fit_left gs (g ∷ rest) fit) (fit.fits (length gs) g (at_next gs rest g)) gives in
     let more : Extended (gs ++ g ∷ []) ((gs ++ g ∷ []) ++ rest) (with s (length gs + 1) v) values = extended (gs ++ g ∷ []) rest (subst AllFit (sym e) fit) (with s (length gs + 1) v) values next in
     record {
@@ -94,7 +90,7 @@ extended gs (g ∷ rest) fit s values gives =
           elim (cases_lt (length gs + 1) x) [
             | inl later ↦ more.inputs x (omega arith) (subst (λ (l : List Gate). IsInput l x) (sym e) is)
             | inr now ↦ (let own : x ≡ length gs + 1 = omega arith in
-                sym (chosen_input s values x g (place_of_next gs rest g x is own))
+                sym (next_input s values x g (place_of_next gs rest g x is own))
                 ∙ sym (with_same s (length gs + 1) v)
                 ∙ ap (with s (length gs + 1) v) (sym own)
                 ∙ more.keeps.agree x (omega arith) (omega arith))

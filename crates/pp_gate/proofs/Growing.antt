@@ -1,12 +1,12 @@
 -- Circuits that grow by several calls: what a caller of them cites.
-use Rattle.std.proofs.Common.{◌≡◌, ℕ, ◌+◌, ◌-◌, ◌≤◌, List, [], ◌++◌, length, slice_get, Some, sym, ap, ◌∙◌, append_assoc, length-append, arith}
+use Rattle.std.proofs.Common.{◌⊎◌, inl, inr, ◌∷◌, subst, ◌≡◌, ℕ, ◌+◌, ◌-◌, ◌≤◌, List, [], ◌++◌, length, slice_get, Some, sym, ap, ◌∙◌, append_assoc, length-append, arith}
 use Rattle.std.proofs.lemmas.List.{append-nil}
 use Rattle.pp_clause.specs.Literal.{Literal}
 use Rattle.pp_gate.specs.declared.gate.Gate.{Gate}
 use Rattle.pp_gate.specs.declared.gate.Gate.TheVariants.{Truth, Input}
 use Rattle.pp_gate.specs.Circuit.{IsOf, IsInput, IsCircuit}
-use Rattle.pp_gate.specs.Growth.{Grows, NoNewInput}
-use Rattle.pp_gate.proofs.Places.{at_left, at_some}
+use Rattle.pp_gate.specs.Growth.{Grows, AddsGates}
+use Rattle.pp_gate.proofs.Places.{at_left, at_push, at_some}
 
 pub Grows_none : (gs : List Gate) → Grows gs gs 0
 Grows_none gs = record { added = []; is = sym (append-nil gs); most = omega arith }
@@ -32,12 +32,6 @@ IsOf_more old new n l g of = record { least = of.least; most = omega (arith, of.
 pub IsInput_more : (old new : List Gate) (n x : ℕ) → Grows old new n → IsInput old x → IsInput new x
 IsInput_more old new n x g is = record { stands = ap (λ (l : List Gate). slice_get l (x - 1)) g.is ∙ at_left old g.added (x - 1) (Input x) is.stands }
 
-pub NoNewInput_none : (gs : List Gate) → NoNewInput gs gs
-NoNewInput_none gs = record { old_one = λ x is. is }
-
-pub NoNewInput_more : (a b c : List Gate) → NoNewInput a b → NoNewInput b c → NoNewInput a c
-NoNewInput_more a b c f g = record { old_one = λ x is. f.old_one x (g.old_one x is) }
-
 -- the front of a circuit is one
 pub IsCircuit_old : (old new : List Gate) (n : ℕ) → Grows old new n → 1 ≤ length old → IsCircuit new → IsCircuit old
 IsCircuit_old old new n g some is =
@@ -51,3 +45,31 @@ IsCircuit_old old new n g some is =
   where
     stays : (k : ℕ) (h : Gate) → slice_get old k ≡ Some h → slice_get new k ≡ Some h
     stays k h at = ap (λ (l : List Gate). slice_get l k) g.is ∙ at_left old g.added k h at
+
+pub AddsGates_from : (old new : List Gate) (n : ℕ) → Grows old new n → ((x : ℕ) → IsInput new x → IsInput old x) → IsCircuit new → AddsGates old new n
+AddsGates_from old new n grows inputs is = record { grows = grows; inputs = inputs; circuit = is; literals = λ l of. IsOf_more old new n l grows of }
+
+pub AddsGates_none : (gs : List Gate) (n : ℕ) → IsCircuit gs → AddsGates gs gs n
+AddsGates_none gs n is = AddsGates_from gs gs n (Grows_weaker gs gs 0 n (Grows_none gs) (omega arith)) (λ x h. h) is
+
+pub AddsGates_more : (a b c : List Gate) (m n k : ℕ) → AddsGates a b m → AddsGates b c n → m + n ≤ k → AddsGates a c k
+AddsGates_more a b c m n k g h le = record {
+  grows = Grows_more a b c m n k g.grows h.grows le;
+  inputs = λ x is. g.inputs x (h.inputs x is);
+  circuit = h.circuit;
+  literals = λ l of. h.literals l (g.literals l of);
+}
+
+pub AddsGates_weaker : (old new : List Gate) (m n : ℕ) → AddsGates old new m → m ≤ n → AddsGates old new n
+AddsGates_weaker old new m n g le = record { grows = Grows_weaker old new m n g.grows le; inputs = g.inputs; circuit = g.circuit; literals = g.literals }
+
+-- a gate that isn't an input, where it is the only one that may have come in
+pub AddsGates_one : (old new : List Gate) (g : Gate) → ((x : ℕ) → g ≡ Input x → ⊥) → IsCircuit new → (new ≡ old) ⊎ (new ≡ old ++ g ∷ []) → AddsGates old new 1
+AddsGates_one old new g other is (inl e) = subst (λ (l : List Gate). AddsGates old l 1) (sym e) (AddsGates_none old 1 (subst IsCircuit e is))
+AddsGates_one old new g other is (inr e) =
+    AddsGates_from old new 1 (record { added = g ∷ []; is = e; most = omega arith })
+    (λ x at. elim (at_push old g (x - 1) (Input x) (subst (λ (l : List Gate). slice_get l (x - 1) ≡ Some (Input x)) e at.stands)) [
+      | inl a ↦ record { stands = a }
+      | inr b ↦ absurd (other x b.1)
+    ])
+    is

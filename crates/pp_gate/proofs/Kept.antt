@@ -1,10 +1,10 @@
 -- An inserted gate leaves a circuit.
-use Rattle.std.proofs.Common.{◌≡◌, ℕ, zero, suc, ◌+◌, ◌<◌, ◌≤◌, Bool, true, false, List, [], ◌∷◌, ◌++◌, length, slice_get, Some, refl, sym, ap, ◌∙◌, subst, arith, length-append, if◌then◌else◌, inl, inr, ◌⊎◌, ◌-◌}
+use Rattle.std.proofs.Common.{◌≡◌, ℕ, zero, suc, ◌+◌, ◌<◌, ◌≤◌, Bool, true, false, List, [], ◌∷◌, ◌++◌, length, slice_get, Some, refl, sym, ap, ◌∙◌, subst, arith, if◌then◌else◌, inl, inr, ◌⊎◌, ◌-◌}
 use Rattle.std.specs.List.{list_any}
 use Rattle.std.proofs.lemmas.Bool.{false≢true, or_left, or_right}
 use Rattle.std.proofs.lemmas.Option.{slice_get_within}
 use Rattle.indexmap.specs.IndexSet.{insert_key}
-use Rattle.pp_gate.proofs.Places.{at_left, at_push, at_next}
+use Rattle.pp_gate.proofs.Places.{at_left, at_push}
 use Rattle.pp_gate.specs.Circuit.{IsCircuit, FitsAfter, IsInput}
 use Rattle.pp_gate.specs.declared.gate.Gate.{Gate}
 use Rattle.pp_gate.specs.declared.gate.Gate.TheVariants.{Truth, Input}
@@ -59,12 +59,3 @@ pub input_stands : (gs new : List Gate) (n x : ℕ) → n ≡ length gs → IsCi
 input_stands gs new n x count is at low =
     let own : n + 1 ≡ x = omega (arith, count, input_var gs new n x count is at low) in
     record { stands = at ∙ ap (λ (m : ℕ). Some (Input m)) own }
-
--- a gate that came in has the last variable
-pub own_variable : (old new : List Gate) (g : Gate) (x : ℕ) → IsCircuit new → (new ≡ old) ⊎ (new ≡ old ++ g ∷ []) → slice_get new (x - 1) ≡ Some g → 1 ≤ x → (new ≡ old) ⊎ (x ≡ length new)
-own_variable old new g x is (inl e) at low = inl e
-own_variable old new g x is (inr e) at low =
-    let last : slice_get new (length old) ≡ Some g = ap (λ (l : List Gate). slice_get l (length old)) e ∙ at_next old [] g in
-    let place : x - 1 ≡ length old = is.apart (x - 1) (length old) g at last in
-    let longer : length new ≡ length old + 1 = ap length e ∙ length-append old (g ∷ []) in
-    inr (omega arith)

@@ -1,7 +1,6 @@
 pub mod Places
 pub mod Same
 pub mod Kept
-pub mod Sharing
 pub mod Meaning
 pub mod Agreement
 pub mod Extension
@@ -9,3 +8,5 @@ pub mod Growing
 pub mod Lengths
 pub mod Clausal
 pub mod Turns
+pub mod Marking
+pub mod Cones

@@ -1,5 +1,5 @@
 -- Where elements stand in a list that has grown.
-use Rattle.std.proofs.Common.{◌≡◌, ℕ, zero, suc, ◌<◌, List, [], ◌∷◌, ◌++◌, length, slice_get, Some, refl, ap, ◌⊎◌, inl, inr, arith}
+use Rattle.std.proofs.Common.{◌≡◌, ℕ, zero, suc, ◌<◌, List, [], ◌∷◌, ◌++◌, length, slice_get, slice_index_or, Some, refl, sym, ap, ◌⊎◌, inl, inr, arith}
 use Rattle.std.proofs.lemmas.Option.{slice_get_cases}
 
 pub at_left : {X : Type 0} (xs ys : List X) (k : ℕ) (x : X) → slice_get xs k ≡ Some x → slice_get (xs ++ ys) k ≡ Some x
@@ -25,3 +25,9 @@ at_some xs k h =
       | inl a ↦ (a.0, a.2)
       | inr b ↦ absurd (omega (arith, b.0, h))
     ]
+
+-- the element that the code read at a place stands there
+pub at_read : {X : Type 0} (xs : List X) (k : ℕ) (x : X) → k < length xs → x ≡ slice_index_or xs k x → slice_get xs k ≡ Some x
+at_read [] k x lt e = absurd (omega arith)
+at_read (y ∷ xs) zero x lt e = ap Some (sym e)
+at_read (y ∷ xs) (suc k) x lt e = at_read xs k x (omega arith) e

@@ -4,7 +4,6 @@ use Rattle.pp_clause.specs.Literal.{Literal, lit_value}
 use Rattle.pp_gate.specs.declared.gate.Gate.{Gate}
 use Rattle.pp_gate.specs.Circuit.{IsCircuit, Gives, IsInput, IsOf}
 use Rattle.pp_gate.specs.Growth.{Grows}
-use Rattle.pp_gate.specs.Sharing.{HasAnd, HasXor, HasMuxGate}
 
 -- the two assignments agree on the variables from 1 to n
 pub record AgreeUpTo (n : ℕ) (s t : ℕ → Bool) : Type 0 where
@@ -54,13 +53,3 @@ GivesByVariables = (gs : List Gate) → IsCircuit gs → (s t : ℕ → Bool)
 abbrev pub LiteralByVariables : Type 0
 LiteralByVariables = (gs : List Gate) (l : Literal) → IsOf gs l → (s t : ℕ → Bool)
     → AgreeUpTo (length gs) s t → lit_value s l ≡ lit_value t l
-
--- a call that adds nothing to the old gates adds nothing to the new ones
-pub record SharesMore (old new : List Gate) : Type 0 where
-  pub and : (a b : Literal) → HasAnd old a b → HasAnd new a b
-  pub xor : (a b : Literal) → HasXor old a b → HasXor new a b
-  pub mux : (c a b : Literal) → HasMuxGate old c a b → HasMuxGate new c a b
-
--- what a circuit shares it shares however it grows
-abbrev pub GrowthShares : Type 0
-GrowthShares = (old new : List Gate) (n : ℕ) → Grows old new n → SharesMore old new

@@ -1,6 +1,8 @@
 pub mod Gate
 pub mod Circuit
 pub mod Growth
-pub mod Sharing
 pub mod Laws
+pub mod Cone
+pub mod Marks
+pub mod Completion
 pub mod Clauses

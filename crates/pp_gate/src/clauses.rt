@@ -1,24 +1,38 @@
 //! The clauses of a gate.
 
-ghost use Rattle.std.specs.Prelude.{◌≡◌, ℕ, Bool, true, ◌+◌, ◌*◌, ◌-◌, ◌^◌, ◌<◌, ◌≤◌, ◌&&◌, ◌↔◌, if◌then◌else◌, length, All, OnOk, IfOk};
+ghost use Rattle.std.specs.Prelude.{◌≡◌, ℕ, Bool, ◌+◌, ◌-◌, ◌^◌, ◌<◌, ◌≤◌, ◌&&◌, [], ◌∷◌, if◌then◌else◌, length, OnOk};
 ghost use Rattle.std.specs.Bool.{beq};
 ghost use Rattle.pp_clause.specs.Literal.{lit_value};
-ghost use Rattle.pp_clause.specs.Clause.{clause_value, clauses_value};
-ghost use Rattle.pp_gate.specs.Gate.{gate_value, xor_of};
-ghost use Rattle.pp_gate.specs.Circuit.{IsWithin, IsOf, FitsAfter, Gives};
-ghost use Rattle.pp_gate.specs.Clauses.{AreShortWithin, AddsClause};
+ghost use Rattle.pp_clause.specs.Clause.{clauses_value};
+ghost use Rattle.pp_gate.specs.Gate.{gate_value, xor_of, majority_of};
+ghost use Rattle.pp_gate.specs.Circuit.{FitsAfter};
+ghost use Rattle.pp_gate.specs.Clauses.{AreShortWithin, AddsClause, AddsAgreement, AddsEquation};
 
 use crate::NoMemory;
 use crate::gate::Gate;
-use pp_clause::{Clause, Clauses, Lit};
+use pp_clause::{Clause, Clauses, Lit, is_ascending};
 use std::alloc::Global;
 
-/// Adds the clause of these literals, unless it is always true.
+/// Adds the clause of these literals, unless it is always true. It sorts them only where they aren't in order.
 fn add(clauses: &mut Clauses, alloc: Global, lits: &[Lit]) -> Result<(), NoMemory>
     requires short { length lits.now ≤ 4 }
     requires room { length clauses.old < 2 ^ 32 - 1 }
-    ensures count { OnOk result (length clauses.new ≤ length clauses.old + 1) }
-    ensures adds { OnOk result (AddsClause clauses.old clauses.new lits.now) }
+    ensures { OnOk result (AddsClause clauses.old clauses.new lits.now) }
+{
+    if is_ascending(lits) {
+        let clause = Clause::of_ascending(alloc, lits)?;
+        clauses.add(clause)?;
+        Ok(())
+    } else {
+        add_sorted(clauses, alloc, lits)
+    }
+}
+
+/// The same for literals in any order.
+fn add_sorted(clauses: &mut Clauses, alloc: Global, lits: &[Lit]) -> Result<(), NoMemory>
+    requires short { length lits.now ≤ 4 }
+    requires room { length clauses.old < 2 ^ 32 - 1 }
+    ensures { OnOk result (AddsClause clauses.old clauses.new lits.now) }
 {
     match Clause::of(alloc, lits)? {
         Some(clause) => {
@@ -29,36 +43,43 @@ fn add(clauses: &mut Clauses, alloc: Global, lits: &[Lit]) -> Result<(), NoMemor
     }
 }
 
+/// How many clauses a gate has.
+pub(crate) fn clause_count(gate: Gate) -> usize {
+    match gate {
+        Gate::Truth => 1,
+        Gate::Input(_) => 0,
+        Gate::And(..) => 3,
+        Gate::Xor(..) | Gate::Mux(..) => 4,
+        Gate::Majority(..) => 6,
+    }
+}
+
 /// The clauses by which `out` is true exactly where `a` and `b` are.
 fn add_and(clauses: &mut Clauses, alloc: Global, out: Lit, a: Lit, b: Lit) -> Result<(), NoMemory>
     requires room { length clauses.old + 8 < 2 ^ 32 }
-    ensures count { OnOk result (length clauses.new ≤ length clauses.old + 8) }
-    ensures value { OnOk result ((s : ℕ → Bool) → clauses_value s clauses.new ≡ (clauses_value s clauses.old && beq (lit_value s out) (lit_value s a && lit_value s b))) }
-    ensures within { OnOk result ((n : ℕ) → IsWithin n out → IsWithin n a → IsWithin n b → AreShortWithin n clauses.old → AreShortWithin n clauses.new) }
+    ensures { OnOk result (AddsEquation clauses.old clauses.new out (a ∷ b ∷ []) (λ s. lit_value s a && lit_value s b)) }
 {
     let off = out.negated();
     let not_a = a.negated();
     let not_b = b.negated();
-    add(clauses, alloc, &[off, a])?;
-    add(clauses, alloc, &[off, b])?;
-    add(clauses, alloc, &[out, not_a, not_b])?;
+    add(clauses, alloc, &[a, off])?;
+    add(clauses, alloc, &[b, off])?;
+    add(clauses, alloc, &[not_a, not_b, out])?;
     Ok(())
 }
 
 /// The clauses by which `out` is true exactly where exactly one of `a` and `b` is.
 fn add_xor(clauses: &mut Clauses, alloc: Global, out: Lit, a: Lit, b: Lit) -> Result<(), NoMemory>
     requires room { length clauses.old + 8 < 2 ^ 32 }
-    ensures count { OnOk result (length clauses.new ≤ length clauses.old + 8) }
-    ensures value { OnOk result ((s : ℕ → Bool) → clauses_value s clauses.new ≡ (clauses_value s clauses.old && beq (lit_value s out) (xor_of (lit_value s a) (lit_value s b)))) }
-    ensures within { OnOk result ((n : ℕ) → IsWithin n out → IsWithin n a → IsWithin n b → AreShortWithin n clauses.old → AreShortWithin n clauses.new) }
+    ensures { OnOk result (AddsEquation clauses.old clauses.new out (a ∷ b ∷ []) (λ s. xor_of (lit_value s a) (lit_value s b))) }
 {
     let off = out.negated();
     let not_a = a.negated();
     let not_b = b.negated();
-    add(clauses, alloc, &[off, a, b])?;
-    add(clauses, alloc, &[off, not_a, not_b])?;
-    add(clauses, alloc, &[out, not_a, b])?;
-    add(clauses, alloc, &[out, a, not_b])?;
+    add(clauses, alloc, &[a, b, off])?;
+    add(clauses, alloc, &[not_a, not_b, off])?;
+    add(clauses, alloc, &[not_a, b, out])?;
+    add(clauses, alloc, &[a, not_b, out])?;
     Ok(())
 }
 
@@ -72,18 +93,53 @@ fn add_mux(
     b: Lit,
 ) -> Result<(), NoMemory>
     requires room { length clauses.old + 8 < 2 ^ 32 }
-    ensures count { OnOk result (length clauses.new ≤ length clauses.old + 8) }
-    ensures value { OnOk result ((s : ℕ → Bool) → clauses_value s clauses.new ≡ (clauses_value s clauses.old && beq (lit_value s out) (if lit_value s c then lit_value s a else lit_value s b))) }
-    ensures within { OnOk result ((n : ℕ) → IsWithin n out → IsWithin n c → IsWithin n a → IsWithin n b → AreShortWithin n clauses.old → AreShortWithin n clauses.new) }
+    ensures { OnOk result (AddsEquation clauses.old clauses.new out (c ∷ a ∷ b ∷ []) (λ s. if lit_value s c then lit_value s a else lit_value s b)) }
 {
     let off = out.negated();
     let not_c = c.negated();
     let not_a = a.negated();
     let not_b = b.negated();
-    add(clauses, alloc, &[not_c, off, a])?;
-    add(clauses, alloc, &[not_c, out, not_a])?;
-    add(clauses, alloc, &[c, off, b])?;
-    add(clauses, alloc, &[c, out, not_b])?;
+    add(clauses, alloc, &[not_c, a, off])?;
+    add(clauses, alloc, &[not_c, not_a, out])?;
+    add(clauses, alloc, &[c, b, off])?;
+    add(clauses, alloc, &[c, not_b, out])?;
+    Ok(())
+}
+
+/// Two of the six clauses of a majority: where `a` and `b` are both true `out` is, and where both are false it isn't.
+fn add_agreement(
+    clauses: &mut Clauses,
+    alloc: Global,
+    out: Lit,
+    a: Lit,
+    b: Lit,
+) -> Result<(), NoMemory>
+    requires room { length clauses.old + 2 < 2 ^ 32 }
+    ensures { OnOk result (AddsAgreement clauses.old clauses.new out a b) }
+{
+    let off = out.negated();
+    let not_a = a.negated();
+    let not_b = b.negated();
+    add(clauses, alloc, &[a, b, off])?;
+    add(clauses, alloc, &[not_a, not_b, out])?;
+    Ok(())
+}
+
+/// The clauses by which `out` is true exactly where at least two of `a`, `b` and `c` are.
+fn add_majority(
+    clauses: &mut Clauses,
+    alloc: Global,
+    out: Lit,
+    a: Lit,
+    b: Lit,
+    c: Lit,
+) -> Result<(), NoMemory>
+    requires room { length clauses.old + 8 < 2 ^ 32 }
+    ensures { OnOk result (AddsEquation clauses.old clauses.new out (a ∷ b ∷ c ∷ []) (λ s. majority_of (lit_value s a) (lit_value s b) (lit_value s c))) }
+{
+    add_agreement(clauses, alloc, out, a, b)?;
+    add_agreement(clauses, alloc, out, a, c)?;
+    add_agreement(clauses, alloc, out, b, c)?;
     Ok(())
 }
 
@@ -97,7 +153,7 @@ pub(crate) fn add_gate(
     requires small { place < 2 ^ 30 }
     requires fits { FitsAfter place gate }
     requires room { length clauses.old + 8 < 2 ^ 32 }
-    ensures count { OnOk result (length clauses.new ≤ length clauses.old + 8) }
+    ensures most { OnOk result (length clauses.new ≤ length clauses.old + 8) }
     ensures value { OnOk result ((s : ℕ → Bool) → clauses_value s clauses.new ≡ (clauses_value s clauses.old && beq (s (place + 1)) (gate_value s gate))) }
     ensures within { OnOk result ((n : ℕ) → place < n → AreShortWithin n clauses.old → AreShortWithin n clauses.new) }
 {
@@ -108,6 +164,7 @@ pub(crate) fn add_gate(
         Gate::And(a, b) => add_and(clauses, alloc, out, a, b)?,
         Gate::Xor(a, b) => add_xor(clauses, alloc, out, a, b)?,
         Gate::Mux(c, a, b) => add_mux(clauses, alloc, out, c, a, b)?,
+        Gate::Majority(a, b, c) => add_majority(clauses, alloc, out, a, b, c)?,
     }
     Ok(())
 }

@@ -1,3 +1,5 @@
+//! Gates.
+
 use pp_clause::Lit;
 
 /// What gives a variable its value. Its literals are of earlier variables.
@@ -13,4 +15,6 @@ pub enum Gate {
     Xor(Lit, Lit),
     /// The second where the first is true, and else the third.
     Mux(Lit, Lit, Lit),
+    /// True where at least two of the three are true.
+    Majority(Lit, Lit, Lit),
 }

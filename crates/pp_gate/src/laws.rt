@@ -1,6 +1,7 @@
 //! What holds of the assignments of every circuit. These functions do nothing; their contracts are the laws.
 
-ghost use Rattle.pp_gate.specs.Laws.{InputsComplete, InputsDetermine, GrowthExtends, GrowthKeeps, GivesByVariables, LiteralByVariables, GrowthShares};
+ghost use Rattle.pp_gate.specs.Laws.{InputsComplete, InputsDetermine, GrowthExtends, GrowthKeeps, GivesByVariables, LiteralByVariables};
+ghost use Rattle.pp_gate.specs.Cone.{AskedGiven, AskedComplete, AskedKeep};
 
 /// Every choice of values for the inputs has an assignment that gives each gate its value.
 pub fn inputs_complete()
@@ -33,8 +34,18 @@ pub fn literal_by_variables()
     ensures { LiteralByVariables }
 {}
 
-/// A call of `and`, `or` or `xor` that adds nothing to the old gates adds nothing to the new ones: with `has` and
-/// `again` of these, a second call adds nothing, whatever came between.
-pub fn growth_shares()
-    ensures { GrowthShares }
+/// An assignment that gives each gate its value gives those on which some literals stand theirs.
+pub fn asked_given()
+    ensures { AskedGiven }
+{}
+
+/// An assignment that gives the gates on which some literals stand their values can be completed to one that gives each
+/// gate its value: it keeps the inputs, and the variables on which these literals stand.
+pub fn asked_complete()
+    ensures { AskedComplete }
+{}
+
+/// Each assignment that gives each gate its value and has the same inputs keeps those variables.
+pub fn asked_keep()
+    ensures { AskedKeep }
 {}

@@ -3,15 +3,19 @@
 //! `Circuit` is a list of gates, one for each variable, no two of them alike; each call adds at most one. A literal's
 //! value depends on the assignment alone (`ℕ → Bool`, as in `pp_clause`), never on the circuit: an assignment is of
 //! use where it gives each gate its value (`Gives`). `specs/` has the meaning of gates, what lists of gates are
-//! circuits and in which normal form, how they grow, when a call adds nothing, and the laws of their assignments,
-//! which `laws` states of every circuit. The values and the normal form that contracts see are final; how gates are
-//! found again may be changed.
+//! circuits, how they grow, what literals stand on, and the laws of their assignments, which `laws` states of every
+//! circuit. The values that contracts see are final; in which form a gate is kept, and how it is found again, may be
+//! changed.
 #![tactic(auto)]
 
 pub mod circuit;
 mod clauses;
+mod cnf;
+mod complete;
+mod cone;
 pub mod gate;
 pub mod laws;
+mod logic;
 pub mod word;
 
 pub use circuit::Circuit;

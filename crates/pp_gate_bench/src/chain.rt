@@ -1,50 +1,93 @@
-ghost use Rattle.std.specs.Prelude.{◌≡◌, ◌+◌, ◌*◌, ◌/◌, ◌^◌, ◌≤◌, length, IfOk};
+//! Circuits that are built to be measured.
+
+ghost use Rattle.std.specs.Prelude.{◌≡◌, ◌+◌, ◌*◌, ◌/◌, ◌^◌, ◌≤◌, length, All, IfOk};
 ghost use Rattle.pp_gate.specs.Circuit.{IsOf};
-ghost use Rattle.pp_gate.specs.Growth.{Grows};
+ghost use Rattle.pp_gate.specs.Growth.{Grows, AddsGates};
 
 use pp_clause::Lit;
 use pp_gate::{Circuit, NoMemory};
 use std::alloc::Global;
 
-/// A circuit of three inputs and three gates a turn, each over the newest literals, so that none is shared.
+/// A circuit of three inputs and four gates a turn, each over the newest literals, so that none is shared.
 pub fn built(alloc: Global, size: u32) -> Result<Circuit, NoMemory>
-    requires { size ≤ 2 ^ 29 }
-    ensures { IfOk result (λ c. length c ≤ size + 4) }
+    requires { size ≤ 2 ^ 27 }
+    ensures most { IfOk result (λ c. length c ≤ size + 4) }
+    ensures least { IfOk result (λ c. 4 ≤ length c) }
 {
     let mut circuit = Circuit::new(alloc)?;
-    let mut c = circuit.input()?;
-    let mut b = circuit.input()?;
-    let mut a = circuit.input()?;
-    for turn in 0..size / 3 {
-        let gates = linked(&mut circuit, a, b, c)?;
-        a = gates.chosen;
-        b = gates.both;
-        c = gates.odd;
-    }
+    let start = inputs(&mut circuit)?;
+    grow(&mut circuit, &start, size / 4)?;
+    Ok(circuit)
+}
+
+/// The same circuit, where each gate is asked for twice.
+pub fn shared(alloc: Global, size: u32) -> Result<Circuit, NoMemory>
+    requires { size ≤ 2 ^ 27 }
+    ensures most { IfOk result (λ c. length c ≤ 2 * size + 4) }
+    ensures least { IfOk result (λ c. 4 ≤ length c) }
+{
+    let mut circuit = Circuit::new(alloc)?;
+    let start = inputs(&mut circuit)?;
+    grow(&mut circuit, &start, size / 4)?;
+    grow(&mut circuit, &start, size / 4)?;
     Ok(circuit)
 }
 
 /// The literals of one turn.
 #[derive(Clone, Copy)]
-pub struct Gates {
-    pub odd: Lit,
-    pub both: Lit,
-    pub chosen: Lit,
+pub struct Newest {
+    pub a: Lit,
+    pub b: Lit,
+    pub c: Lit,
+}
+
+/// Three inputs.
+fn inputs(circuit: &mut Circuit) -> Result<Newest, NoMemory>
+    requires room { length circuit.old + 3 ≤ 2 ^ 30 }
+    ensures count { IfOk result (λ _. length circuit.new ≡ length circuit.old + 3) }
+    ensures first { IfOk result (λ r. IsOf circuit.new r.a) }
+    ensures second { IfOk result (λ r. IsOf circuit.new r.b) }
+    ensures third { IfOk result (λ r. IsOf circuit.new r.c) }
+{
+    let a = circuit.input()?;
+    let b = circuit.input()?;
+    let c = circuit.input()?;
+    Ok(Newest { a, b, c })
+}
+
+/// One gate of each kind in each turn.
+fn grow(circuit: &mut Circuit, start: &Newest, turns: u32) -> Result<(), NoMemory>
+    requires room { length circuit.old + 4 * turns ≤ 2 ^ 30 }
+    requires first { IsOf circuit.old start.now.a }
+    requires second { IsOf circuit.old start.now.b }
+    requires third { IsOf circuit.old start.now.c }
+    ensures grows { Grows circuit.old circuit.new (4 * turns) }
+{
+    let mut last = *start;
+    for turn in 0..turns {
+        last = linked(circuit, last)?;
+    }
+    Ok(())
 }
 
 /// One gate of each kind.
-pub fn linked(circuit: &mut Circuit, a: Lit, b: Lit, c: Lit) -> Result<Gates, NoMemory>
-    requires room { length circuit.old + 3 ≤ 2 ^ 30 }
-    requires first { IsOf circuit.old a }
-    requires second { IsOf circuit.old b }
-    requires third { IsOf circuit.old c }
-    ensures grows { Grows circuit.old circuit.new 3 }
-    ensures odd { IfOk result (λ r. IsOf circuit.new r.odd) }
-    ensures both { IfOk result (λ r. IsOf circuit.new r.both) }
-    ensures chosen { IfOk result (λ r. IsOf circuit.new r.chosen) }
+fn linked(circuit: &mut Circuit, last: Newest) -> Result<Newest, NoMemory>
+    requires room { length circuit.old + 4 ≤ 2 ^ 30 }
+    requires first { IsOf circuit.old last.a }
+    requires second { IsOf circuit.old last.b }
+    requires third { IsOf circuit.old last.c }
+    ensures adds { AddsGates circuit.old circuit.new 4 }
+    ensures new_first { IfOk result (λ r. IsOf circuit.new r.a) }
+    ensures new_second { IfOk result (λ r. IsOf circuit.new r.b) }
+    ensures new_third { IfOk result (λ r. IsOf circuit.new r.c) }
 {
-    let odd = circuit.xor(a, b)?;
-    let both = circuit.and(odd, c)?;
-    let chosen = circuit.mux(both, odd, a)?;
-    Ok(Gates { odd, both, chosen })
+    let odd = circuit.xor(last.a, last.b)?;
+    let both = circuit.and(odd, last.c)?;
+    let chosen = circuit.mux(both, odd, last.a)?;
+    let most = circuit.majority(odd, chosen, last.c.negated())?;
+    Ok(Newest {
+        a: chosen,
+        b: most,
+        c: both,
+    })
 }

@@ -1,10 +1,11 @@
 -- The arithmetic of products, row by row.
 use Rattle.std.proofs.Common.{◌≡◌, ℕ, zero, suc, ◌+◌, ◌-◌, ◌*◌, ◌/◌, ◌%◌, ◌^◌, ◌<◌, Bool, true, false, if◌then◌else◌, List, ◌∷◌, length, take, drop, get_or, sym, ap, ◌∙◌, arith}
-use Rattle.std.proofs.Math.Nat.{add-mul-mod_self_left, mod-add-div}
+use Rattle.std.proofs.Math.Nat.{add-mul-mod_self_left, mod-add-div, mul_comm}
 use Rattle.std.proofs.lemmas.Nat.{pow_pos}
 use Rattle.std.proofs.lemmas.List.{length-take-le, length-drop}
 use Rattle.pp_clause.specs.Literal.{Literal, lit_value}
-use Rattle.pp_bits.specs.Number.{bit, lit_bit, nat_of}
+use Rattle.pp_gate.specs.declared.gate.Gate.{Gate}
+use Rattle.pp_bits.specs.Number.{bit, lit_bit, nat_of, StandsForNumber}
 use Rattle.pp_bits.proofs.Numbers as numbers
 
 -- the gates of the rows of n digits
@@ -84,3 +85,12 @@ mul_turn s xs ys rest lent all low some same islow il e f =
     f ∙ (λ j. (lit_bit s low * split.1 j + 2 * lower j) % twice j)
     ∙ product_more (2 ^ h) a0 (bit split.0) (lit_bit s low) above (pow_pos h)
     ∙ sym (λ j. (split.1 j * numbers.nat_of_uncons s ys low (omega arith) islow j) % twice j)
+
+-- which factor comes first makes no difference
+pub product_swapped : (gs : List Gate) (ls : List Literal) (x y : (ℕ → Bool) → ℕ) (m n : ℕ) → m ≡ n
+    → StandsForNumber gs m ls (λ s. (x s * y s) % 2 ^ m) → StandsForNumber gs n ls (λ s. (y s * x s) % 2 ^ n)
+product_swapped gs ls x y m n e h = record {
+  len = h.len ∙ e;
+  of = h.of;
+  value = λ s gives. h.value s gives ∙ (λ i. mul_comm (x s) (y s) i % 2 ^ e i);
+}

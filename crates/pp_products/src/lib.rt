@@ -2,13 +2,14 @@
 //!
 //! Under an assignment that gives each gate its value a list stands for the natural number of which its literals are
 //! the binary digits (`nat_of` of `pp_bits`). Each contract says what the answer stands for, how many gates come after
-//! the old ones at most, also where memory ends (`NoMemory`), and that no input comes in. Tests count the gates of the
-//! last column, and show that a second call on the same operands adds none.
+//! the old ones at most, also where memory ends (`NoMemory`), and that no input comes in. The gates of the last column
+//! are those of a model, and of `pp_wordgate_tables` for `mul`; that program shows too that a second call on the same
+//! operands adds none.
 //!
 //! | Call | For a of n digits and d of m | Gates at most | Over 32 fresh inputs each |
 //! |---|---|---|---|
-//! | `mul` | the product modulo 2^n, of two of n digits | 2n(n + 1) | 1,985 |
-//! | `divide` | quotient and remainder of a by d, where d isn't 0 | (4m + 3)n | 4,095 |
+//! | `mul` | the product modulo 2^n, of two of n digits | 2n(n + 1) | 1,954 |
+//! | `divide` | quotient and remainder of a by d, where d isn't 0 | (5m + 4)n | 2,141 |
 #![tactic(auto)]
 
 mod digits;

@@ -6,8 +6,8 @@ use Rattle.pp_clause.specs.Literal.{Literal, lit_value, opposite}
 use Rattle.pp_bits.specs.Number.{bit, lit_bit, nat_of}
 use Rattle.pp_gate.specs.declared.gate.Gate.{Gate}
 use Rattle.pp_gate.specs.Circuit.{IsOf, IsCircuit}
-use Rattle.pp_gate.specs.Growth.{Grows, NoNewInput}
-use Rattle.pp_bits.proofs.Growing.{Digits, Grown, Grown_none, Grown_more, Grows_more}
+use Rattle.pp_gate.specs.Growth.{AddsGates}
+use Rattle.pp_bits.proofs.Growing.{Digits, AddsGates_none, AddsGates_more}
 use Rattle.pp_bits.proofs.Numbers.{nat_of_below, nat_of_next, nat_of_nil, lit_value_negated, power_next}
 use Rattle.pp_shifts.specs.Shift.{moved_right}
 use Rattle.pp_shifts.proofs.Powers.{product_turn, times_one, times_none}
@@ -86,19 +86,18 @@ doubled_places by i most next e f = let p : 2 ^ (i + 1) ≡ 2 * 2 ^ i = power_ne
 
 -- ---- how the circuit grows over the stages
 
-pub Grown_at_first : (gs : List Gate) (n : ℕ) → IsCircuit gs → Grown gs gs (n * 0)
-Grown_at_first gs n is = subst (Grown gs gs) (sym (times_none n)) (Grown_none gs is)
+pub AddsGates_at_first : (gs : List Gate) (n : ℕ) → IsCircuit gs → AddsGates gs gs (n * 0)
+AddsGates_at_first gs n is = AddsGates_none gs (n * 0) is
 
-pub Grown_turn : (old mid new : List Gate) (lent : List Literal) (n i : ℕ) → length lent ≡ n → Grown old mid (n * i)
-    → Grows mid new (length lent) → NoNewInput mid new → IsCircuit new → Grown old new (n * (i + 1))
-Grown_turn old mid new lent n i len g grows inputs is =
-    Grown_more old mid new (n * i) (length lent) (n * (i + 1)) g grows inputs is (omega (arith, mul-add n i 1))
+pub AddsGates_turn : (old mid new : List Gate) (lent : List Literal) (n i : ℕ) → length lent ≡ n → AddsGates old mid (n * i)
+    → AddsGates mid new (length lent) → AddsGates old new (n * (i + 1))
+AddsGates_turn old mid new lent n i len g h = AddsGates_more old mid new (n * i) (length lent) (n * (i + 1)) g h (omega (arith, mul-add n i 1))
 
 -- also after a stage that wanted memory
-pub Grows_turn : (old mid new : List Gate) (lent : List Literal) (n i m : ℕ) → i < m → length lent ≡ n → Grown old mid (n * i)
-    → Grows mid new (length lent) → Grows old new (n * m)
-Grows_turn old mid new lent n i m h len g grows =
-    Grows_more old mid new (n * i) (length lent) (n * m) g.grows grows (omega (arith, stage_fits n i m h))
+pub AddsGates_short : (old mid new : List Gate) (lent : List Literal) (n i m : ℕ) → i < m → length lent ≡ n → AddsGates old mid (n * i)
+    → AddsGates mid new (length lent) → AddsGates old new (n * m)
+AddsGates_short old mid new lent n i m h len g more =
+    AddsGates_more old mid new (n * i) (length lent) (n * m) g more (omega (arith, stage_fits n i m h))
 
 pub zero_value : (s : ℕ → Bool) (zero truth : Literal) → zero ≡ opposite truth → lit_value s truth ≡ true → lit_value s zero ≡ false
 zero_value s zero truth e h = lit_value_negated s zero truth e ∙ ap not h

@@ -2,7 +2,7 @@
 //!
 //! The distance is a list of literals too, so it may be any number. A shift is one stage for each digit of the distance:
 //! stage i moves by 2^i places where that digit is true, which takes at most one gate for each literal, and none where the
-//! digit is constant. (own; the barrel shifter of the textbooks)
+//! digit is constant. (own; the barrel shifter of the textbooks) `sign` is the digit that an arithmetic shift fills in.
 #![tactic(auto)]
 
 mod moves;
@@ -10,5 +10,6 @@ mod shift;
 #[cfg(test)]
 mod tests;
 
+pub use moves::sign;
 pub use pp_clause::NoMemory;
 pub use shift::{shl, shr, ushr};

@@ -1,4 +1,5 @@
-// Moves by a distance that is known, which take no gates.
+//! Moves by a distance that is known, which take no gates.
+
 ghost use Rattle.std.specs.Prelude.{◌≡◌, ◌-◌, ◌^◌, ℕ, Bool, ◌++◌, All, length, take, drop, replicate, min, nat_le, IfOk};
 ghost use Rattle.pp_clause.specs.Literal.{lit_value};
 ghost use Rattle.pp_gate.specs.Circuit.{IsOf, IsCircuit, Gives};
@@ -54,7 +55,7 @@ pub(crate) fn lowered(
 }
 
 /// The sign of a number in two's complement: its highest digit, and false where it has no digits.
-pub(crate) fn sign(circuit: &Circuit, a: &[Lit]) -> Lit
+pub fn sign(circuit: &Circuit, a: &[Lit]) -> Lit
     requires { All (IsOf circuit.now) a.now }
     ensures of { IsOf circuit.now result }
     ensures value { (s : ℕ → Bool) → Gives s circuit.now → lit_value s result ≡ nat_le (2 ^ (length a.now - 1)) (nat_of s a.now) }

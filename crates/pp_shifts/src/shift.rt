@@ -1,9 +1,11 @@
+//! Shifts, stage by stage.
+
 ghost use Rattle.std.specs.Prelude.{◌≡◌, ℕ, Bool, ◌+◌, ◌*◌, ◌/◌, ◌%◌, ◌^◌, ◌≤◌, All, length, IfOk, false};
 ghost use Rattle.std.specs.Int.{int_shr};
 ghost use Rattle.pp_clause.specs.Literal.{lit_value};
-ghost use Rattle.pp_gate.specs.Circuit.{IsOf, IsCircuit, Gives};
-ghost use Rattle.pp_gate.specs.Growth.{Grows, NoNewInput};
-ghost use Rattle.pp_bits.specs.Number.{lit_bit, nat_of, signed_of};
+ghost use Rattle.pp_gate.specs.Circuit.{IsOf, Gives};
+ghost use Rattle.pp_gate.specs.Growth.{AddsGates};
+ghost use Rattle.pp_bits.specs.Number.{lit_bit, nat_of, signed_of, StandsForNumber};
 ghost use Rattle.pp_shifts.specs.Shift.{moved_right};
 
 use crate::NoMemory;
@@ -20,12 +22,8 @@ pub fn shl(circuit: &mut Circuit, a: &[Lit], distance: &[Lit]) -> Result<Vec<Lit
     requires number { All (IsOf circuit.old) a.now }
     requires distance { All (IsOf circuit.old) distance.now }
     requires room { length circuit.old + length a.now * length distance.now ≤ 2 ^ 30 }
-    ensures grows { Grows circuit.old circuit.new (length a.now * length distance.now) }
-    ensures inputs { NoNewInput circuit.old circuit.new }
-    ensures len { IfOk result (λ r. length r.items ≡ length a.now) }
-    ensures of { IfOk result (λ r. All (IsOf circuit.new) r.items) }
-    ensures value { IfOk result (λ r. (s : ℕ → Bool) → Gives s circuit.new → nat_of s r.items ≡ (nat_of s a.now * 2 ^ nat_of s distance.now) % 2 ^ length a.now) }
-    ensures circuit { IsCircuit circuit.new }
+    ensures adds { AddsGates circuit.old circuit.new (length a.now * length distance.now) }
+    ensures stands { IfOk result (λ r. StandsForNumber circuit.new (length a.now) r.items (λ s. (nat_of s a.now * 2 ^ nat_of s distance.now) % 2 ^ length a.now)) }
 {
     let zero = circuit.truth().negated();
     let mut digits = copied(circuit, a)?;
@@ -45,12 +43,8 @@ pub fn ushr(circuit: &mut Circuit, a: &[Lit], distance: &[Lit]) -> Result<Vec<Li
     requires number { All (IsOf circuit.old) a.now }
     requires distance { All (IsOf circuit.old) distance.now }
     requires room { length circuit.old + length a.now * length distance.now ≤ 2 ^ 30 }
-    ensures grows { Grows circuit.old circuit.new (length a.now * length distance.now) }
-    ensures inputs { NoNewInput circuit.old circuit.new }
-    ensures len { IfOk result (λ r. length r.items ≡ length a.now) }
-    ensures of { IfOk result (λ r. All (IsOf circuit.new) r.items) }
-    ensures value { IfOk result (λ r. (s : ℕ → Bool) → Gives s circuit.new → nat_of s r.items ≡ nat_of s a.now / 2 ^ nat_of s distance.now) }
-    ensures circuit { IsCircuit circuit.new }
+    ensures adds { AddsGates circuit.old circuit.new (length a.now * length distance.now) }
+    ensures stands { IfOk result (λ r. StandsForNumber circuit.new (length a.now) r.items (λ s. nat_of s a.now / 2 ^ nat_of s distance.now)) }
 {
     let zero = circuit.truth().negated();
     right(circuit, a, distance, zero)
@@ -65,12 +59,10 @@ pub fn shr(circuit: &mut Circuit, a: &[Lit], distance: &[Lit]) -> Result<Vec<Lit
     requires number { All (IsOf circuit.old) a.now }
     requires distance { All (IsOf circuit.old) distance.now }
     requires room { length circuit.old + length a.now * length distance.now ≤ 2 ^ 30 }
-    ensures grows { Grows circuit.old circuit.new (length a.now * length distance.now) }
-    ensures inputs { NoNewInput circuit.old circuit.new }
+    ensures adds { AddsGates circuit.old circuit.new (length a.now * length distance.now) }
     ensures len { IfOk result (λ r. length r.items ≡ length a.now) }
     ensures of { IfOk result (λ r. All (IsOf circuit.new) r.items) }
     ensures value { IfOk result (λ r. (s : ℕ → Bool) → Gives s circuit.new → signed_of (length a.now) (nat_of s r.items) ≡ int_shr (signed_of (length a.now) (nat_of s a.now)) (nat_of s distance.now)) }
-    ensures circuit { IsCircuit circuit.new }
 {
     let sign = sign(circuit, a);
     let digits = right(circuit, a, distance, sign)?;
@@ -88,12 +80,8 @@ fn right(
     requires distance { All (IsOf circuit.old) distance.now }
     requires fill { IsOf circuit.old fill }
     requires room { length circuit.old + length a.now * length distance.now ≤ 2 ^ 30 }
-    ensures grows { Grows circuit.old circuit.new (length a.now * length distance.now) }
-    ensures inputs { NoNewInput circuit.old circuit.new }
-    ensures len { IfOk result (λ r. length r.items ≡ length a.now) }
-    ensures of { IfOk result (λ r. All (IsOf circuit.new) r.items) }
-    ensures value { IfOk result (λ r. (s : ℕ → Bool) → Gives s circuit.new → nat_of s r.items ≡ moved_right (length a.now) (lit_value s fill) (nat_of s a.now) (nat_of s distance.now)) }
-    ensures circuit { IsCircuit circuit.new }
+    ensures adds { AddsGates circuit.old circuit.new (length a.now * length distance.now) }
+    ensures stands { IfOk result (λ r. StandsForNumber circuit.new (length a.now) r.items (λ s. moved_right (length a.now) (lit_value s fill) (nat_of s a.now) (nat_of s distance.now))) }
 {
     let mut digits = copied(circuit, a)?;
     let mut by = 1;
@@ -116,12 +104,10 @@ fn left_stage(
     requires choice { IsOf circuit.old choice }
     requires zero { IsOf circuit.old zero }
     requires room { length circuit.old + length digits.now ≤ 2 ^ 30 }
-    ensures grows { Grows circuit.old circuit.new (length digits.now) }
-    ensures inputs { NoNewInput circuit.old circuit.new }
+    ensures adds { AddsGates circuit.old circuit.new (length digits.now) }
     ensures len { IfOk result (λ r. length r.items ≡ length digits.now) }
     ensures of { IfOk result (λ r. All (IsOf circuit.new) r.items) }
     ensures value { IfOk result (λ r. (s : ℕ → Bool) → Gives s circuit.new → lit_value s zero ≡ false → nat_of s r.items ≡ (nat_of s digits.now * 2 ^ (by * lit_bit s choice)) % 2 ^ length digits.now) }
-    ensures circuit { IsCircuit circuit.new }
 {
     let moved = raised(circuit, digits, by, zero)?;
     let chosen = choose(circuit, choice, &moved, digits)?;
@@ -140,12 +126,10 @@ fn right_stage(
     requires choice { IsOf circuit.old choice }
     requires fill { IsOf circuit.old fill }
     requires room { length circuit.old + length digits.now ≤ 2 ^ 30 }
-    ensures grows { Grows circuit.old circuit.new (length digits.now) }
-    ensures inputs { NoNewInput circuit.old circuit.new }
+    ensures adds { AddsGates circuit.old circuit.new (length digits.now) }
     ensures len { IfOk result (λ r. length r.items ≡ length digits.now) }
     ensures of { IfOk result (λ r. All (IsOf circuit.new) r.items) }
     ensures value { IfOk result (λ r. (s : ℕ → Bool) → Gives s circuit.new → nat_of s r.items ≡ moved_right (length digits.now) (lit_value s fill) (nat_of s digits.now) (by * lit_bit s choice)) }
-    ensures circuit { IsCircuit circuit.new }
 {
     let moved = lowered(circuit, digits, by, fill)?;
     let chosen = choose(circuit, choice, &moved, digits)?;

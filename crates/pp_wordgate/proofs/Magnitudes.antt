@@ -1,82 +1,126 @@
--- Signs and magnitudes of words, and quotients and remainders from those of the magnitudes.
-use Rattle.std.proofs.Common.{◌≡◌, ◌≢◌, ℕ, ◌+◌, ◌-◌, ◌*◌, ◌%◌, ◌^◌, ◌<◌, Bool, true, false, if◌then◌else◌, leb, List, length, get_or, refl, sym, ap, ◌∙◌, subst, arith}
-use Rattle.std.specs.Int.{w32, cast_signed}
+-- Signs and magnitudes in two's complement, and what the quotients and remainders of magnitudes make of words.
+use Rattle.std.proofs.Common.{◌≡◌, ◌≢◌, ℕ, zero, suc, ◌+◌, ◌-◌, ◌*◌, ◌%◌, ◌^◌, ◌<◌, Bool, true, false, if◌then◌else◌, leb, List, length, refl, sym, ap, ◌∙◌, subst, arith}
+use Rattle.std.specs.Int.{Width, w8, w16, w32, w64, w128, cast_signed}
 use Rattle.std.specs.Int.RustNames.{unsigned_abs}
-use Rattle.pp_clause.specs.Literal.{Literal, lit_value}
+use Rattle.std.proofs.Math.Nat.{mod-eq_of_lt}
+use Rattle.std.proofs.lemmas.Nat.{pow_pos}
+use Rattle.pp_clause.specs.Literal.{Literal}
+use Rattle.pp_gate.specs.declared.gate.Gate.{Gate}
 use Rattle.pp_gate.specs.Gate.{xor_of}
+use Rattle.pp_gate.specs.Circuit.{Gives}
 use Rattle.pp_word.specs.Bits.{differ}
-use Rattle.pp_word.specs.Word.{word_div, word_rem, word_less}
+use Rattle.pp_word.specs.Word.{word_div, word_rem}
 use Rattle.pp_word.proofs.Ranges.{IsWord-cast_signed}
-use Rattle.pp_wordlaws.proofs.Readings.{is_negative, is_negative-cast_signed, less_is_negative, unsigned_abs-cast_signed, magnitude_some}
+use Rattle.pp_wordlaws.proofs.Readings.{is_negative, is_negative-cast_signed, read_low, unsigned_abs-cast_signed}
 use Rattle.pp_wordlaws.proofs.Quotients.{quotient_of_bits, remainder_of_bits}
 use Rattle.pp_bits.specs.Number.{nat_of}
-use Rattle.pp_shifts.proofs.Signs.{sign_value}
+use Rattle.pp_bits.proofs.Numbers.{nat_of_below}
 use Rattle.pp_products.specs.Division.{Divides}
-use Rattle.pp_wordgate.specs.Meaning.{word_of}
-use Rattle.pp_wordgate.proofs.Words.{below_32}
-use lib.IntN.{pos}
+use Rattle.pp_wordgate.specs.Meaning.{word_of, magnitude_of, StandsForDivision}
+use Rattle.pp_wordgate.proofs.Words.{below_bits}
+use lib.IntN.{ℤ, pos}
+use mir.Val.{bits, hbits}
 
-top_is_negative : (v : ℕ) → leb (2 ^ 31) v ≡ word_less (cast_signed w32 v) (pos 0)
-top_is_negative v = sym (is_negative-cast_signed w32 v) ∙ sym (less_is_negative (cast_signed w32 v))
+one_less : (w : Width) → bits w - 1 ≡ hbits w
+one_less w8 = refl
+one_less w16 = refl
+one_less w32 = refl
+one_less w64 = refl
+one_less w128 = refl
 
-pub sign_word : (s : ℕ → Bool) (a la : List Literal) (l : Literal) → la ≡ a → length a ≡ 32 → l ≡ get_or la 31 l
-    → lit_value s l ≡ word_less (word_of s a) (pos 0)
-unfolding word_of
-sign_word s a la l ea ha e =
-    sign_value s a l (omega arith) (e ∙ (λ i. get_or (ea i) 31 l) ∙ ap (λ n. get_or a (n - 1) l) (sym ha))
-    ∙ ap (λ n. leb (2 ^ (n - 1)) (nat_of s a)) ha
-    ∙ top_is_negative (nat_of s a)
+-- a number that is not 0 has a magnitude
+magnitude_some : (n v : ℕ) → v < 2 ^ n → 0 < v → 0 < magnitude_of n v
+magnitude_some n v small some = by (leb (2 ^ (n - 1)) v)
+  where
+    by : (high : Bool) → 0 < (if high then (2 ^ n - v) % 2 ^ n else v)
+    by false = some
+    by true = let less : 2 ^ n - v < 2 ^ n = omega arith in subst (λ k. 0 < k) (sym (mod-eq_of_lt less)) (omega arith)
 
-pub magnitude_word : (s : ℕ → Bool) (a la : List Literal) (negative : Bool) (r : ℕ) → la ≡ a → length a ≡ 32
-    → negative ≡ word_less (word_of s a) (pos 0)
-    → r ≡ (if negative then (2 ^ length la - nat_of s la) % 2 ^ length la else nat_of s la) → r ≡ unsigned_abs (word_of s a)
-unfolding word_of
-magnitude_word s a la negative r ea ha n e =
-    e ∙ (λ i. if negative then (2 ^ length (ea i) - nat_of s (ea i)) % 2 ^ length (ea i) else nat_of s (ea i))
-    ∙ ap (λ k. if negative then (2 ^ k - nat_of s a) % 2 ^ k else nat_of s a) ha
-    ∙ sym (unsigned_abs-cast_signed w32 (nat_of s a) negative (below_32 s a ha) (n ∙ sym (top_is_negative (nat_of s a))))
-
--- a divisor other than 0 has a magnitude
-pub some_divisor : (s : ℕ → Bool) (b : List Literal) (d : ℕ) → d ≡ unsigned_abs (word_of s b) → word_of s b ≢ pos 0 → 0 < d
-some_divisor s b d e h = omega (arith, magnitude_some (word_of s b) h)
+pub divisor_some : (s : ℕ → Bool) (b : List Literal) (n d : ℕ) → n ≡ length b → d ≡ magnitude_of n (nat_of s b) → 0 < nat_of s b → 0 < d
+divisor_some s b n d same e some =
+    subst (λ k. 0 < k) (sym (e ∙ ap (λ k. magnitude_of k (nat_of s b)) same)) (magnitude_some (length b) (nat_of s b) (nat_of_below s b) some)
 
 pub Divides_same : (m n d e q r : ℕ) → m ≡ n → d ≡ e → Divides m d q r → Divides n e q r
 Divides_same m n d e q r x y h = record { whole = ap (λ k. q * k + r) (sym y) ∙ h.whole ∙ x; below = subst (λ k. r < k) y h.below }
 
--- what the code lends of a quotient, and of a remainder
-pub Divides_quotient : (s : ℕ → Bool) (m d r : ℕ) (q lq : List Literal) → lq ≡ q → Divides m d (nat_of s q) r → Divides m d (nat_of s lq) r
-Divides_quotient s m d r q lq e h = subst (λ l. Divides m d (nat_of s l) r) (sym e) h
+-- ---- at the widths of Rust's integers
 
-pub Divides_rest : (s : ℕ → Bool) (m d q : ℕ) (r lr : List Literal) → lr ≡ r → Divides m d q (nat_of s r) → Divides m d q (nat_of s lr)
-Divides_rest s m d q r lr e h = subst (λ l. Divides m d q (nat_of s l)) (sym e) h
+-- the top digit is the sign
+top_digit : (w : Width) (s : ℕ → Bool) (a : List Literal) → length a ≡ bits w → leb (2 ^ (length a - 1)) (nat_of s a) ≡ leb (2 ^ hbits w) (nat_of s a)
+top_digit w s a wide = ap (λ k. leb (2 ^ (k - 1)) (nat_of s a)) wide ∙ ap (λ k. leb (2 ^ k) (nat_of s a)) (one_less w)
+
+sign_word : (w : Width) (s : ℕ → Bool) (a : List Literal) (x : Bool) → length a ≡ bits w → x ≡ leb (2 ^ (length a - 1)) (nat_of s a)
+    → x ≡ is_negative (word_of w s a)
+unfolding word_of
+sign_word w s a x wide e = e ∙ top_digit w s a wide ∙ sym (is_negative-cast_signed w (nat_of s a))
+
+magnitude_word : (w : Width) (s : ℕ → Bool) (a : List Literal) (n : ℕ) → n ≡ length a → length a ≡ bits w
+    → magnitude_of n (nat_of s a) ≡ unsigned_abs (word_of w s a)
+unfolding word_of
+magnitude_word w s a n same wide =
+    let negative = leb (2 ^ (n - 1)) (nat_of s a) in
+    let is : negative ≡ leb (2 ^ hbits w) (nat_of s a) = ap (λ k. leb (2 ^ (k - 1)) (nat_of s a)) same ∙ top_digit w s a wide in
+    ap (λ k. if negative then (2 ^ k - nat_of s a) % 2 ^ k else nat_of s a) (same ∙ wide)
+    ∙ sym (unsigned_abs-cast_signed w (nat_of s a) negative (below_bits w s a wide) is)
+
+-- a word other than 0 has a number other than 0
+pub word_some : (w : Width) (s : ℕ → Bool) (b : List Literal) → word_of w s b ≢ pos 0 → 0 < nat_of s b
+unfolding word_of
+word_some w s b other = by (nat_of s b) refl
+  where
+    by : (v : ℕ) → nat_of s b ≡ v → 0 < nat_of s b
+    by zero e = absurd (other (ap (cast_signed w) e ∙ read_low w 0 (pow_pos (hbits w))))
+    by (suc v) e = omega arith
+
+Divides_words : (w : Width) (s : ℕ → Bool) (a b : List Literal) (q r : ℕ) → length a ≡ length b → length a ≡ bits w
+    → Divides (magnitude_of (length a) (nat_of s a)) (magnitude_of (length a) (nat_of s b)) q r
+    → Divides (unsigned_abs (word_of w s a)) (unsigned_abs (word_of w s b)) q r
+Divides_words w s a b q r same wide d =
+    Divides_same _ _ _ _ q r (magnitude_word w s a (length a) refl wide) (magnitude_word w s b (length a) same (sym same ∙ wide)) d
 
 xor_is_differ : (x y : Bool) → xor_of x y ≡ differ x y
 xor_is_differ true y = refl
 xor_is_differ false y = refl
 
-pub quotient_word : (s : ℕ → Bool) (a b q all : List Literal) (x y negative : Bool) (rest : ℕ) → length a ≡ 32 → length q ≡ 32
-    → x ≡ word_less (word_of s a) (pos 0) → y ≡ word_less (word_of s b) (pos 0) → negative ≡ xor_of x y
-    → Divides (unsigned_abs (word_of s a)) (unsigned_abs (word_of s b)) (nat_of s q) rest
-    → nat_of s all ≡ (if negative then (2 ^ length q - nat_of s q) % 2 ^ length q else nat_of s q)
-    → word_of s all ≡ word_div w32 (word_of s a) (word_of s b)
+-- the quotient that the code lends, with its sign
+pub quotient_word : (w : Width) (s : ℕ → Bool) (a b q lq all : List Literal) (x y negative : Bool) (rest : ℕ)
+    → length a ≡ length b → length a ≡ bits w → lq ≡ q → length q ≡ length a
+    → x ≡ leb (2 ^ (length a - 1)) (nat_of s a) → y ≡ leb (2 ^ (length b - 1)) (nat_of s b) → negative ≡ xor_of x y
+    → Divides (magnitude_of (length a) (nat_of s a)) (magnitude_of (length a) (nat_of s b)) (nat_of s q) rest
+    → nat_of s all ≡ (if negative then (2 ^ length lq - nat_of s lq) % 2 ^ length lq else nat_of s lq)
+    → word_of w s all ≡ word_div w (word_of w s a) (word_of w s b)
 unfolding word_of
-quotient_word s a b q all x y negative rest ha hq ex ey en d e =
-    let n = cast_signed w32 (nat_of s a) in
-    let m = cast_signed w32 (nat_of s b) in
+quotient_word w s a b q lq all x y negative rest same wide eq hq ex ey en d e =
+    let n = cast_signed w (nat_of s a) in
+    let m = cast_signed w (nat_of s b) in
+    let parts = Divides_words w s a b (nat_of s q) rest same wide d in
     let signs : negative ≡ differ (is_negative n) (is_negative m) =
-    en ∙ xor_is_differ x y ∙ (λ i. differ ((ex ∙ less_is_negative n) i) ((ey ∙ less_is_negative m) i)) in
-    quotient_of_bits w32 n m (nat_of s q) rest (nat_of s all) (IsWord-cast_signed w32 (nat_of s a) (below_32 s a ha)) d.whole d.below
-    (e ∙ (λ i. if signs i then (2 ^ hq i - nat_of s q) % 2 ^ hq i else nat_of s q))
+    en ∙ xor_is_differ x y ∙ (λ i. differ (sign_word w s a x wide ex i) (sign_word w s b y (sym same ∙ wide) ey i)) in
+    quotient_of_bits w n m (nat_of s q) rest (nat_of s all) (IsWord-cast_signed w (nat_of s a) (below_bits w s a wide)) parts.whole parts.below
+    (e ∙ (λ i. if signs i then (2 ^ length (eq i) - nat_of s (eq i)) % 2 ^ length (eq i) else nat_of s (eq i))
+    ∙ ap (λ k. if differ (is_negative n) (is_negative m) then (2 ^ k - nat_of s q) % 2 ^ k else nat_of s q) (hq ∙ wide))
 
-pub remainder_word : (s : ℕ → Bool) (a b rest all : List Literal) (negative : Bool) (q : ℕ) → length a ≡ 32 → length rest ≡ 32
-    → negative ≡ word_less (word_of s a) (pos 0)
-    → Divides (unsigned_abs (word_of s a)) (unsigned_abs (word_of s b)) q (nat_of s rest)
-    → nat_of s all ≡ (if negative then (2 ^ length rest - nat_of s rest) % 2 ^ length rest else nat_of s rest)
-    → word_of s all ≡ word_rem w32 (word_of s a) (word_of s b)
+pub remainder_word : (w : Width) (s : ℕ → Bool) (a b r lr all : List Literal) (negative : Bool) (q : ℕ)
+    → length a ≡ length b → length a ≡ bits w → lr ≡ r → length r ≡ length a
+    → negative ≡ leb (2 ^ (length a - 1)) (nat_of s a)
+    → Divides (magnitude_of (length a) (nat_of s a)) (magnitude_of (length a) (nat_of s b)) q (nat_of s r)
+    → nat_of s all ≡ (if negative then (2 ^ length lr - nat_of s lr) % 2 ^ length lr else nat_of s lr)
+    → word_of w s all ≡ word_rem w (word_of w s a) (word_of w s b)
 unfolding word_of
-remainder_word s a b rest all negative q ha hr en d e =
-    let n = cast_signed w32 (nat_of s a) in
-    let m = cast_signed w32 (nat_of s b) in
-    let sign : negative ≡ is_negative n = en ∙ less_is_negative n in
-    remainder_of_bits w32 n m q (nat_of s rest) (nat_of s all) (IsWord-cast_signed w32 (nat_of s a) (below_32 s a ha)) (below_32 s rest hr) d.whole d.below
-    (e ∙ (λ i. if sign i then (2 ^ hr i - nat_of s rest) % 2 ^ hr i else nat_of s rest))
+remainder_word w s a b r lr all negative q same wide er hr en d e =
+    let n = cast_signed w (nat_of s a) in
+    let m = cast_signed w (nat_of s b) in
+    let parts = Divides_words w s a b q (nat_of s r) same wide d in
+    let sign : negative ≡ is_negative n = sign_word w s a negative wide en in
+    remainder_of_bits w n m q (nat_of s r) (nat_of s all) (IsWord-cast_signed w (nat_of s a) (below_bits w s a wide)) (below_bits w s r (hr ∙ wide)) parts.whole parts.below
+    (e ∙ (λ i. if sign i then (2 ^ length (er i) - nat_of s (er i)) % 2 ^ length (er i) else nat_of s (er i))
+    ∙ ap (λ k. if is_negative n then (2 ^ k - nat_of s r) % 2 ^ k else nat_of s r) (hr ∙ wide))
+
+-- what the code lends of two words, and makes a word of
+pub division_word : (operation : Width → ℤ → ℤ → ℤ) (w : Width) (gs : List Gate) (a b la lb digits r : List Literal) → la ≡ a → lb ≡ b → length a ≡ bits w
+    → r ≡ digits → StandsForDivision operation gs la lb digits
+    → (s : ℕ → Bool) → Gives s gs → word_of w s b ≢ pos 0 → word_of w s r ≡ operation w (word_of w s a) (word_of w s b)
+division_word operation w gs a b la lb digits r ea eb wide er stands s gives some =
+    ap (word_of w s) er
+    ∙ stands.value w (ap length ea ∙ wide) s gives (λ e. some (ap (word_of w s) (sym eb) ∙ e))
+    ∙ (λ i. operation w (word_of w s (ea i)) (word_of w s (eb i)))

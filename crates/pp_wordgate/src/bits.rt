@@ -1,10 +1,10 @@
-// The operations on each bit.
+//! The operations on each bit.
 
 ghost use Rattle.std.specs.Prelude.{◌≡◌, ℕ, Bool, ◌+◌, ◌^◌, ◌≤◌, All, length, IfOk};
 ghost use Rattle.std.specs.Int.{w32};
-ghost use Rattle.pp_gate.specs.Circuit.{IsOf, IsCircuit, Gives};
-ghost use Rattle.pp_gate.specs.Growth.{Grows, NoNewInput};
-ghost use Rattle.pp_wordgate.specs.Meaning.{word_of};
+ghost use Rattle.pp_gate.specs.Circuit.{IsOf, Gives, StandsFor};
+ghost use Rattle.pp_gate.specs.Growth.{AddsGates};
+ghost use Rattle.pp_wordgate.specs.Meaning.{word_of, StandsForWord};
 ghost use Rattle.pp_word.specs.Word.{word_and, word_or, word_xor, word_not};
 
 use crate::NoMemory;
@@ -17,11 +17,8 @@ pub fn and(circuit: &mut Circuit, a: Word, b: Word) -> Result<Word, NoMemory>
     requires room { length circuit.old + 64 ≤ 2 ^ 30 }
     requires left { All (IsOf circuit.old) a }
     requires right { All (IsOf circuit.old) b }
-    ensures grows { Grows circuit.old circuit.new 64 }
-    ensures inputs { NoNewInput circuit.old circuit.new }
-    ensures of { IfOk result (λ r. All (IsOf circuit.new) r) }
-    ensures value { IfOk result (λ r. (s : ℕ → Bool) → Gives s circuit.new → word_of s r ≡ word_and w32 (word_of s a) (word_of s b)) }
-    ensures circuit { IsCircuit circuit.new }
+    ensures adds { AddsGates circuit.old circuit.new 64 }
+    ensures stands { IfOk result (λ r. StandsForWord w32 circuit.new r (λ s. word_and w32 (word_of w32 s a) (word_of w32 s b))) }
 {
     let digits = pp_bits::and(circuit, a.lits(), b.lits())?;
     Ok(Word::from_lits(&digits))
@@ -34,11 +31,8 @@ pub fn or(circuit: &mut Circuit, a: Word, b: Word) -> Result<Word, NoMemory>
     requires room { length circuit.old + 64 ≤ 2 ^ 30 }
     requires left { All (IsOf circuit.old) a }
     requires right { All (IsOf circuit.old) b }
-    ensures grows { Grows circuit.old circuit.new 64 }
-    ensures inputs { NoNewInput circuit.old circuit.new }
-    ensures of { IfOk result (λ r. All (IsOf circuit.new) r) }
-    ensures value { IfOk result (λ r. (s : ℕ → Bool) → Gives s circuit.new → word_of s r ≡ word_or w32 (word_of s a) (word_of s b)) }
-    ensures circuit { IsCircuit circuit.new }
+    ensures adds { AddsGates circuit.old circuit.new 64 }
+    ensures stands { IfOk result (λ r. StandsForWord w32 circuit.new r (λ s. word_or w32 (word_of w32 s a) (word_of w32 s b))) }
 {
     let digits = pp_bits::or(circuit, a.lits(), b.lits())?;
     Ok(Word::from_lits(&digits))
@@ -51,11 +45,8 @@ pub fn xor(circuit: &mut Circuit, a: Word, b: Word) -> Result<Word, NoMemory>
     requires room { length circuit.old + 64 ≤ 2 ^ 30 }
     requires left { All (IsOf circuit.old) a }
     requires right { All (IsOf circuit.old) b }
-    ensures grows { Grows circuit.old circuit.new 64 }
-    ensures inputs { NoNewInput circuit.old circuit.new }
-    ensures of { IfOk result (λ r. All (IsOf circuit.new) r) }
-    ensures value { IfOk result (λ r. (s : ℕ → Bool) → Gives s circuit.new → word_of s r ≡ word_xor w32 (word_of s a) (word_of s b)) }
-    ensures circuit { IsCircuit circuit.new }
+    ensures adds { AddsGates circuit.old circuit.new 64 }
+    ensures stands { IfOk result (λ r. StandsForWord w32 circuit.new r (λ s. word_xor w32 (word_of w32 s a) (word_of w32 s b))) }
 {
     let digits = pp_bits::xor(circuit, a.lits(), b.lits())?;
     Ok(Word::from_lits(&digits))
@@ -67,11 +58,8 @@ pub fn xor(circuit: &mut Circuit, a: Word, b: Word) -> Result<Word, NoMemory>
 pub fn not(circuit: &mut Circuit, a: Word) -> Result<Word, NoMemory>
     requires room { length circuit.old + 64 ≤ 2 ^ 30 }
     requires of { All (IsOf circuit.old) a }
-    ensures grows { Grows circuit.old circuit.new 64 }
-    ensures inputs { NoNewInput circuit.old circuit.new }
-    ensures of { IfOk result (λ r. All (IsOf circuit.new) r) }
-    ensures value { IfOk result (λ r. (s : ℕ → Bool) → Gives s circuit.new → word_of s r ≡ word_not w32 (word_of s a)) }
-    ensures circuit { IsCircuit circuit.new }
+    ensures adds { AddsGates circuit.old circuit.new 64 }
+    ensures stands { IfOk result (λ r. StandsForWord w32 circuit.new r (λ s. word_not w32 (word_of w32 s a))) }
 {
     let digits = pp_bits::invert(circuit, a.lits())?;
     Ok(Word::from_lits(&digits))

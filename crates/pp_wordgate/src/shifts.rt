@@ -1,10 +1,10 @@
-// Shifts, by the low five bits of the second word.
+//! Shifts, by the low five bits of the second word.
 
 ghost use Rattle.std.specs.Prelude.{◌≡◌, ℕ, Bool, ◌+◌, ◌^◌, ◌≤◌, All, length, IfOk};
 ghost use Rattle.std.specs.Int.{w32};
-ghost use Rattle.pp_gate.specs.Circuit.{IsOf, IsCircuit, Gives};
-ghost use Rattle.pp_gate.specs.Growth.{Grows, NoNewInput};
-ghost use Rattle.pp_wordgate.specs.Meaning.{word_of};
+ghost use Rattle.pp_gate.specs.Circuit.{IsOf, Gives, StandsFor};
+ghost use Rattle.pp_gate.specs.Growth.{AddsGates};
+ghost use Rattle.pp_wordgate.specs.Meaning.{word_of, StandsForWord};
 ghost use Rattle.pp_word.specs.Word.{word_shl, word_shr, word_ushr};
 
 use crate::NoMemory;
@@ -20,11 +20,8 @@ pub fn shl(circuit: &mut Circuit, a: Word, b: Word) -> Result<Word, NoMemory>
     requires room { length circuit.old + 512 ≤ 2 ^ 30 }
     requires left { All (IsOf circuit.old) a }
     requires right { All (IsOf circuit.old) b }
-    ensures grows { Grows circuit.old circuit.new 512 }
-    ensures inputs { NoNewInput circuit.old circuit.new }
-    ensures of { IfOk result (λ r. All (IsOf circuit.new) r) }
-    ensures value { IfOk result (λ r. (s : ℕ → Bool) → Gives s circuit.new → word_of s r ≡ word_shl w32 (word_of s a) (word_of s b)) }
-    ensures circuit { IsCircuit circuit.new }
+    ensures adds { AddsGates circuit.old circuit.new 512 }
+    ensures stands { IfOk result (λ r. StandsForWord w32 circuit.new r (λ s. word_shl w32 (word_of w32 s a) (word_of w32 s b))) }
 {
     let distance = &b.lits()[..DISTANCE_BITS];
     let digits = pp_shifts::shl(circuit, a.lits(), distance)?;
@@ -39,11 +36,8 @@ pub fn shr(circuit: &mut Circuit, a: Word, b: Word) -> Result<Word, NoMemory>
     requires room { length circuit.old + 512 ≤ 2 ^ 30 }
     requires left { All (IsOf circuit.old) a }
     requires right { All (IsOf circuit.old) b }
-    ensures grows { Grows circuit.old circuit.new 512 }
-    ensures inputs { NoNewInput circuit.old circuit.new }
-    ensures of { IfOk result (λ r. All (IsOf circuit.new) r) }
-    ensures value { IfOk result (λ r. (s : ℕ → Bool) → Gives s circuit.new → word_of s r ≡ word_shr w32 (word_of s a) (word_of s b)) }
-    ensures circuit { IsCircuit circuit.new }
+    ensures adds { AddsGates circuit.old circuit.new 512 }
+    ensures stands { IfOk result (λ r. StandsForWord w32 circuit.new r (λ s. word_shr w32 (word_of w32 s a) (word_of w32 s b))) }
 {
     let distance = &b.lits()[..DISTANCE_BITS];
     let digits = pp_shifts::shr(circuit, a.lits(), distance)?;
@@ -58,11 +52,8 @@ pub fn ushr(circuit: &mut Circuit, a: Word, b: Word) -> Result<Word, NoMemory>
     requires room { length circuit.old + 512 ≤ 2 ^ 30 }
     requires left { All (IsOf circuit.old) a }
     requires right { All (IsOf circuit.old) b }
-    ensures grows { Grows circuit.old circuit.new 512 }
-    ensures inputs { NoNewInput circuit.old circuit.new }
-    ensures of { IfOk result (λ r. All (IsOf circuit.new) r) }
-    ensures value { IfOk result (λ r. (s : ℕ → Bool) → Gives s circuit.new → word_of s r ≡ word_ushr w32 (word_of s a) (word_of s b)) }
-    ensures circuit { IsCircuit circuit.new }
+    ensures adds { AddsGates circuit.old circuit.new 512 }
+    ensures stands { IfOk result (λ r. StandsForWord w32 circuit.new r (λ s. word_ushr w32 (word_of w32 s a) (word_of w32 s b))) }
 {
     let distance = &b.lits()[..DISTANCE_BITS];
     let digits = pp_shifts::ushr(circuit, a.lits(), distance)?;

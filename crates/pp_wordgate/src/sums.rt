@@ -1,10 +1,10 @@
-// Sums, differences, products and negations, which wrap.
+//! Sums, differences, products and negations, which wrap.
 
 ghost use Rattle.std.specs.Prelude.{◌≡◌, ℕ, Bool, ◌+◌, ◌^◌, ◌≤◌, All, length, IfOk};
 ghost use Rattle.std.specs.Int.{w32};
-ghost use Rattle.pp_gate.specs.Circuit.{IsOf, IsCircuit, Gives};
-ghost use Rattle.pp_gate.specs.Growth.{Grows, NoNewInput};
-ghost use Rattle.pp_wordgate.specs.Meaning.{word_of};
+ghost use Rattle.pp_gate.specs.Circuit.{IsOf, Gives, StandsFor};
+ghost use Rattle.pp_gate.specs.Growth.{AddsGates};
+ghost use Rattle.pp_wordgate.specs.Meaning.{word_of, StandsForWord};
 ghost use Rattle.pp_word.specs.Word.{word_add, word_sub, word_mul, word_neg};
 
 use crate::NoMemory;
@@ -17,11 +17,8 @@ pub fn add(circuit: &mut Circuit, a: Word, b: Word) -> Result<Word, NoMemory>
     requires room { length circuit.old + 256 ≤ 2 ^ 30 }
     requires left { All (IsOf circuit.old) a }
     requires right { All (IsOf circuit.old) b }
-    ensures grows { Grows circuit.old circuit.new 256 }
-    ensures inputs { NoNewInput circuit.old circuit.new }
-    ensures of { IfOk result (λ r. All (IsOf circuit.new) r) }
-    ensures value { IfOk result (λ r. (s : ℕ → Bool) → Gives s circuit.new → word_of s r ≡ word_add w32 (word_of s a) (word_of s b)) }
-    ensures circuit { IsCircuit circuit.new }
+    ensures adds { AddsGates circuit.old circuit.new 256 }
+    ensures stands { IfOk result (λ r. StandsForWord w32 circuit.new r (λ s. word_add w32 (word_of w32 s a) (word_of w32 s b))) }
 {
     let sum = pp_bits::add(circuit, a.lits(), b.lits())?;
     Ok(Word::from_lits(&sum))
@@ -34,11 +31,8 @@ pub fn sub(circuit: &mut Circuit, a: Word, b: Word) -> Result<Word, NoMemory>
     requires room { length circuit.old + 256 ≤ 2 ^ 30 }
     requires left { All (IsOf circuit.old) a }
     requires right { All (IsOf circuit.old) b }
-    ensures grows { Grows circuit.old circuit.new 256 }
-    ensures inputs { NoNewInput circuit.old circuit.new }
-    ensures of { IfOk result (λ r. All (IsOf circuit.new) r) }
-    ensures value { IfOk result (λ r. (s : ℕ → Bool) → Gives s circuit.new → word_of s r ≡ word_sub w32 (word_of s a) (word_of s b)) }
-    ensures circuit { IsCircuit circuit.new }
+    ensures adds { AddsGates circuit.old circuit.new 256 }
+    ensures stands { IfOk result (λ r. StandsForWord w32 circuit.new r (λ s. word_sub w32 (word_of w32 s a) (word_of w32 s b))) }
 {
     let difference = pp_bits::sub(circuit, a.lits(), b.lits())?;
     Ok(Word::from_lits(&difference))
@@ -51,11 +45,8 @@ pub fn mul(circuit: &mut Circuit, a: Word, b: Word) -> Result<Word, NoMemory>
     requires room { length circuit.old + 8192 ≤ 2 ^ 30 }
     requires left { All (IsOf circuit.old) a }
     requires right { All (IsOf circuit.old) b }
-    ensures grows { Grows circuit.old circuit.new 8192 }
-    ensures inputs { NoNewInput circuit.old circuit.new }
-    ensures of { IfOk result (λ r. All (IsOf circuit.new) r) }
-    ensures value { IfOk result (λ r. (s : ℕ → Bool) → Gives s circuit.new → word_of s r ≡ word_mul w32 (word_of s a) (word_of s b)) }
-    ensures circuit { IsCircuit circuit.new }
+    ensures adds { AddsGates circuit.old circuit.new 8192 }
+    ensures stands { IfOk result (λ r. StandsForWord w32 circuit.new r (λ s. word_mul w32 (word_of w32 s a) (word_of w32 s b))) }
 {
     let product = pp_products::mul(circuit, a.lits(), b.lits())?;
     Ok(Word::from_lits(&product))
@@ -67,11 +58,8 @@ pub fn mul(circuit: &mut Circuit, a: Word, b: Word) -> Result<Word, NoMemory>
 pub fn neg(circuit: &mut Circuit, a: Word) -> Result<Word, NoMemory>
     requires room { length circuit.old + 256 ≤ 2 ^ 30 }
     requires of { All (IsOf circuit.old) a }
-    ensures grows { Grows circuit.old circuit.new 256 }
-    ensures inputs { NoNewInput circuit.old circuit.new }
-    ensures of { IfOk result (λ r. All (IsOf circuit.new) r) }
-    ensures value { IfOk result (λ r. (s : ℕ → Bool) → Gives s circuit.new → word_of s r ≡ word_neg w32 (word_of s a)) }
-    ensures circuit { IsCircuit circuit.new }
+    ensures adds { AddsGates circuit.old circuit.new 256 }
+    ensures stands { IfOk result (λ r. StandsForWord w32 circuit.new r (λ s. word_neg w32 (word_of w32 s a))) }
 {
     let negated = pp_bits::neg(circuit, a.lits())?;
     Ok(Word::from_lits(&negated))

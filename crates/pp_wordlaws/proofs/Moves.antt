@@ -1,18 +1,39 @@
 -- Shifts of words, from the bits.
-use Rattle.std.proofs.Common.{◌≡◌, ℕ, suc, ◌+◌, ◌-◌, ◌*◌, ◌/◌, ◌%◌, ◌^◌, ◌<◌, ⊎_elim, sym, ap, ◌∙◌, arith}
+use Rattle.std.proofs.Common.{◌≡◌, ℕ, suc, ◌+◌, ◌-◌, ◌*◌, ◌/◌, ◌%◌, ◌^◌, ◌<◌, ◌≤◌, ⊎_elim, sym, ap, ◌∙◌, arith}
 use Rattle.std.specs.Int.{Width, int_wrap, cast_signed, cast_unsigned}
-use Rattle.std.proofs.Math.Nat.{add-mul, mul_comm}
+use Rattle.std.proofs.Math.Nat.{add-mul, mul-add, mul_comm, pow-le-pow_right, add-mul-mod_self_left}
+use Rattle.std.proofs.lemmas.Nat.{pow-add}
 use Rattle.std.proofs.lemmas.Int.{ints, of_z-to_z}
 use Rattle.std.proofs.lemmas.Bool.{cases_lt}
 use Rattle.pp_word.specs.Word.{shift_distance, word_shl, word_ushr}
 use Rattle.pp_word.proofs.Wraps.{wrap_from}
 use Rattle.pp_wordlaws.proofs.Readings.{read_low, read_high}
-use lib.IntN.{pos, negsuc, ◌+ℤ◌, ◌*ℤ◌}
+use lib.IntN.{ℤ, pos, negsuc, ◌+ℤ◌, ◌*ℤ◌}
 use mir.Val.{bits, hbits}
 
-pub distance_of_bits : (w : Width) (b k : ℕ) → b < 2 ^ bits w → k ≡ b % bits w → shift_distance w (cast_signed w b) ≡ k
+-- the lowest k digits of a word, of this width or of a shorter one, are the distance at a width of 2^k bits
+pub distance_of_bits : (w v : Width) (k b d : ℕ) → 2 ^ k ≡ bits w → k ≤ bits v → bits v ≤ bits w → b < 2 ^ bits v → d ≡ b % bits w
+    → shift_distance w (cast_signed v b) ≡ d
 unfolding shift_distance
-distance_of_bits w b k p e = ap (λ u. u % bits w) (of_z-to_z w b p) ∙ sym e
+distance_of_bits w v k b d places some shorter p e = ⊎_elim
+    (λ low. ap (λ z. cast_unsigned w z % bits w) (read_low v b low) ∙ sym e)
+    (λ high. ap (λ z. cast_unsigned w z % bits w) (read_high v b high) ∙ ap (λ u. u % bits w) read ∙ add-mul-mod_self_left b (bits w) more ∙ sym e)
+    (cases_lt b (2 ^ hbits v))
+  where
+    more : ℕ
+    more = 2 ^ (bits w - k) - 2 ^ (bits v - k)
+
+    multiple : (n : ℕ) → k ≤ n → 2 ^ n ≡ bits w * 2 ^ (n - k)
+    multiple n le = ap (λ m. 2 ^ m) (omega arith) ∙ pow-add 2 k (n - k) ∙ ap (λ m. m * 2 ^ (n - k)) places
+
+    longer : 2 ^ bits w ≡ 2 ^ bits v + bits w * more
+    longer =
+        let less : 2 ^ (bits v - k) ≤ 2 ^ (bits w - k) = pow-le-pow_right (omega arith) (omega arith) in
+        multiple (bits w) (omega arith) ∙ ap (λ m. bits w * m) (omega arith) ∙ mul-add (bits w) (2 ^ (bits v - k)) more
+        ∙ ap (λ m. m + bits w * more) (sym (multiple (bits v) some))
+
+    read : 2 ^ bits w - suc (2 ^ bits v - suc b) ≡ b + bits w * more
+    read = omega (arith, longer)
 
 taken : (n a p : ℕ) → a < n → negsuc (n - suc a) *ℤ pos p +ℤ pos (p * n) ≡ pos (a * p)
 taken n a p h =
@@ -25,18 +46,16 @@ wrap_times w a p h = ⊎_elim
     (λ high. ap (λ z. int_wrap w (z *ℤ pos p)) (read_high w a high) ∙ wrap_from w (negsuc (2 ^ bits w - suc a) *ℤ pos p) p (a * p) (taken (2 ^ bits w) a p h))
     (cases_lt a (2 ^ hbits w))
 
-pub left_of_bits : (w : Width) (a b k r : ℕ) → a < 2 ^ bits w → b < 2 ^ bits w → k ≡ b % bits w
-    → r ≡ (a * 2 ^ k) % 2 ^ bits w → cast_signed w r ≡ word_shl w (cast_signed w a) (cast_signed w b)
+pub left_of_bits : (w : Width) (a k r : ℕ) (z : ℤ) → a < 2 ^ bits w → shift_distance w z ≡ k
+    → r ≡ (a * 2 ^ k) % 2 ^ bits w → cast_signed w r ≡ word_shl w (cast_signed w a) z
 unfolding word_shl
-left_of_bits w a b k r p q d e =
-    ap (cast_signed w) e
-    ∙ sym (wrap_times w a (2 ^ k) p)
-    ∙ ap (λ j. int_wrap w (cast_signed w a *ℤ pos (2 ^ j))) (sym (distance_of_bits w b k q d))
+left_of_bits w a k r z p d e =
+    ap (cast_signed w) e ∙ sym (wrap_times w a (2 ^ k) p) ∙ ap (λ j. int_wrap w (cast_signed w a *ℤ pos (2 ^ j))) (sym d)
 
-pub unsigned_right_of_bits : (w : Width) (a b k r : ℕ) → a < 2 ^ bits w → b < 2 ^ bits w → k ≡ b % bits w
-    → r ≡ a / 2 ^ k → cast_signed w r ≡ word_ushr w (cast_signed w a) (cast_signed w b)
+pub unsigned_right_of_bits : (w : Width) (a k r : ℕ) (z : ℤ) → a < 2 ^ bits w → shift_distance w z ≡ k
+    → r ≡ a / 2 ^ k → cast_signed w r ≡ word_ushr w (cast_signed w a) z
 unfolding word_ushr
-unsigned_right_of_bits w a b k r p q d e =
+unsigned_right_of_bits w a k r z p d e =
     ap (cast_signed w) e
     ∙ ap (λ u. cast_signed w (u / 2 ^ k)) (sym (of_z-to_z w a p))
-    ∙ ap (λ j. cast_signed w (cast_unsigned w (cast_signed w a) / 2 ^ j)) (sym (distance_of_bits w b k q d))
+    ∙ ap (λ j. cast_signed w (cast_unsigned w (cast_signed w a) / 2 ^ j)) (sym d)

@@ -1,12 +1,12 @@
 use Rattle.std.proofs.Common.{arith, ap, ◌∙◌}
 use Rattle.pp_bits.specs.Number.{nat_of}
-use Rattle.pp_bits.proofs.Growing.{Gives_old, Grown_none, Grown_more, Digits_none, Digits_push}
+use Rattle.pp_bits.proofs.Growing.{Gives_old, AddsGates_none, AddsGates_more, Digits_none, Digits_push}
 use Rattle.pp_bits.proofs.Choices.{choose_none, choose_turn}
 use Rattle.pp_bits.proofs.choice.choose.Goals as goal
 
 pub loop-i-init : goal.loop-i-init
 loop-i-init c = record {
-  grown = Grown_none _ c.no_digits-digits.ensures.circuit;
+  grown = AddsGates_none _ _ c.no_digits-digits.ensures.circuit;
   digits = Digits_none _ _ c.no_digits-digits.ensures.items;
   value = λ s gives. ap (nat_of s) c.no_digits-digits.ensures.items ∙ choose_none s _;
 }
@@ -17,7 +17,7 @@ loop-i-preserved c =
     let gate = c.in_ok-digit.ensures in
     let push = c.in_ok-push.ensures.items in
     record {
-      grown = Grown_more _ _ _ _ _ _ now.grown gate.grows gate.inputs gate.circuit (omega arith);
-      digits = Digits_push _ _ _ _ _ _ _ now.digits gate.grows gate.of push;
-      value = λ s gives. choose_turn s _ _ _ _ _ _ _ _ _ c.loop-i-test.true (omega arith) c.index-a-i.is c.index-b-i.is now.digits.len push (gate.value s gives) (now.value s (Gives_old _ _ _ gate.grows s gives));
+      grown = AddsGates_more _ _ _ _ _ _ now.grown gate.adds (omega arith);
+      digits = Digits_push _ _ _ _ _ _ _ now.digits gate.adds.grows gate.stands.of push;
+      value = λ s gives. choose_turn s _ _ _ _ _ _ _ _ _ c.loop-i-test.true (omega arith) c.index-a-i.is c.index-b-i.is now.digits.len push (gate.stands.value s gives) (now.value s (Gives_old _ _ _ gate.adds.grows s gives));
     }

@@ -15,16 +15,15 @@ loop-place-preserved c =
     let push = c.in_ok-push.ensures.items in
     let known = c.known-digit.ensures in
     record {
-      digits = Digits_push _ _ _ _ _ _ _ now.digits (Grows_none _) (known.of _ c.truth-truth.ensures.of) push;
-      value = λ s gives. constant_turn s _ _ _ _ _ _ now.digits.len push (known.value s (c.truth-truth.ensures.value s gives)) (now.value s gives);
+      digits = Digits_push _ _ _ _ _ _ _ now.digits (Grows_none _) (known.of _ c.truth-truth.ensures.stands.of) push;
+      value = λ s gives. constant_turn s _ _ _ _ _ _ now.digits.len push (known.value s (c.truth-truth.ensures.stands.value s gives)) (now.value s gives);
     }
 
-pub returns-clause-value : goal.returns-clause-value
-returns-clause-value c = λ s gives.
-    constant_value s _ _ _ _ _ (omega arith) c.loop-place.invariant.digits.len (c.loop-place.invariant.value s gives)
-
-pub returns-clause-len : goal.returns-clause-len
-returns-clause-len c = omega (arith, c.loop-place.invariant.digits.len)
-
-pub returns-clause-of : goal.returns-clause-of
-returns-clause-of c = c.loop-place.invariant.digits.of
+pub returns-clause-stands : goal.returns-clause-stands
+returns-clause-stands c =
+    let end = c.loop-place.invariant in
+    record {
+      len = omega (arith, end.digits.len);
+      of = end.digits.of;
+      value = λ s gives. constant_value s _ _ _ _ _ (omega arith) end.digits.len (end.value s gives);
+    }

@@ -1,13 +1,13 @@
 use Rattle.std.proofs.Common.{arith, ◌∙◌}
-use Rattle.pp_bits.proofs.Growing.{Gives_old, Grown_none, Grown_more}
+use Rattle.pp_bits.proofs.Growing.{Gives_old, AddsGates_none, AddsGates_more}
 use Rattle.pp_bits.proofs.Orders.{equal_none, equal_turn}
 use Rattle.pp_bits.proofs.order.equal.Goals as goal
 
 pub loop-i-init : goal.loop-i-init
 loop-i-init c = record {
-  grown = Grown_none _ c.truth-equal.ensures.circuit;
-  of = c.truth-equal.ensures.of;
-  value = λ s gives. c.truth-equal.ensures.value s gives ∙ equal_none s;
+  grown = AddsGates_none _ _ c.truth-equal.ensures.circuit;
+  of = c.truth-equal.ensures.stands.of;
+  value = λ s gives. c.truth-equal.ensures.stands.value s gives ∙ equal_none s;
 }
 
 pub loop-i-preserved : goal.loop-i-preserved
@@ -15,7 +15,7 @@ loop-i-preserved c =
     let now = c.loop-i.invariant in
     let gate = c.in_ok-equal.ensures in
     record {
-      grown = Grown_more _ _ _ _ _ _ now.grown gate.grows gate.inputs gate.circuit (omega arith);
-      of = gate.of;
-      value = λ s gives. equal_turn s _ _ _ _ _ _ _ c.loop-i-test.true (omega arith) c.index-a-i.is c.index-b-i.is (gate.value s gives) (now.value s (Gives_old _ _ _ gate.grows s gives));
+      grown = AddsGates_more _ _ _ _ _ _ now.grown gate.adds (omega arith);
+      of = gate.stands.of;
+      value = λ s gives. equal_turn s _ _ _ _ _ _ _ c.loop-i-test.true (omega arith) c.index-a-i.is c.index-b-i.is (gate.stands.value s gives) (now.value s (Gives_old _ _ _ gate.adds.grows s gives));
     }

@@ -1,11 +1,11 @@
 use Rattle.std.proofs.Common.{arith}
-use Rattle.pp_bits.proofs.Growing.{Gives_old, Grown_none, Grown_more, Digits_none, Digits_push}
+use Rattle.pp_bits.proofs.Growing.{Gives_old, AddsGates_none, AddsGates_more, Digits_none, Digits_push}
 use Rattle.pp_bits.proofs.Sums.{add_none, add_turn}
 use Rattle.pp_bits.proofs.sum.add_carry.Goals as goal
 
 pub loop-i-init : goal.loop-i-init
 loop-i-init c = record {
-  grown = Grown_none _ c.no_digits-digits.ensures.circuit;
+  grown = AddsGates_none _ _ c.no_digits-digits.ensures.circuit;
   digits = Digits_none _ _ c.no_digits-digits.ensures.items;
   next_of = c.requires.carry;
   value = λ s gives. add_none s _ _ c.no_digits-digits.ensures.items;
@@ -17,8 +17,8 @@ loop-i-preserved c =
     let add = c.in_ok-digit.ensures in
     let push = c.in_ok-push.ensures.items in
     record {
-      grown = Grown_more _ _ _ _ _ _ now.grown add.grows add.inputs add.circuit (omega arith);
-      digits = Digits_push _ _ _ _ _ _ _ now.digits add.grows add.sum_of push;
+      grown = AddsGates_more _ _ _ _ _ _ now.grown add.adds (omega arith);
+      digits = Digits_push _ _ _ _ _ _ _ now.digits add.adds.grows add.sum_of push;
       next_of = add.carry_of;
-      value = λ s gives. add_turn s _ _ _ _ _ _ _ _ _ _ _ c.loop-i-test.true (omega arith) c.index-a-i.is c.index-b-i.is now.digits.len push (add.value s gives) (now.value s (Gives_old _ _ _ add.grows s gives));
+      value = λ s gives. add_turn s _ _ _ _ _ _ _ _ _ _ _ c.loop-i-test.true (omega arith) c.index-a-i.is c.index-b-i.is now.digits.len push (add.value s gives) (now.value s (Gives_old _ _ _ add.adds.grows s gives));
     }

@@ -6,8 +6,10 @@ use Rattle.pp_products.proofs.product.row.Goals as goal
 
 pub returns-clause-value : goal.returns-clause-value
 returns-clause-value c = λ s gives.
-    let before = growing.Gives_old _ _ _ c.in_ok-high.ensures.grows s gives in
-    let first = growing.Gives_old _ _ _ c.in_ok-masked.ensures.grows s before in
-    let zero = ap (nat_of s) c.deref.ensures.value ∙ none_is _ _ (c.in_ok-zeros.ensures.value s first) in
-    row_turn s _ _ _ _ _ _ _ _ _ _ c.requires.same zero (c.in_ok-masked.ensures.value s before) c.in_ok-masked.ensures.len c.deref-2.ensures.value c.index.ensures
-    c.in_ok-high.ensures.len (c.in_ok-high.ensures.value s gives) c.deref-3.ensures.value c.in_ok-all.ensures
+    let high = c.in_ok-high.ensures in
+    let masked = c.in_ok-masked.ensures in
+    let before = growing.Gives_before _ _ _ high.adds s gives in
+    let first = growing.Gives_before _ _ _ masked.adds s before in
+    let zero = ap (nat_of s) c.deref.ensures.value ∙ none_is _ _ (c.in_ok-zeros.ensures.stands.value s first) in
+    row_turn s _ _ _ _ _ _ _ _ _ _ c.requires.same zero (masked.stands.value s before) masked.stands.len c.deref-2.ensures.value c.index.ensures
+    high.stands.len (high.stands.value s gives) c.deref-3.ensures.value c.in_ok-all.ensures

@@ -1,23 +1,23 @@
 use Rattle.std.proofs.Common.{◌≡◌, ◌≤◌, ◌-◌, ◌^◌, length, refl, arith, ap, ◌∙◌}
 use Rattle.pp_bits.specs.Number.{nat_of}
-use Rattle.pp_bits.proofs.Growing.{Gives_old}
-use Rattle.pp_shifts.proofs.Stages.{left_none, left_turn, same_digits, doubled_places, zero_value, Grown_at_first, Grown_turn, Grows_turn}
+use Rattle.pp_bits.proofs.Growing.{Gives_before}
+use Rattle.pp_shifts.proofs.Stages.{left_none, left_turn, same_digits, doubled_places, zero_value, AddsGates_at_first, AddsGates_turn, AddsGates_short}
 use Rattle.pp_shifts.proofs.shift.shl.Goals as goal
 
 pub loop-i-init : goal.loop-i-init
 loop-i-init c =
     let same = c.in_ok-digits.ensures.value in
     record {
-      grown = Grown_at_first _ _ c.truth.ensures.circuit;
+      grown = AddsGates_at_first _ _ c.truth.ensures.circuit;
       digits = same_digits _ _ _ same c.requires.number;
       places = omega arith;
       value = λ s gives. left_none s _ _ same;
     }
 
-pub returns-in_err-digits-2-clause-grows : goal.returns-in_err-digits-2-clause-grows
-returns-in_err-digits-2-clause-grows c =
+pub returns-in_err-digits-2-clause-adds : goal.returns-in_err-digits-2-clause-adds
+returns-in_err-digits-2-clause-adds c =
     let now = c.loop-i.invariant in
-    Grows_turn _ _ _ _ _ _ _ c.loop-i-test.true (ap length c.deref.ensures.value ∙ now.digits.len) now.grown c.in_err-digits-2.ensures.grows
+    AddsGates_short _ _ _ _ _ _ _ c.loop-i-test.true (ap length c.deref.ensures.value ∙ now.digits.len) now.grown c.in_err-digits-2.ensures.adds
 
 pub loop-i-preserved : goal.loop-i-preserved
 loop-i-preserved c =
@@ -27,10 +27,10 @@ loop-i-preserved c =
     let len : length c.deref.result.now ≡ length c.args.a.now = ap length lent ∙ now.digits.len in
     let short : length c.args.a.now ≤ 2 ^ 64 - 1 = omega (arith, c.loop-i.digits.small) in
     record {
-      grown = Grown_turn _ _ _ _ _ _ len now.grown stage.grows stage.inputs stage.circuit;
+      grown = AddsGates_turn _ _ _ _ _ _ len now.grown stage.adds;
       digits = record { len = stage.len ∙ len; of = stage.of };
       places = doubled_places _ _ _ _ now.places c.saturating_mul-by.ensures;
       value = λ s gives. left_turn s _ _ _ _ _ _ _ _ _ _ c.loop-i-test.true c.index-distance-i.is refl short now.places len (ap (nat_of s) lent)
-          (now.value s (Gives_old _ _ _ stage.grows s gives))
-          (stage.value s gives (zero_value s _ _ c.negated-zero.ensures (c.truth.ensures.value s (Gives_old _ _ _ now.grown.grows s (Gives_old _ _ _ stage.grows s gives)))));
+          (now.value s (Gives_before _ _ _ stage.adds s gives))
+          (stage.value s gives (zero_value s _ _ c.negated-zero.ensures (c.truth.ensures.stands.value s (Gives_before _ _ _ now.grown s (Gives_before _ _ _ stage.adds s gives)))));
     }

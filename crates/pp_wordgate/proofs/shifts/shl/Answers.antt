@@ -1,9 +1,10 @@
-use Rattle.std.proofs.Common.{ap, ◌∙◌, refl}
-use Rattle.pp_wordgate.specs.Meaning.{word_of}
-use Rattle.pp_wordgate.proofs.Words.{left_word}
+use Rattle.std.proofs.Common.{length, ap, ◌∙◌, refl, arith}
+use Rattle.std.specs.Int.{w32}
+use Rattle.pp_wordgate.proofs.Words.{distance_word, left_word, from_digits}
 use Rattle.pp_wordgate.proofs.shifts.shl.Goals as goal
 
-pub returns-clause-value : goal.returns-clause-value
-returns-clause-value c =
-    λ s gives. ap (word_of s) (c.from_lits.ensures ∙ c.deref.ensures.value)
-    ∙ left_word s _ _ _ _ _ _ c.lits-2.ensures.value c.lits.ensures.value c.lits-2.ensures.len c.lits.ensures.len refl (c.in_ok-digits.ensures.value s gives)
+pub returns-clause-stands : goal.returns-clause-stands
+returns-clause-stands c =
+    from_digits w32 _ _ _ _ _ _ (c.from_lits.ensures ∙ c.deref.ensures.value) (ap length c.lits-2.ensures.value ∙ c.lits-2.ensures.len) c.in_ok-digits.ensures.stands
+    (λ s e. left_word w32 s _ _ _ _ _ c.lits-2.ensures.value c.lits-2.ensures.len
+    (distance_word w32 w32 s 5 c.args.b _ _ refl (omega arith) (omega arith) c.lits.ensures.value c.lits.ensures.len refl) e)

@@ -1,9 +1,15 @@
-use Rattle.std.proofs.Common.{ap, ◌∙◌, refl}
-use Rattle.pp_wordgate.specs.Meaning.{word_of}
-use Rattle.pp_wordgate.proofs.Words.{right_word}
+use Rattle.std.proofs.Common.{length, ap, ◌∙◌, refl, arith}
+use Rattle.std.specs.Int.{w32}
+use Rattle.pp_wordgate.proofs.Words.{distance_word, right_word, same_word}
 use Rattle.pp_wordgate.proofs.shifts.shr.Goals as goal
 
-pub returns-clause-value : goal.returns-clause-value
-returns-clause-value c =
-    λ s gives. ap (word_of s) (c.from_lits.ensures ∙ c.deref.ensures.value)
-    ∙ right_word s _ _ _ _ _ _ c.lits-2.ensures.value c.lits.ensures.value c.lits-2.ensures.len c.lits.ensures.len refl c.in_ok-digits.ensures.len (c.in_ok-digits.ensures.value s gives)
+pub returns-clause-stands : goal.returns-clause-stands
+returns-clause-stands c =
+    let digits = c.in_ok-digits.ensures in
+    same_word w32 _ _ _ _ (c.from_lits.ensures ∙ c.deref.ensures.value) (record {
+      len = digits.len ∙ ap length c.lits-2.ensures.value ∙ c.lits-2.ensures.len;
+      of = digits.of;
+      value = λ s gives.
+          right_word w32 s _ _ _ _ _ c.lits-2.ensures.value c.lits-2.ensures.len
+          (distance_word w32 w32 s 5 c.args.b _ _ refl (omega arith) (omega arith) c.lits.ensures.value c.lits.ensures.len refl) digits.len (digits.value s gives);
+    })

@@ -1,13 +1,14 @@
-use Rattle.std.proofs.Common.{arith, ap, sym, ◌∙◌, [], ◌∷◌, ◌++◌, take}
-use Rattle.std.proofs.lemmas.List.{take_more, length-take-le}
-use Rattle.pp_gate.proofs.Turns.{gives_turn}
+use Rattle.std.proofs.Common.{◌≡◌, true, length, replicate, ap, arith, rules}
+use Rattle.pp_gate.proofs.Cones.{marks_by_all, all_by_marks}
+use Rattle.pp_gate.proofs.Marking.{all_marked}
 use Rattle.pp_gate.proofs.circuit.Circuit.clauses.Goals as goal
 
-pub loop-i-preserved : goal.loop-i-preserved
-loop-i-preserved c = record {
-  count = omega (arith, c.in_ok-add_gate.ensures.count, c.loop-i.invariant.count);
-  value = λ s. gives_turn s _ _ _ _ _ _ (length-take-le _ _ (omega arith))
-      (take_more _ _ _ c.loop-i-test.true ∙ ap (λ x. take c.loop-i.i c.as_slice-gates.result.now ++ x ∷ []) (sym c.index-gates-i.is))
-      (c.loop-i.invariant.value s) (c.in_ok-add_gate.ensures.value s);
-  short = c.in_ok-add_gate.ensures.within _ c.loop-i-test.true c.loop-i.invariant.short;
-}
+pub returns-clause-value : goal.returns-clause-value
+returns-clause-value c =
+    let set : c.in_ok-marks.marks.items ≡ replicate (length c.as_slice.result.now) true = search rules in
+    λ s. (
+      λ h. all_by_marks s _ _
+          (λ x lt. all_marked _ x _ _ set c.deref.ensures.value (omega (arith, lt, ap length c.as_slice.ensures.value)))
+          ((c.in_ok-all.ensures.value s).0 h),
+      λ h. (c.in_ok-all.ensures.value s).1 (marks_by_all s _ _ h),
+    )

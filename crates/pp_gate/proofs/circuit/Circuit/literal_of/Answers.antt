@@ -1,9 +1,8 @@
-use Rattle.std.proofs.Common.{rules, sym, ap, ◌∙◌, ◌≡◌, ◌⊎◌, ◌≤◌, ◌^◌, [], ◌∷◌, ◌++◌, length}
+use Rattle.std.proofs.Common.{rules, sym, ap, ◌∙◌, ◌≤◌, ◌^◌, length}
 use Rattle.pp_gate.specs.Gate.{gate_value}
 use Rattle.pp_gate.specs.Circuit.{FitsAfter}
 use Rattle.pp_gate.specs.contracts.gate.GatePartialEq.TheImpl.{ghosts}
-use Rattle.pp_gate.proofs.Kept.{IsCircuit-insert, own_variable}
-use Rattle.pp_gate.proofs.Sharing.{insert_known, has_placed}
+use Rattle.pp_gate.proofs.Kept.{IsCircuit-insert}
 use Rattle.pp_gate.proofs.Meaning.{literal_of_gate, stands_at}
 use Rattle.pp_gate.proofs.Same.{gate_same, gate_equal}
 use Rattle.pp_gate.proofs.circuit.Circuit.literal_of.Goals as goal
@@ -14,32 +13,20 @@ invariant_of-self-2 c =
     let room : length c.insert_full.new.self.keys ≤ 2 ^ 30 = search rules in
     (IsCircuit-insert ghosts.eq c.self.inside.gates.keys _ c.args.gate (gate_equal c.args.gate) c.self.invariant.0 fits c.in_ok-found.ensures.keys, room)
 
-pub returns-clause-stands : goal.returns-clause-stands
-returns-clause-stands c =
+pub returns-clause-at : goal.returns-clause-at
+returns-clause-at c =
     let h = c.in_ok-found.ensures.stored in
     stands_at _ _ _ c.args.gate h.0 c.new.ensures.var h.1 (gate_same c.args.gate h.0 h.2)
-
-pub returns-clause-value : goal.returns-clause-value
-returns-clause-value c = λ s gives.
-    let h = c.in_ok-found.ensures.stored in
-    literal_of_gate s _ _ h.0 c.new.result gives h.1 c.new.ensures.var c.new.ensures.positive ∙ ap (gate_value s) (sym (gate_same c.args.gate h.0 h.2))
 
 pub returns-clause-circuit : goal.returns-clause-circuit
 returns-clause-circuit c =
     let fits : FitsAfter (length c.self.inside.gates.keys) c.args.gate = rw c.self.view_is c.requires.fits in
     IsCircuit-insert ghosts.eq c.self.inside.gates.keys _ c.args.gate (gate_equal c.args.gate) c.self.invariant.0 fits c.in_ok-found.ensures.keys
 
-pub returns-clause-own : goal.returns-clause-own
-returns-clause-own c =
-    let grown : (c.insert_full.new.self.keys ≡ c.args.self.now) ⊎ (c.insert_full.new.self.keys ≡ c.args.self.now ++ c.args.gate ∷ []) = search rules in
-    let low : 1 ≤ c.new.result.var = search rules in
-    own_variable _ _ c.args.gate _ (returns-clause-circuit c) grown (returns-clause-stands c) low
-
-pub returns-clause-again : goal.returns-clause-again
-returns-clause-again c = λ has.
-    let known : c.insert_full.new.self.keys ≡ c.self.inside.gates.keys =
-    insert_known ghosts.eq _ _ c.args.gate (gate_equal c.args.gate) c.in_ok-found.ensures.keys (rw c.self.view_is has) in
-    rw (← c.self.view_is) known
-
-pub returns-clause-has : goal.returns-clause-has
-returns-clause-has c = has_placed _ _ _ (returns-clause-stands c)
+pub returns-clause-stands : goal.returns-clause-stands
+returns-clause-stands c =
+    let h = c.in_ok-found.ensures.stored in
+    record {
+      of = search rules;
+      value = λ s gives. literal_of_gate s _ _ h.0 c.new.result gives h.1 c.new.ensures.var c.new.ensures.positive ∙ ap (gate_value s) (sym (gate_same c.args.gate h.0 h.2));
+    }

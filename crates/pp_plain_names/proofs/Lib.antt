@@ -1,0 +1,4 @@
+pub mod Bytes
+pub mod Declared
+pub mod Left
+pub mod Names
