@@ -1,4 +1,3 @@
 pub mod Equal
 pub mod Expected
 pub mod Found
-pub mod Put

@@ -2,7 +2,7 @@
 
 ghost use Rattle.std.specs.Prelude.{◌≡◌, ◌↔◌, IsTrue, IfOk, unwrap_or, slice_get};
 ghost use Rattle.pp_generic.specs.Equal.{equal};
-ghost use Rattle.pp_generic.specs.Put.{put, put_at};
+ghost use Rattle.pp_typed.specs.Put.{put, put_at};
 ghost use Rattle.pp_typed.specs.declared.sort.GenericSort.TheVariants.{Param};
 
 use crate::NoMemory;

@@ -1,6 +1,6 @@
 -- What a table and a substitution make of each form of sort.
 use Rattle.std.proofs.Common.{◌≡◌, ◌∙◌, ℕ, Bool, true, not, ◌&&◌, List, map, length, sym, ap, slice_get}
-use Rattle.pp_generic.specs.Put.{put, put_at, put_step}
+use Rattle.pp_typed.specs.Put.{put, put_at, put_step}
 use Rattle.pp_inhabited.specs.Table.{has_arity, lives, lives_step, look, mask_of, is_dead}
 use Rattle.pp_typed.specs.declared.sort.GenericSort.{GenericSort}
 use Rattle.pp_typed.specs.declared.sort.GenericSort.TheFolds.{fold-roll-GenericSort}

@@ -4,9 +4,9 @@ use Rattle.std.proofs.lemmas.Bool.{eqb-true}
 use Rattle.std.proofs.lemmas.List.{length-map}
 use Rattle.std.proofs.lemmas.Option.{get_or_from_slice_get, slice_get_within}
 use Rattle.pp_inhabited.specs.Laws.{FewTypeParams, FitsMask, IsSound}
-use Rattle.pp_generic.specs.Put.{put}
+use Rattle.pp_typed.specs.Put.{put}
 use Rattle.pp_inhabited.specs.Table.{all_live, has_arity, lives, look, mask_of, is_dead}
-use Rattle.pp_inhabited.specs.Value.{HasValue, an_int, a_truth, a_param, HaveValues, no_values, more_values}
+use Rattle.pp_typed.specs.Value.{HasValue, an_int, a_truth, a_param, HaveValues, no_values, more_values}
 use Rattle.pp_inhabited.proofs.Digits.{dead_at, mask_digit, mask_small}
 use Rattle.pp_inhabited.proofs.Exact.{both_true, not_true}
 use Rattle.pp_inhabited.proofs.Layers.{lives-param, lives-root, put-int, put-truth, put-param, put-root}

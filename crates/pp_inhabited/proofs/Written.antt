@@ -5,7 +5,7 @@ use Rattle.std.proofs.Math.ListN.{length-set}
 use Rattle.pp_inhabited.specs.Laws.{FewTypeParams, FitsMask, IsSound}
 use Rattle.pp_inhabited.specs.Settled.{rows_left, IsClosedAtPlace, IsClosedBelow, AreClosed, Visited}
 use Rattle.pp_inhabited.specs.Table.{all_live, look}
-use Rattle.pp_inhabited.specs.Value.{HasValue, a_tree}
+use Rattle.pp_typed.specs.Value.{HasValue, a_tree}
 use Rattle.pp_inhabited.proofs.Visits.{all_have}
 use Rattle.pp_typed.specs.declared.sort.GenericSort.TheVariants.{Root}
 use Rattle.pp_typed.specs.declared.typed.TypedCtor.{TypedCtor}

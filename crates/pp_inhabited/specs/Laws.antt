@@ -1,7 +1,7 @@
 -- Which tables are exact. Source: own.
 use Rattle.std.specs.Prelude.{◌≡◌, ◌↔◌, ◌<◌, ◌≤◌, ℕ, Bool, true, false, List, All, Some, length, slice_get, Contains}
 use Rattle.pp_inhabited.specs.Table.{look, all_live, is_dead}
-use Rattle.pp_inhabited.specs.Value.{HasValue, IsInhabited}
+use Rattle.pp_typed.specs.Value.{HasValue, IsInhabited}
 use Rattle.pp_typed.specs.declared.sort.GenericSort.{GenericSort}
 use Rattle.pp_typed.specs.declared.sort.GenericSort.TheVariants as sort
 use Rattle.pp_typed.specs.declared.typed.TypedCtor.{TypedCtor}

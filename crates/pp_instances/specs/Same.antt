@@ -1,7 +1,7 @@
 -- When two members are the same, as a test, and what of a member is hashed. Source: own.
-use Rattle.std.specs.Prelude.{nat_eq, Bool, false, if◌then◌else◌, ◌&&◌, List, [], ◌∷◌, ◌++◌, map}
+use Rattle.std.specs.Prelude.{ℕ, nat_eq, Bool, false, if◌then◌else◌, ◌&&◌, List, [], ◌∷◌, ◌++◌, map}
 use Rattle.std.specs.Hash as fed
-use Rattle.std.specs.List.{list_any}
+use Rattle.std.specs.List.{list_any, position_or_len}
 use Rattle.pp_generic.specs.Equal.{equal, pass_all}
 use Rattle.pp_instances.specs.declared.member.Decl.{Decl}
 use Rattle.pp_instances.specs.declared.member.Decl.TheVariants.{Function, Root}
@@ -23,6 +23,10 @@ same a b = same_decl a.of b.of && pass_all (map equal a.args) b.args
 -- the members, with one more where it isn't among them
 abbrev pub with_member : List Member → Member → List Member
 with_member ms m = if list_any (same m) ms then ms else ms ++ m ∷ []
+
+-- the place of the member, counted from 0; the number of members where it isn't among them
+abbrev pub place_of : List Member → Member → ℕ
+place_of ms m = position_or_len (same m) ms
 
 -- what is hashed of a sort
 

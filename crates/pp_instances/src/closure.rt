@@ -54,6 +54,19 @@ fn include_all(
     Ok(())
 }
 
+/// All that a member uses. The only error is want of memory.
+pub fn uses_of(alloc: Global, typed: &Typed, member: &Member) -> Result<Items<Member>, NoMemory>
+    ensures { IfOk result (λ ms. ms ≡ uses typed.now member.now) }
+{
+    let mentioned = mentions_of(alloc, typed, member.of)?;
+    let mentions = mentioned.as_slice();
+    let mut used = Items::new(alloc);
+    for i in 0..mentions.len() {
+        used.push(mentions[i].at_args(alloc, member.args.as_slice())?)?;
+    }
+    Ok(used)
+}
+
 /// Adds all that a member uses.
 fn include_uses(
     alloc: Global,
@@ -181,7 +194,8 @@ fn fill(
 /// there are more than 512 on the way. The other error is want of memory.
 pub fn instances(alloc: Global, typed: &Typed) -> Result<Members, InstancesFault>
     requires few_defs { length typed.now.defs < 2 ^ 32 }
-    ensures { MatchResult result (AreInstances typed.now) (IsCause typed.now) }
+    ensures few { IfOk result (λ ms. length ms ≤ 512) }
+    ensures closed { MatchResult result (AreInstances typed.now) (IsCause typed.now) }
 {
     let mut members = Members::new(alloc);
     match include_start(alloc, typed, &mut members) {

@@ -12,7 +12,7 @@ mod members;
 mod mentions;
 mod names;
 
-pub use closure::{MOST_INSTANCES, instances};
+pub use closure::{MOST_INSTANCES, instances, uses_of};
 pub use fault::InstancesFault;
 pub use member::{Decl, Instance, Instances, Member};
 pub use members::Members;

@@ -1,7 +1,7 @@
 //! Members by their places, each once.
 
-ghost use Rattle.std.specs.Prelude.{◌≡◌, ◌↔◌, ◌<◌, [], IsTrue, OnOk, OnErr, Some, length, slice_get, Contains};
-ghost use Rattle.pp_instances.specs.Same.{with_member};
+ghost use Rattle.std.specs.Prelude.{◌≡◌, ◌↔◌, ◌<◌, ◌≤◌, [], IsTrue, OnOk, OnErr, Some, length, slice_get, Contains};
+ghost use Rattle.pp_instances.specs.Same.{place_of, with_member};
 ghost use Rattle.pp_instances.specs.Closure.{Distinct};
 
 use crate::NoMemory;
@@ -64,6 +64,17 @@ impl Members {
         ensures once { Distinct result.now }
     {
         self.set.as_slice()
+    }
+
+    /// The place of a member; the number of members where it isn't there. It takes no memory.
+    pub fn place(&self, member: &Member) -> usize
+        ensures value { result ≡ place_of self.now member.now }
+        ensures within { result ≤ length self.now }
+    {
+        match self.set.get_index_of(member) {
+            Some(i) => i,
+            None => self.set.len(),
+        }
     }
 
     /// Adds a member, where it isn't there. On `NoMemory` nothing has changed.

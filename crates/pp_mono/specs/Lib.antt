@@ -1,9 +1,2 @@
-pub mod Numbers
-pub mod Patterns
-pub mod Exprs
-pub mod Functions
-pub mod Bare
-pub mod Places
-pub mod Limits
 pub mod Concrete
 pub mod Laws

@@ -9,7 +9,7 @@ use Rattle.pp_generic.specs.declared.expected.Expected.TheVariants.{Open}
 use Rattle.pp_generic.specs.Equal.{equal}
 use Rattle.pp_generic.specs.Expected.{Found, exact, expect, every, fits, known}
 use Rattle.pp_generic.specs.Found.{learn, none_found}
-use Rattle.pp_generic.specs.Put.{put}
+use Rattle.pp_typed.specs.Put.{put}
 use Rattle.pp_names.specs.Find.{find_ctor}
 use Rattle.pp_tree.specs.declared.operator.BinaryOp.{BinaryOp}
 use Rattle.pp_tree.specs.declared.operator.UnaryOp.{UnaryOp}

@@ -6,3 +6,4 @@ pub mod Sorted
 pub mod WellSorted
 pub mod Stand
 pub mod Apart
+pub mod Limits

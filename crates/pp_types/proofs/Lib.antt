@@ -1,3 +1,5 @@
-pub mod Unique
-pub mod RootFacts
+pub mod Checked
+pub mod EachDef
+pub mod Functions
+pub mod Refusals
 pub mod Refused

@@ -1,12 +1,11 @@
 -- The refusal of a root without a value.
-use Rattle.std.proofs.Common.{◌≡◌, ◌∙◌, ℕ, ◌<◌, List, Option, Some, Result, Ok, Err, MatchOption, get_or, length, slice_get, map, refl, sym, ap, subst, arith}
-use Rattle.std.proofs.lemmas.List.{length-map}
+use Rattle.std.proofs.Common.{◌≡◌, ◌∙◌, ℕ, ◌<◌, List, Option, Some, Result, Ok, Err, MatchOption, get_or, length, slice_get, refl, sym, ap, subst}
 use Rattle.std.proofs.lemmas.Option.{slice_get-get_or, slice_get-map, slice_get_within}
 use Rattle.std.specs.Option.{option_map}
-use Rattle.pp_declared.specs.Listed.{ClassIn, decls_in, roots_of}
+use Rattle.pp_declared.specs.Listed.{decls_in, roots_of}
 use Rattle.pp_declared.specs.Shown.{class_in, class_ins}
 use Rattle.pp_declared.specs.declared.listed.ClassAt.{ClassAt}
-use Rattle.pp_fault.specs.Part.{Part, Tells, fault}
+use Rattle.pp_fault.specs.Part.{Tells}
 use Rattle.pp_fault.specs.declared.Fault.{Fault}
 use Rattle.pp_fault.specs.declared.Halt.{Halt}
 use Rattle.pp_fault.specs.declared.Halt.TheVariants.{Memory, Broken}
@@ -16,8 +15,8 @@ use Rattle.pp_tree.specs.Plain.{UnitTree}
 use Rattle.pp_typed.specs.declared.declared.Declared.{Declared}
 use Rattle.pp_typed.specs.declared.typed.TypedCtor.{TypedCtor}
 use Rattle.pp_typed.specs.declared.typed.TypedRoot.{TypedRoot}
-use Rattle.pp_types.specs.Fault.{OnBroken, WithoutValue}
-use Rattle.pp_types.specs.Kinds.{fault_of}
+use Rattle.pp_types_laws.specs.Fault.{OnBroken, WithoutValue}
+use Rattle.pp_types_laws.specs.Fault.{fault_of}
 
 pub on_broken : {A : Type 0} (r : Result A Halt) (g : Fault) (P : Fault → Type 0) → Tells r (Err g) → P g → OnBroken r P
 on_broken (Ok a) g P told p = tt

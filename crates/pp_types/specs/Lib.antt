@@ -1,4 +1,2 @@
-pub mod Fault
+pub mod Functions
 pub mod Kinds
-pub mod Laws
-pub mod Typing

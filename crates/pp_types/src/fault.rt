@@ -71,7 +71,7 @@ pub enum TypeFault {
 }
 
 /// The refusal for a broken rule.
-pub fn type_fault(fault: Fault) -> TypeFault
+pub(crate) fn type_fault(fault: Fault) -> TypeFault
     ensures { IsKindOf result fault }
 {
     let Fault {

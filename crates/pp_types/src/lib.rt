@@ -1,13 +1,16 @@
 //! Typing of whole units.
 //!
-//! `specs/Typing.antt` says which units have which typing, and `specs/Fault.antt` which rules units break at which
-//! place.
+//! Which units have which typing stands in `pp_types_laws/specs/Typing`, and which rules units break at which place in
+//! `pp_types_laws/specs/Fault`; `specs/Kinds.antt` says which refusal stands for which of them.
 #![tactic(auto)]
 
+mod defs;
 mod fault;
-mod laws;
+mod units;
 mod values;
 
-pub use fault::{TypeFault, type_fault};
-pub use laws::typings_are_unique;
-pub use values::check_values;
+pub use fault::TypeFault;
+pub use units::check;
+
+#[cfg(test)]
+mod tests;

@@ -4,7 +4,7 @@ ghost use Rattle.std.specs.Prelude.{◌≡◌, ◌<◌, ◌^◌, Ok, length, OnO
 ghost use Rattle.pp_declared.specs.Declare.{declare};
 ghost use Rattle.pp_declared.specs.Shown.{units_of};
 ghost use Rattle.pp_inhabited.specs.Value.{AreInhabited};
-ghost use Rattle.pp_types.specs.Fault.{OnBroken, WithoutValue};
+ghost use Rattle.pp_types_laws.specs.Fault.{OnBroken, WithoutValue};
 
 use pp_declared::root_classes;
 use pp_fault::{Halt, Rule, broken};
@@ -14,7 +14,7 @@ use pp_tree::Unit;
 use std::alloc::Global;
 
 /// Refuses the first root that has no value, or no constructor, as `Uninhabited`, at its name.
-pub fn check_values(alloc: Global, units: &[Unit], names: &Names) -> Result<(), Halt>
+pub(crate) fn check_values(alloc: Global, units: &[Unit], names: &Names) -> Result<(), Halt>
     requires units { length units.now < 2 ^ 32 }
     requires declared { declare (units_of units.now) ≡ Ok names.now }
     ensures inhabited { OnOk result (AreInhabited names.now.roots names.now.ctors) }

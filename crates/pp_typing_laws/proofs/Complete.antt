@@ -9,7 +9,7 @@ use Rattle.pp_generic.specs.declared.expected.Expected.TheVariants.{Open}
 use Rattle.pp_generic.specs.Equal.{equal}
 use Rattle.pp_generic.specs.Expected.{Found, exact, expect, every, known}
 use Rattle.pp_generic.specs.Found.{learn, none_found}
-use Rattle.pp_generic.specs.Put.{put}
+use Rattle.pp_typed.specs.Put.{put}
 use Rattle.pp_rules.specs.declared.callee.Callee.{Callee}
 use Rattle.pp_rules.specs.Elab.{Bound, Taken, alike, applied, arm, asserted, body_sort, chosen, condition, count, elab, elab_args, elab_cases, elab_pattern, field_of_ctor, field_placed, field_typed, finished, guarded_arm, inferred, is_sort, local_at, matched, name_at, named, negated, no_args, of_sort, operated, plain_arm, selected, started, taken, typed, val_expected, valued}
 use Rattle.pp_rules.specs.Operators.{admits, is_equality, right_expected, unary_sort}

@@ -7,7 +7,7 @@ use Rattle.pp_fault.specs.declared.Rule.TheVariants.{Mismatch, Arity}
 use Rattle.pp_fault.specs.Part.{Part, and_then}
 use Rattle.pp_generic.proofs.Equal.{equal_same}
 use Rattle.pp_generic.specs.Equal.{equal}
-use Rattle.pp_generic.specs.Put.{put}
+use Rattle.pp_typed.specs.Put.{put}
 use Rattle.pp_names.specs.Find.{find_ctor}
 use Rattle.pp_rules.specs.Elab.{AllBound, Bound, arguments, bind, count_patterns, ctor_bound, ctor_found, elab_pattern, elab_patterns, leaf, pattern, with_ctor}
 use Rattle.pp_rules.specs.Scope.{Env, Scope, clashes}

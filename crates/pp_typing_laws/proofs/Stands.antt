@@ -10,7 +10,7 @@ use Rattle.pp_generic.specs.declared.expected.Expected.TheVariants.{Open}
 use Rattle.pp_generic.specs.Equal.{equal}
 use Rattle.pp_generic.specs.Expected.{Found, exact, expect, every, known}
 use Rattle.pp_generic.specs.Found.{learn}
-use Rattle.pp_generic.specs.Put.{put}
+use Rattle.pp_typed.specs.Put.{put}
 use Rattle.pp_names.specs.Find.{find_ctor}
 use Rattle.pp_rules.specs.declared.callee.Callee.{Callee}
 use Rattle.pp_rules.specs.Elab.{AllBound, Bound, Taken, alike, applied, arguments, arm, asserted, bind, body_sort, chosen, condition, count, count_patterns, ctor_bound, ctor_found, elab, elab_args, elab_cases, elab_pattern, elab_patterns, field_of_ctor, field_placed, field_typed, finished, guarded_arm, inferred, is_sort, leaf, local_at, matched, name_at, named, negated, no_args, of_sort, operated, pattern_name, plain_arm, selected, started, taken, typed, val_expected, valued, with_ctor}

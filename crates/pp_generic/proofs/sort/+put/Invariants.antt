@@ -1,5 +1,5 @@
 use Rattle.std.proofs.Common.{◌≡◌, take, map}
-use Rattle.pp_generic.specs.Put.{put}
+use Rattle.pp_typed.specs.Put.{put}
 use Rattle.pp_generic.proofs.sort.+put.Given as goal
 
 abbrev pub invariant-loop-part : goal.invariant-loop-part

@@ -13,13 +13,13 @@ absent xs ys f r e h n k = let x : false ≡ true = sym n ∙ h.1 (subst (λ l. 
 present : (xs ys : List Member) (f : ℕ) (r : Bool) → xs ≡ ys → IsTrue r ↔ HasFunction xs f → r ≡ true → HasFunction ys f
 present xs ys f r e h t = subst (λ l. HasFunction l f) e (h.0 t)
 
-pub returns-in-Err : goal.returns-in-Err
-returns-in-Err c =
+pub returns-in-Err-clause-closed : goal.returns-in-Err-clause-closed
+returns-in-Err-clause-closed c =
     let typed = c.args.typed.now in
     cause typed (λ b. over_at typed 0 (start typed) at_first (start_bursts typed (start typed) b)) c.in-Err.e c.in-Err.ensures.gains
 
-pub returns-in-Err-close : goal.returns-in-Err-close
-returns-in-Err-close c =
+pub returns-in-Err-close-clause-closed : goal.returns-in-Err-close-clause-closed
+returns-in-Err-close-clause-closed c =
     let typed = c.args.typed.now in
     cause typed (over_at typed 0 (start typed) at_first) c.in-Err-close.e
     (c.in-Err-close.ensures.closed (start typed) (stage_start typed (start typed) c.include_start.new.members c.in-Ok.ensures.gains))
@@ -32,8 +32,8 @@ loop-f-init c =
       few = c.in-Ok-close.ensures.few;
     }
 
-pub returns-in-Err-fill : goal.returns-in-Err-fill
-returns-in-Err-fill c =
+pub returns-in-Err-fill-clause-closed : goal.returns-in-Err-fill-clause-closed
+returns-in-Err-fill-clause-closed c =
     let typed = c.args.typed.now in
     let f = c.loop-f.f in
     let z = c.loop-f.invariant.filling in

@@ -1,4 +1,4 @@
-use Rattle.std.proofs.Common.{◌≡◌, ◌∙◌, ◌<◌, List, length, sym, ap, subst, arith}
+use Rattle.std.proofs.Common.{◌≡◌, ◌∙◌, ◌<◌, List, length, sym, ap, subst}
 use Rattle.pp_declared.specs.Shown.{class_ins, units_of}
 use Rattle.pp_declared.specs.declared.listed.ClassAt.{ClassAt}
 use Rattle.pp_inhabited.specs.Laws.{FewTypeParams}
@@ -7,9 +7,9 @@ use Rattle.pp_inhabited.specs.Value.{IsFirstUninhabited}
 use Rattle.pp_typed.specs.declared.declared.Declared.{Declared}
 use Rattle.pp_typed.specs.declared.typed.TypedCtor.{TypedCtor}
 use Rattle.pp_typed.specs.declared.typed.TypedRoot.{TypedRoot}
-use Rattle.pp_types.specs.Fault.{WithoutValue}
+use Rattle.pp_types_laws.specs.Fault.{WithoutValue}
 use Rattle.pp_types.proofs.Refused.{on_broken, first_of, first_within, without_value}
-use Rattle.pp_types.proofs.RootFacts.{class_within, ctors_have_roots, few_type_params}
+use Rattle.pp_types_laws.proofs.RootFacts.{class_within, ctors_have_roots, few_type_params}
 use Rattle.pp_types.proofs.values.check_values.Goals as goal
 
 pub first_uninhabited-requires-clause-few : goal.first_uninhabited-requires-clause-few

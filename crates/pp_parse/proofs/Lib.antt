@@ -1,0 +1,4 @@
+mod Lists
+mod Runs
+mod Roots
+mod Spelled

@@ -1,0 +1,2 @@
+mod Semicolons
+mod Tuples

@@ -1,0 +1,4 @@
+pub mod Units
+pub mod Refuses
+pub mod Laws
+pub mod Told

@@ -1,0 +1,9 @@
+pub mod Numbers
+pub mod Setting
+pub mod Patterns
+pub mod Exprs
+pub mod Functions
+pub mod Bare
+pub mod Places
+pub mod Numbered
+pub mod Defs

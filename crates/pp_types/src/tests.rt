@@ -1,0 +1,72 @@
+// Units of one function, built in an arena.
+
+use super::*;
+use bumpalo::Bump;
+use pp_tree::build::{DefParts, def, int, type_text};
+use pp_tree::{Built, Decl, Expr, Unit};
+use std::alloc::{AllocError, Global};
+use std::test::Fail;
+
+/// A unit with the function `def one(): Boolean = 1` or `def one(): Int = 1`.
+fn one<'a>(arena: &'a Bump, sort: &'a str) -> Result<Unit<'a>, AllocError> {
+    let result = type_text(arena, 11, sort, &[])?;
+    let body: Built<Expr<'a>> = int(21, 1);
+    let function = def(
+        arena,
+        DefParts {
+            at: 4,
+            name: "one",
+            type_params: &[],
+            params: &[],
+            list: true,
+            result,
+            pre: &[],
+            measure: &[],
+            body,
+            post: None,
+        },
+    )?;
+    let decls = arena.try_alloc_slice_copy(&[Decl::Def(function.tree)])?;
+    Ok(Unit {
+        imports: &[],
+        objects: &[],
+        decls,
+    })
+}
+
+#[test]
+fn a_typing_outlives_the_arena_of_its_unit(rt: HostRuntime) -> Result<(), Fail> {
+    let alloc = rt.alloc();
+    let mut arena = Bump::new(alloc);
+    let unit = one(&arena, "Int")?;
+    let typed = check(alloc, &[unit]);
+    arena.reset()?;
+    match &typed {
+        Ok(typed) => assert_eq!(rt; typed.defs.as_slice().len(), 1usize),
+        Err(_) => assert!(rt; false),
+    }
+    Ok(())
+}
+
+#[test]
+fn a_body_of_another_type_is_a_mismatch_there(rt: HostRuntime) -> Result<(), Fail> {
+    let alloc = rt.alloc();
+    let arena = Bump::new(alloc);
+    let unit = one(&arena, "Boolean")?;
+    let refused = check(alloc, &[unit]);
+    match &refused {
+        Err(
+            TypeFault::Mismatch {
+                name,
+                source,
+                offset,
+            },
+        ) => {
+            assert_eq!(rt; name.as_str(), "one");
+            assert_eq!(rt; *source, 1u32);
+            assert_eq!(rt; *offset, 21u32);
+        }
+        _ => assert!(rt; false),
+    }
+    Ok(())
+}

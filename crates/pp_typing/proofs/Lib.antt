@@ -1,0 +1,9 @@
+pub mod Applied
+pub mod Bodies
+pub mod Cases
+pub mod CtorPatterns
+pub mod Lists
+pub mod Parameters
+pub mod Parts
+pub mod Told
+pub mod Turns

@@ -1,0 +1,311 @@
+-- A translated function is sorted, and its sites are listed in order.
+use Rattle.std.proofs.Common.{◌≡◌, ℕ, suc, Bool, true, false, ◌&&◌, List, [], ◌∷◌, ◌++◌, map, length, refl, sym, ap, ◌∙◌, arith}
+use Rattle.std.specs.Prelude.{Option, Some, None, is_some, Contains, All}
+use Rattle.std.specs.Option.{option_map}
+use Rattle.std.proofs.lemmas.List.{append-nil}
+use Rattle.pp_instances.proofs.Parts.{map_push}
+use Rattle.pp_instances.specs.Same.{joined as joined_members}
+use Rattle.pp_instances.specs.Uses.{mentions, post_mentions, text_mentions}
+use Rattle.pp_instances.specs.declared.member.Instance.{Instance}
+use Rattle.pp_instances.specs.declared.member.Member.{Member}
+use Rattle.pp_prog.specs.Calls.{joined}
+use Rattle.pp_prog.specs.ExprSorts.{binary_sort, has_the_sort, is_of_sort, is_sorted, is_sorted_measure, is_sorted_post, is_sorted_pre, sort_of}
+use Rattle.pp_prog.specs.Listing.{Site, function_sites, measure_sites, plain, post_sites, postcondition, pre_sites, sites}
+use Rattle.pp_prog.specs.Sorts.{param_sorts as sorts_of_params, sort_of_param as sort_of_prog_param, same_sort}
+use Rattle.pp_prog.specs.declared.check.CheckKind.TheVariants as check
+use Rattle.pp_prog.specs.declared.expr.BinaryOp.TheVariants.{AndAlso}
+use Rattle.pp_prog.specs.declared.expr.Expr.{Expr}
+use Rattle.pp_prog.specs.declared.expr.Expr.TheVariants as prog
+use Rattle.pp_prog.specs.declared.expr.Function.{Function}
+use Rattle.pp_prog.specs.declared.expr.Param.{Param}
+use Rattle.pp_prog.specs.declared.id.CheckId.{CheckId}
+use Rattle.pp_prog.specs.declared.place.Place.{Place}
+use Rattle.pp_prog.specs.declared.sort.Sort.{Sort}
+use Rattle.pp_prog.specs.declared.sort.Sort.TheVariants as of_prog
+use Rattle.pp_translation.specs.Bare.{bare, bare_function, bare_post}
+use Rattle.pp_translation.specs.Defs.{TranslatesDef, TranslatesPost, no_post, one_post, post_check}
+use Rattle.pp_translation.specs.Exprs.{expr_at, unnumbered}
+use Rattle.pp_translation.specs.Functions.{and_all, as_one, function_of, param_at, place_at, post_at}
+use Rattle.pp_translation.specs.Numbered.{Translates, TranslateAll, no_exprs, one_more}
+use Rattle.pp_translation.specs.Numbers.{sort_at}
+use Rattle.pp_translation.specs.Places.{def_offsets, post_offsets, site_offsets}
+use Rattle.pp_translation.specs.Setting.{Setting}
+use Rattle.pp_translation.specs.declared.frame.CheckAt.{CheckAt}
+use Rattle.pp_translation.specs.declared.frame.Frame.{Frame}
+use Rattle.pp_typed.specs.Sorted.{IsSorted, AreSorted, none_sorted, more_sorted, param_sorts, sort_of_param}
+use Rattle.pp_typed.specs.Stand.{Offset}
+use Rattle.pp_typed.specs.WellSorted.{HasSort, IsDef, IsPost}
+use Rattle.pp_typed.specs.declared.expr.TypedExpr.{TypedExpr}
+use Rattle.pp_typed.specs.declared.sort.GenericSort.{GenericSort}
+use Rattle.pp_typed.specs.declared.sort.GenericSort.TheVariants as sort
+use Rattle.pp_typed.specs.declared.typed.Typed.{Typed}
+use Rattle.pp_typed.specs.declared.typed.TypedDef.{TypedDef}
+use Rattle.pp_typed.specs.declared.typed.TypedPost.{TypedPost}
+use Rattle.pp_validity.proofs.Bared.{bare_all, bare_binary, bare_expr}
+use Rattle.pp_validity.proofs.Carried.{IsGrouped, joined_push, lists_all, lists_expr}
+use Rattle.pp_validity.proofs.Exprs.{sorted_all, sorted_expr, split}
+use Rattle.pp_validity.proofs.Forms.{Sorted, sort_of_binary}
+use Rattle.pp_validity.proofs.Ground.{sort_at_bool}
+use Rattle.pp_validity.proofs.Known.{HasTypes, IsKnown}
+use Rattle.pp_validity.proofs.Listed.{Lists, lists_append, lists_none, lists_same, one_if, plain_site}
+use Rattle.pp_validity.proofs.Operators.{same_self}
+use Rattle.pp_validity.proofs.Patterns.{map_map}
+use Rattle.pp_validity.proofs.Sites.{sites_binary}
+use Rattle.pp_validity.proofs.Within.{Within, in_left, in_right, in_parts}
+
+and_push : (p : Expr) (ps : List Expr) (e : Expr) → and_all p (ps ++ e ∷ []) ≡ prog.Binary AndAlso (and_all p ps) e None
+and_push p [] e = refl
+and_push p (q ∷ ps) e = and_push (prog.Binary AndAlso p q None) ps e
+
+both_true : (a b : Bool) → a ≡ true → b ≡ true → a && b ≡ true
+both_true true b h k = k
+both_true false b h k = let no : false ≡ true = h in cc
+
+first_same : {A : Type 0} {a b : A} {ps qs : List A} → a ∷ ps ≡ b ∷ qs → a ≡ b
+first_same h = cc
+
+rest_same : {A : Type 0} {a b : A} {ps qs : List A} → a ∷ ps ≡ b ∷ qs → ps ≡ qs
+rest_same h = cc
+
+head_of : {A : Type 0} (P : A → Type 0) (x : A) (xs : List A) → All P (x ∷ xs) → P x
+head_of P x xs h = h 0 x (omega arith)
+
+tail_of : {A : Type 0} (P : A → Type 0) (x : A) (xs : List A) → All P (x ∷ xs) → All P xs
+tail_of P x xs h = λ k d lt. h (suc k) d (omega arith)
+
+module _ (typed : Typed) (set : Setting) (ms : List Member) (fs : List Function) (known : IsKnown typed set ms fs) (own : Frame) (grouped : IsGrouped typed set ms fs own)
+    (own_types : (s : GenericSort) → Contains own.args s → HasTypes ms s) (d : TypedDef) where
+  abbrev G : GenericSort → Sort
+  G s = sort_at set.roots own.args s
+
+  abbrev some : GenericSort → Option Sort
+  some s = Some (G s)
+
+  abbrev scope : List GenericSort
+  scope = param_sorts d.params
+
+  abbrev sc : List Sort
+  sc = map G scope
+
+  abbrev L : List Site → List Offset → List CheckAt → List CheckAt → Type 0
+  L = Lists set.types fs own.number
+
+  abbrev In : Expr → List Site
+  In x = sites set.types fs x sc
+
+  two : (s t : List Site) (o p : List Offset) (old mid new : List CheckAt) → L s o old mid → L t p mid new → L (s ++ t) (o ++ p) old new
+  two s t o p old mid new a b = lists_append set.types fs own.number s t o p old mid new a b
+
+  same : (s t : List Site) (o p : List Offset) (old new : List CheckAt) → t ≡ s → p ≡ o → L s o old new → L t p old new
+  same s t o p old new e q h = lists_same set.types fs own.number s t o p old new e q h
+
+  -- ---- the sorts of lists
+
+  abbrev bool_at : TypedExpr → GenericSort
+  bool_at e = sort.Bool
+
+  bools : (es : List TypedExpr) → All (HasSort typed d scope sort.Bool) es → AreSorted typed d.type_params scope (map bool_at es) es
+  bools [] h = none_sorted
+  bools (e ∷ es) h =
+      let first = head_of (HasSort typed d scope sort.Bool) e es h in
+      more_sorted first.0 first.1 (bools es (tail_of (HasSort typed d scope sort.Bool) e es h))
+
+  abbrev own_sort : TypedExpr → GenericSort
+  own_sort e = e.of
+
+  each : (es : List TypedExpr) → All (IsSorted typed d.type_params scope) es → AreSorted typed d.type_params scope (map own_sort es) es
+  each [] h = none_sorted
+  each (e ∷ es) h =
+      more_sorted (head_of (IsSorted typed d.type_params scope) e es h) refl (each es (tail_of (IsSorted typed d.type_params scope) e es h))
+
+  and_sorted : (a : Expr) (xs : List Expr) (es : List TypedExpr) → Sorted set.types fs sc a ≡ Some of_prog.Bool
+      → map (Sorted set.types fs sc) xs ≡ map some (map bool_at es) → Sorted set.types fs sc (and_all a xs) ≡ Some of_prog.Bool
+  and_sorted a [] es h are = h
+  and_sorted a (x ∷ xs) [] h are = let no : Sorted set.types fs sc x ∷ map (Sorted set.types fs sc) xs ≡ [] = are in cc
+  and_sorted a (x ∷ xs) (e ∷ es) h are =
+      let heads : Sorted set.types fs sc x ≡ some sort.Bool = first_same are in
+      let tails : map (Sorted set.types fs sc) xs ≡ map some (map bool_at es) = rest_same are in
+      and_sorted (prog.Binary AndAlso a x None) xs es
+      (sort_of_binary set.types fs sc AndAlso a x None ∙ ap (λ z. binary_sort AndAlso z (Sorted set.types fs sc x)) h
+      ∙ ap (λ z. binary_sort AndAlso (Some of_prog.Bool) z) (heads ∙ ap Some (sort_at_bool set.roots own.args))) tails
+
+  measure_sorted : (xs : List Expr) (ss : List GenericSort) → map (Sorted set.types fs sc) xs ≡ map some ss → is_sorted_measure set.types fs xs sc ≡ true
+  measure_sorted [] ss are = refl
+  measure_sorted (x ∷ xs) [] are = let no : Sorted set.types fs sc x ∷ map (Sorted set.types fs sc) xs ≡ [] = are in cc
+  measure_sorted (x ∷ xs) (s ∷ ss) are =
+      both_true (is_some (Sorted set.types fs sc x)) (is_sorted_measure set.types fs xs sc) (ap is_some (first_same are)) (measure_sorted xs ss (rest_same are))
+
+  measure_in : (xs : List Expr) → measure_sites set.types fs xs sc ≡ joined (map In xs)
+  measure_in [] = refl
+  measure_in (x ∷ xs) = ap (λ l. In x ++ l) (measure_in xs)
+
+  -- ---- several conditions as one
+
+  filled_or_not : (xs : List Expr) (x : Expr) {old mid new : List CheckAt} (o p : List Offset) → L (pre_sites set.types fs (as_one xs) sc) o old mid → L (In x) p mid new
+      → L (pre_sites set.types fs (as_one (xs ++ x ∷ [])) sc) (o ++ p) old new
+  filled_or_not [] x {old} {mid} {new} o p a b = two [] (In x) o p old mid new a b
+  filled_or_not (w ∷ xs) x {old} {mid} {new} o p a b =
+      let whole = and_all w xs in
+      same (In whole ++ In x ++ plain None ∷ []) (In (and_all w (xs ++ x ∷ []))) (o ++ p ++ []) (o ++ p) old new
+      (ap In (and_push w xs x) ∙ sites_binary set.types fs sc AndAlso whole x None) (sym (append-nil (o ++ p)))
+      (two (In whole ++ In x) (plain None ∷ []) (o ++ p) [] old new new (two (In whole) (In x) o p old mid new a b) (plain_site set.types fs own.number new))
+
+  pre_lists : {es : List TypedExpr} {xs : List Expr} {old new : List CheckAt} {ss : List GenericSort} → TranslateAll typed set own es xs old new
+      → AreSorted typed d.type_params scope ss es → Within ms own.args (joined_members (map mentions es))
+      → L (pre_sites set.types fs (as_one xs) sc) (joined (map site_offsets es)) old new
+  pre_lists {old = old} no_exprs h w = lists_none set.types fs own.number old
+  pre_lists {old = old} {new = new} (one_more {es = es} {e = e} {xs = xs} {x = x} {mid = mid} before t) h w =
+      let r = split typed d.type_params scope es e h in
+      let parts = in_parts ms own.args mentions es e w in
+      same _ _ _ _ old new refl (ap joined (map_push site_offsets es e) ∙ joined_push (map site_offsets es) (site_offsets e))
+      (filled_or_not xs x (joined (map site_offsets es)) (site_offsets e) (pre_lists before r.earlier parts.0)
+      (lists_expr typed set ms fs known own grouped d.type_params own_types t r.last parts.1))
+
+  -- ---- the function
+
+  abbrev IsIn : Function → Type 0
+  IsIn f = f.params ≡ map (param_at set.roots own.args) d.params
+
+  scope_is : (f : Function) → IsIn f → sorts_of_params f.params ≡ sc
+  scope_is f h =
+      ap sorts_of_params h ∙ sym (map_map sort_of_prog_param (param_at set.roots own.args) d.params) ∙ map_map G sort_of_param d.params
+
+  record Parts : Type 0 where
+    pre : Within ms own.args (joined_members (map mentions d.pre))
+    measure : Within ms own.args (joined_members (map mentions d.measure))
+    body : Within ms own.args (mentions d.body)
+    post : Within ms own.args (post_mentions d.post)
+
+  parts_of : Within ms own.args (text_mentions d) → Parts
+  parts_of w =
+      let a = joined_members (map mentions d.pre) in
+      let b = joined_members (map mentions d.measure) in
+      let abc = in_left ms own.args (a ++ b ++ mentions d.body) (post_mentions d.post) w in
+      let ab = in_left ms own.args (a ++ b) (mentions d.body) abc in
+      record {
+        pre = in_left ms own.args a b ab;
+        measure = in_right ms own.args a b ab;
+        body = in_right ms own.args (a ++ b) (mentions d.body) abc;
+        post = in_right ms own.args (a ++ b ++ mentions d.body) (post_mentions d.post) w;
+      }
+
+  pre_right : (xs : List Expr) (es : List TypedExpr) → map (Sorted set.types fs sc) xs ≡ map some (map bool_at es) → is_sorted_pre set.types fs (as_one xs) sc ≡ true
+  pre_right [] es are = refl
+  pre_right (w ∷ xs) [] are = let no : Sorted set.types fs sc w ∷ map (Sorted set.types fs sc) xs ≡ [] = are in cc
+  pre_right (w ∷ xs) (e ∷ es) are =
+      let first : Sorted set.types fs sc w ≡ Some of_prog.Bool = first_same are ∙ ap Some (sort_at_bool set.roots own.args) in
+      ap (has_the_sort set.types fs of_prog.Bool) (and_sorted w xs es first (rest_same are))
+
+  right : (x : Expr) (l : List Sort) (s t : Sort) → sort_of set.types fs x l ≡ Some t → t ≡ s → is_of_sort set.types fs s l x ≡ true
+  right x l s t h e = ap (has_the_sort set.types fs s) h ∙ ap (λ (z : Sort). same_sort z s) e ∙ same_self s
+
+  abbrev with_result : List GenericSort
+  with_result = scope ++ d.result ∷ []
+
+  result_in : (f : Function) → f.result ≡ G d.result → sc ++ f.result ∷ [] ≡ map G with_result
+  result_in f h = ap (λ (z : Sort). sc ++ z ∷ []) h ∙ sym (map_push G scope d.result)
+
+  claim_right : (x : Expr) (f : Function) (e : TypedExpr) {old new : List CheckAt} → f.result ≡ G d.result → Translates typed set own e x old new
+      → HasSort typed d with_result sort.Bool e → Within ms own.args (mentions e) → is_of_sort set.types fs of_prog.Bool (sc ++ f.result ∷ []) x ≡ true
+  claim_right x f e r t h w =
+      ap (λ l. is_of_sort set.types fs of_prog.Bool l x) (result_in f r)
+      ∙ right x (map G with_result) of_prog.Bool (G e.of) (sorted_expr typed set ms fs known own d.type_params own_types t h.0 w) (ap G h.1 ∙ sort_at_bool set.roots own.args)
+
+  post_right : {q : Option TypedPost} {p : Option (CheckId × Expr)} {source : ℕ} {old new : List CheckAt} (f : Function) → f.result ≡ G d.result
+      → TranslatesPost typed set own source q p old new → IsPost typed d q → Within ms own.args (post_mentions q)
+      → is_sorted_post set.types fs p (sc ++ f.result ∷ []) ≡ true
+  post_right f r no_post h w = refl
+  post_right f r (one_post {post = post} {claim = claim} t) h w = claim_right claim f post.claim r t h w
+
+  post_lists : {q : Option TypedPost} {p : Option (CheckId × Expr)} {source : ℕ} {old new : List CheckAt} (f : Function) → f.result ≡ G d.result
+      → TranslatesPost typed set own source q p old new → IsPost typed d q → Within ms own.args (post_mentions q)
+      → L (post_sites set.types fs p f.result sc) (post_offsets source q) old new
+  post_lists {old = old} f r no_post h w = lists_none set.types fs own.number old
+  post_lists {source = source} {old = old} f r (one_post {post = post} {claim = claim} {new = mid} t) h w =
+      let site = postcondition (record { 0 = length mid }) in
+      let c = post_check typed set own source post.at in
+      same (sites set.types fs claim (map G with_result) ++ site ∷ []) _ (site_offsets post.claim ++ (source, post.at) ∷ []) _ old (mid ++ c ∷ [])
+      (ap (λ l. sites set.types fs claim l ++ site ∷ []) (result_in f r)) refl
+      (two (sites set.types fs claim (map G with_result)) (site ∷ []) (site_offsets post.claim) ((source, post.at) ∷ []) old mid (mid ++ c ∷ [])
+      (lists_expr typed set ms fs known own grouped d.type_params own_types t h.0 w)
+      (one_if set.types fs own.number site check.Postcondition true c mid refl refl refl refl refl tt))
+
+  -- the function is sorted
+  pub def_sorted : {texts : List (List ℕ)} {i : Instance} {f : Function} {old new : List CheckAt} → TranslatesDef typed set own texts i d f old new → IsDef typed d
+      → Within ms own.args (text_mentions d) → is_sorted set.types fs f ≡ true
+  def_sorted {f = f} t h w =
+      let parts = parts_of w in
+      let pre = sorted_all typed set ms fs known own d.type_params own_types t.pre.each (bools d.pre h.pre) parts.pre in
+      let measure = sorted_all typed set ms fs known own d.type_params own_types t.measure (each d.measure h.measure) parts.measure in
+      let body = sorted_expr typed set ms fs known own d.type_params own_types t.body h.body.0 parts.body in
+      ap (λ (l : List Sort). is_sorted_pre set.types fs f.pre l && (is_sorted_measure set.types fs f.measure l && (is_of_sort set.types fs f.result l f.body && is_sorted_post set.types fs f.post (l ++ f.result ∷ [])))) (scope_is f t.params)
+      ∙ both_true _ _ (ap (λ (o : Option Expr). is_sorted_pre set.types fs o sc) t.pre.one ∙ pre_right t.pre.parts d.pre pre)
+      (both_true _ _ (measure_sorted f.measure (map own_sort d.measure) measure)
+      (both_true _ _ (right f.body sc f.result (G d.body.of) body (ap G h.body.1 ∙ sym t.result)) (post_right f t.result t.post h.post parts.post)))
+
+  -- its sites are listed in order
+  pub def_lists : {texts : List (List ℕ)} {i : Instance} {f : Function} {old new : List CheckAt} → TranslatesDef typed set own texts i d f old new → IsDef typed d
+      → Within ms own.args (text_mentions d) → L (function_sites set.types fs f) (def_offsets d) old new
+  def_lists {f = f} {old = old} {new = new} t h w =
+      let parts = parts_of w in
+      let pre = pre_lists t.pre.each (bools d.pre h.pre) parts.pre in
+      let measure = lists_all typed set ms fs known own grouped d.type_params own_types t.measure (each d.measure h.measure) parts.measure in
+      let body = lists_expr typed set ms fs known own grouped d.type_params own_types t.body h.body.0 parts.body in
+      let post = post_lists f t.result t.post h.post parts.post in
+      let a = pre_sites set.types fs (as_one t.pre.parts) sc in
+      let b = joined (map In f.measure) in
+      let o = joined (map site_offsets d.pre) in
+      let p = joined (map site_offsets d.measure) in
+      same (a ++ b ++ In f.body ++ post_sites set.types fs f.post f.result sc) _ (def_offsets d) _ old new
+      (ap (λ (l : List Sort). pre_sites set.types fs f.pre l ++ measure_sites set.types fs f.measure l ++ sites set.types fs f.body l ++ post_sites set.types fs f.post f.result l) (scope_is f t.params)
+      ∙ ap (λ (z : Option Expr). pre_sites set.types fs z sc ++ measure_sites set.types fs f.measure sc ++ In f.body ++ post_sites set.types fs f.post f.result sc) t.pre.one
+      ∙ ap (λ l. a ++ l ++ In f.body ++ post_sites set.types fs f.post f.result sc) (measure_in f.measure)) refl
+      (two (a ++ b ++ In f.body) (post_sites set.types fs f.post f.result sc) (o ++ p ++ site_offsets d.body) (post_offsets d.source d.post) old t.after_body new
+      (two (a ++ b) (In f.body) (o ++ p) (site_offsets d.body) old t.after_measure t.after_body (two a b o p old t.after_pre t.after_measure pre measure) body) post)
+
+  -- ---- without the numbers of its checks
+
+  abbrev Bare : TypedExpr → Expr
+  Bare = expr_at typed set.roots set.functions own.args
+
+  bare_and : (a : Expr) (xs : List Expr) → bare (and_all a xs) ≡ and_all (bare a) (map bare xs)
+  bare_and a [] = refl
+  bare_and a (x ∷ xs) = bare_and (prog.Binary AndAlso a x None) xs ∙ ap (λ z. and_all z (map bare xs)) (bare_binary AndAlso a x None)
+
+  bare_one : (xs : List Expr) → option_map bare (as_one xs) ≡ as_one (map bare xs)
+  bare_one [] = refl
+  bare_one (x ∷ xs) = ap Some (bare_and x xs)
+
+  bare_of_post : (texts : List (List ℕ)) {q : Option TypedPost} {p : Option (CheckId × Expr)} {source : ℕ} {old new : List CheckAt} → TranslatesPost typed set own source q p old new
+      → bare_post p ≡ post_at typed texts set.roots set.functions own.args q
+  bare_of_post texts no_post = refl
+  bare_of_post texts (one_post t) = ap (λ z. Some (unnumbered, z)) (bare_expr typed set own t)
+
+  abbrev made : List ℕ → Place → List Param → Sort → Option Expr → List Expr → Expr → Option (CheckId × Expr) → Function
+  made name place params result pre measure body post =
+      record { name = name; place = place; params = params; result = result; pre = pre; measure = measure; body = body; post = post }
+
+  abbrev function_at_args : List GenericSort → List (List ℕ) → Instance → Function
+  function_at_args args texts i =
+      made i.name (place_at texts (d.source, d.at)) (map (param_at set.roots args) d.params) (sort_at set.roots args d.result)
+      (as_one (map (expr_at typed set.roots set.functions args) d.pre)) (map (expr_at typed set.roots set.functions args) d.measure)
+      (expr_at typed set.roots set.functions args d.body) (post_at typed texts set.roots set.functions args d.post)
+
+  -- the function of the program that it is at the arguments of the instance
+  pub def_bare : {texts : List (List ℕ)} {i : Instance} {f : Function} {old new : List CheckAt} → TranslatesDef typed set own texts i d f old new → own.args ≡ i.args
+      → bare_function f ≡ function_of typed texts set.roots set.functions i d
+  def_bare {texts} {i} {f} t is =
+      let pre : option_map bare f.pre ≡ as_one (map Bare d.pre) = ap (option_map bare) t.pre.one ∙ bare_one t.pre.parts ∙ ap as_one (bare_all typed set own t.pre.each) in
+      let measure = bare_all typed set own t.measure in
+      let body = bare_expr typed set own t.body in
+      let post = bare_of_post texts t.post in
+      let at_own : bare_function f ≡ function_at_args own.args texts i =
+      ap (λ z. made z f.place f.params f.result (option_map bare f.pre) (map bare f.measure) (bare f.body) (bare_post f.post)) t.name
+      ∙ ap (λ z. made i.name z f.params f.result (option_map bare f.pre) (map bare f.measure) (bare f.body) (bare_post f.post)) t.place
+      ∙ ap (λ z. made i.name (place_at texts (d.source, d.at)) z f.result (option_map bare f.pre) (map bare f.measure) (bare f.body) (bare_post f.post)) t.params
+      ∙ ap (λ z. made i.name (place_at texts (d.source, d.at)) (map (param_at set.roots own.args) d.params) z (option_map bare f.pre) (map bare f.measure) (bare f.body) (bare_post f.post)) t.result
+      ∙ ap (λ z. made i.name (place_at texts (d.source, d.at)) (map (param_at set.roots own.args) d.params) (G d.result) z (map bare f.measure) (bare f.body) (bare_post f.post)) pre
+      ∙ ap (λ z. made i.name (place_at texts (d.source, d.at)) (map (param_at set.roots own.args) d.params) (G d.result) (as_one (map Bare d.pre)) z (bare f.body) (bare_post f.post)) measure
+      ∙ ap (λ z. made i.name (place_at texts (d.source, d.at)) (map (param_at set.roots own.args) d.params) (G d.result) (as_one (map Bare d.pre)) (map Bare d.measure) z (bare_post f.post)) body
+      ∙ ap (λ z. made i.name (place_at texts (d.source, d.at)) (map (param_at set.roots own.args) d.params) (G d.result) (as_one (map Bare d.pre)) (map Bare d.measure) (Bare d.body) z) post in
+      at_own ∙ ap (λ (l : List GenericSort). function_at_args l texts i) is

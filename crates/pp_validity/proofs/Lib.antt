@@ -1,0 +1,16 @@
+pub mod Ground
+pub mod Operators
+pub mod Within
+pub mod Forms
+pub mod Known
+pub mod Patterns
+pub mod Types
+pub mod Exprs
+pub mod Bared
+pub mod Listed
+pub mod Sites
+pub mod Carried
+pub mod Defs
+pub mod Placed
+pub mod Whole
+pub mod Signatures
