@@ -1,0 +1,4 @@
+pub mod Composition
+pub mod Symbols
+pub mod Numbering
+pub mod AnySort

@@ -1,0 +1,9 @@
+pub mod Naming
+pub mod Sense
+pub mod Symbols
+pub mod Moves
+pub mod Allowance
+pub mod Answers
+pub mod Laws
+pub mod AnySort
+pub mod Numbering

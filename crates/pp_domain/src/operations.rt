@@ -1,0 +1,84 @@
+//! Operations on symbols of any sort.
+
+ghost use Rattle.std.specs.Prelude.{◌≡◌, ◌+◌, ◌^◌, ◌≤◌, true, length, IfOk};
+ghost use Rattle.pp_gate.specs.Circuit.{IsOf};
+ghost use Rattle.pp_domain.specs.Moves.{Moves, Steady, SameLooks};
+ghost use Rattle.pp_domain.specs.AnySort.{choose_gates, compare_gates, AreOfOneSort, IsChoice, IsSame};
+
+use crate::domain::Domain;
+use crate::symbol::Symbol;
+use pp_clause::{Lit, NoMemory};
+use pp_gate::Circuit;
+use pp_prog::TypeTable;
+
+/// The left symbol where the choice is true, and else the right one. They are of one sort.
+pub fn choose<D: Domain>(
+    domain: &mut D,
+    circuit: &mut Circuit,
+    table: &TypeTable,
+    choice: Lit,
+    left: &Symbol<D::Tree>,
+    right: &Symbol<D::Tree>,
+) -> Result<Symbol<D::Tree>, NoMemory>
+    requires fits { D.sense.Fits table.now domain.old circuit.old }
+    requires choice { IsOf circuit.old choice }
+    requires symbols { AreOfOneSort D.sense table.now domain.old circuit.old left.now right.now }
+    requires room { length circuit.old + choose_gates D.sense table.now domain.old left.now right.now ≤ 2 ^ 30 }
+    ensures moves { Moves D.sense table.now domain.old circuit.old domain.new circuit.new
+        (choose_gates D.sense table.now domain.old left.now right.now) }
+    ensures steady { D.sense.exact ≡ true → Steady D.sense domain.old circuit.old domain.new circuit.new }
+    ensures looks { SameLooks D.sense domain.old domain.new }
+    ensures answer { IfOk result (λ r. IsChoice D.sense table.now domain.old circuit.old domain.new circuit.new
+        choice left.now right.now r) }
+{
+    match (left, right) {
+        (Symbol::Word(a), Symbol::Word(b)) => {
+            let word = pp_wordgate::choose(circuit, choice, *a, *b)?;
+            Ok(Symbol::Word(word))
+        }
+        (Symbol::Bit(a), Symbol::Bit(b)) => {
+            let bit = circuit.mux(choice, *a, *b)?;
+            Ok(Symbol::Bit(bit))
+        }
+        (Symbol::Tree(t), Symbol::Tree(u)) => {
+            let tree = domain.merge(circuit, table, choice, t, u)?;
+            Ok(Symbol::Tree(tree))
+        }
+        _ => Ok(*left),
+    }
+}
+
+/// Whether the two symbols, of one sort, stand for one value.
+pub fn equal<D: Domain>(
+    domain: &mut D,
+    circuit: &mut Circuit,
+    table: &TypeTable,
+    left: &Symbol<D::Tree>,
+    right: &Symbol<D::Tree>,
+) -> Result<Lit, NoMemory>
+    requires fits { D.sense.Fits table.now domain.old circuit.old }
+    requires symbols { AreOfOneSort D.sense table.now domain.old circuit.old left.now right.now }
+    requires room { length circuit.old + compare_gates D.sense table.now domain.old left.now right.now ≤ 2 ^ 30 }
+    ensures moves { Moves D.sense table.now domain.old circuit.old domain.new circuit.new
+        (compare_gates D.sense table.now domain.old left.now right.now) }
+    ensures steady { D.sense.exact ≡ true → Steady D.sense domain.old circuit.old domain.new circuit.new }
+    ensures looks { SameLooks D.sense domain.old domain.new }
+    ensures answer { IfOk result (λ l. IsSame D.sense table.now domain.old circuit.old domain.new circuit.new
+        left.now right.now l) }
+{
+    match (left, right) {
+        (Symbol::Word(a), Symbol::Word(b)) => {
+            let same = pp_wordgate::equal(circuit, *a, *b)?;
+            Ok(same)
+        }
+        (Symbol::Bit(a), Symbol::Bit(b)) => {
+            let differ = circuit.xor(*a, *b)?;
+            Ok(differ.negated())
+        }
+        (Symbol::Tree(t), Symbol::Tree(u)) => {
+            let same = domain.equal(circuit, table, t, u)?;
+            Ok(same)
+        }
+        _ => Ok(circuit.truth()),
+    }
+}
