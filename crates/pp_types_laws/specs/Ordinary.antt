@@ -1,5 +1,5 @@
--- Which units a source can spell, as far as typed units are well sorted only then: numbers are Ints, and the names of
--- types and functions are plain. Source: own.
+-- What is asked of units so that their typing is well sorted: numbers are Ints, and the names of types and functions are
+-- plain. Source: own.
 use Rattle.std.specs.Prelude.{List, All}
 use Rattle.pp_declared.specs.Listed.{ClassIn, DefIn, decls_in, defs_of, roots_of}
 use Rattle.pp_tree.specs.Plain.{UnitTree}

@@ -13,7 +13,7 @@ pub fn typings_are_unique()
     ensures { TypingsAreUnique }
 {}
 
-/// The typing of units that a source can spell is well sorted.
+/// The typing of ordinary units, with plain names and numbers that are Ints, is well sorted.
 pub fn typings_are_sorted()
     ensures { TypingsAreSorted }
 {}
