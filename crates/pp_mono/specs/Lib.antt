@@ -1,2 +1,3 @@
 pub mod Concrete
 pub mod Laws
+pub mod Steps

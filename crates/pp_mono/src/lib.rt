@@ -5,6 +5,8 @@
 #![tactic(auto)]
 
 mod fault;
+mod making;
 
 pub use fault::MonoFault;
+pub use making::concrete;
 pub use std::alloc::AllocError as NoMemory;

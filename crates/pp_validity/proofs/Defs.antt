@@ -1,7 +1,6 @@
 -- A translated function is sorted, and its sites are listed in order.
 use Rattle.std.proofs.Common.{◌≡◌, ℕ, suc, Bool, true, false, ◌&&◌, List, [], ◌∷◌, ◌++◌, map, length, refl, sym, ap, ◌∙◌, arith}
 use Rattle.std.specs.Prelude.{Option, Some, None, is_some, Contains, All}
-use Rattle.std.specs.Option.{option_map}
 use Rattle.std.proofs.lemmas.List.{append-nil}
 use Rattle.pp_instances.proofs.Parts.{map_push}
 use Rattle.pp_instances.specs.Same.{joined as joined_members}
@@ -17,15 +16,11 @@ use Rattle.pp_prog.specs.declared.expr.BinaryOp.TheVariants.{AndAlso}
 use Rattle.pp_prog.specs.declared.expr.Expr.{Expr}
 use Rattle.pp_prog.specs.declared.expr.Expr.TheVariants as prog
 use Rattle.pp_prog.specs.declared.expr.Function.{Function}
-use Rattle.pp_prog.specs.declared.expr.Param.{Param}
 use Rattle.pp_prog.specs.declared.id.CheckId.{CheckId}
-use Rattle.pp_prog.specs.declared.place.Place.{Place}
 use Rattle.pp_prog.specs.declared.sort.Sort.{Sort}
 use Rattle.pp_prog.specs.declared.sort.Sort.TheVariants as of_prog
-use Rattle.pp_translation.specs.Bare.{bare, bare_function, bare_post}
 use Rattle.pp_translation.specs.Defs.{TranslatesDef, TranslatesPost, no_post, one_post, post_check}
-use Rattle.pp_translation.specs.Exprs.{expr_at, unnumbered}
-use Rattle.pp_translation.specs.Functions.{and_all, as_one, function_of, param_at, place_at, post_at}
+use Rattle.pp_translation.specs.Functions.{and_all, as_one, param_at}
 use Rattle.pp_translation.specs.Numbered.{Translates, TranslateAll, no_exprs, one_more}
 use Rattle.pp_translation.specs.Numbers.{sort_at}
 use Rattle.pp_translation.specs.Places.{def_offsets, post_offsets, site_offsets}
@@ -41,7 +36,6 @@ use Rattle.pp_typed.specs.declared.sort.GenericSort.TheVariants as sort
 use Rattle.pp_typed.specs.declared.typed.Typed.{Typed}
 use Rattle.pp_typed.specs.declared.typed.TypedDef.{TypedDef}
 use Rattle.pp_typed.specs.declared.typed.TypedPost.{TypedPost}
-use Rattle.pp_validity.proofs.Bared.{bare_all, bare_binary, bare_expr}
 use Rattle.pp_validity.proofs.Carried.{IsGrouped, joined_push, lists_all, lists_expr}
 use Rattle.pp_validity.proofs.Exprs.{sorted_all, sorted_expr, split}
 use Rattle.pp_validity.proofs.Forms.{Sorted, sort_of_binary}
@@ -262,50 +256,3 @@ module _ (typed : Typed) (set : Setting) (ms : List Member) (fs : List Function)
       ∙ ap (λ l. a ++ l ++ In f.body ++ post_sites set.types fs f.post f.result sc) (measure_in f.measure)) refl
       (two (a ++ b ++ In f.body) (post_sites set.types fs f.post f.result sc) (o ++ p ++ site_offsets d.body) (post_offsets d.source d.post) old t.after_body new
       (two (a ++ b) (In f.body) (o ++ p) (site_offsets d.body) old t.after_measure t.after_body (two a b o p old t.after_pre t.after_measure pre measure) body) post)
-
-  -- ---- without the numbers of its checks
-
-  abbrev Bare : TypedExpr → Expr
-  Bare = expr_at typed set.roots set.functions own.args
-
-  bare_and : (a : Expr) (xs : List Expr) → bare (and_all a xs) ≡ and_all (bare a) (map bare xs)
-  bare_and a [] = refl
-  bare_and a (x ∷ xs) = bare_and (prog.Binary AndAlso a x None) xs ∙ ap (λ z. and_all z (map bare xs)) (bare_binary AndAlso a x None)
-
-  bare_one : (xs : List Expr) → option_map bare (as_one xs) ≡ as_one (map bare xs)
-  bare_one [] = refl
-  bare_one (x ∷ xs) = ap Some (bare_and x xs)
-
-  bare_of_post : (texts : List (List ℕ)) {q : Option TypedPost} {p : Option (CheckId × Expr)} {source : ℕ} {old new : List CheckAt} → TranslatesPost typed set own source q p old new
-      → bare_post p ≡ post_at typed texts set.roots set.functions own.args q
-  bare_of_post texts no_post = refl
-  bare_of_post texts (one_post t) = ap (λ z. Some (unnumbered, z)) (bare_expr typed set own t)
-
-  abbrev made : List ℕ → Place → List Param → Sort → Option Expr → List Expr → Expr → Option (CheckId × Expr) → Function
-  made name place params result pre measure body post =
-      record { name = name; place = place; params = params; result = result; pre = pre; measure = measure; body = body; post = post }
-
-  abbrev function_at_args : List GenericSort → List (List ℕ) → Instance → Function
-  function_at_args args texts i =
-      made i.name (place_at texts (d.source, d.at)) (map (param_at set.roots args) d.params) (sort_at set.roots args d.result)
-      (as_one (map (expr_at typed set.roots set.functions args) d.pre)) (map (expr_at typed set.roots set.functions args) d.measure)
-      (expr_at typed set.roots set.functions args d.body) (post_at typed texts set.roots set.functions args d.post)
-
-  -- the function of the program that it is at the arguments of the instance
-  pub def_bare : {texts : List (List ℕ)} {i : Instance} {f : Function} {old new : List CheckAt} → TranslatesDef typed set own texts i d f old new → own.args ≡ i.args
-      → bare_function f ≡ function_of typed texts set.roots set.functions i d
-  def_bare {texts} {i} {f} t is =
-      let pre : option_map bare f.pre ≡ as_one (map Bare d.pre) = ap (option_map bare) t.pre.one ∙ bare_one t.pre.parts ∙ ap as_one (bare_all typed set own t.pre.each) in
-      let measure = bare_all typed set own t.measure in
-      let body = bare_expr typed set own t.body in
-      let post = bare_of_post texts t.post in
-      let at_own : bare_function f ≡ function_at_args own.args texts i =
-      ap (λ z. made z f.place f.params f.result (option_map bare f.pre) (map bare f.measure) (bare f.body) (bare_post f.post)) t.name
-      ∙ ap (λ z. made i.name z f.params f.result (option_map bare f.pre) (map bare f.measure) (bare f.body) (bare_post f.post)) t.place
-      ∙ ap (λ z. made i.name (place_at texts (d.source, d.at)) z f.result (option_map bare f.pre) (map bare f.measure) (bare f.body) (bare_post f.post)) t.params
-      ∙ ap (λ z. made i.name (place_at texts (d.source, d.at)) (map (param_at set.roots own.args) d.params) z (option_map bare f.pre) (map bare f.measure) (bare f.body) (bare_post f.post)) t.result
-      ∙ ap (λ z. made i.name (place_at texts (d.source, d.at)) (map (param_at set.roots own.args) d.params) (G d.result) z (map bare f.measure) (bare f.body) (bare_post f.post)) pre
-      ∙ ap (λ z. made i.name (place_at texts (d.source, d.at)) (map (param_at set.roots own.args) d.params) (G d.result) (as_one (map Bare d.pre)) z (bare f.body) (bare_post f.post)) measure
-      ∙ ap (λ z. made i.name (place_at texts (d.source, d.at)) (map (param_at set.roots own.args) d.params) (G d.result) (as_one (map Bare d.pre)) (map Bare d.measure) z (bare_post f.post)) body
-      ∙ ap (λ z. made i.name (place_at texts (d.source, d.at)) (map (param_at set.roots own.args) d.params) (G d.result) (as_one (map Bare d.pre)) (map Bare d.measure) (Bare d.body) z) post in
-      at_own ∙ ap (λ (l : List GenericSort). function_at_args l texts i) is

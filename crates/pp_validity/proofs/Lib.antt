@@ -10,7 +10,9 @@ pub mod Bared
 pub mod Listed
 pub mod Sites
 pub mod Carried
+pub mod BareDefs
 pub mod Defs
 pub mod Placed
 pub mod Whole
 pub mod Signatures
+pub mod Standing

@@ -17,7 +17,7 @@ use Rattle.pp_prog.specs.declared.expr.Function.{Function}
 use Rattle.pp_prog.specs.declared.place.Place.{Place}
 use Rattle.pp_translation.specs.Bare.{bare_function}
 use Rattle.pp_translation.specs.Defs.{TranslatesDefs, checks_from, no_defs, more_defs, none_more, numbered}
-use Rattle.pp_translation.specs.Functions.{function_if, function_of, functions_of, place_at}
+use Rattle.pp_translation.specs.Functions.{functions_of, place_at}
 use Rattle.pp_translation.specs.Numbered.{is_written}
 use Rattle.pp_translation.specs.Places.{offsets_or_none, places_of, told}
 use Rattle.pp_translation.specs.Setting.{Setting}
@@ -28,7 +28,8 @@ use Rattle.pp_typed.specs.declared.sort.GenericSort.{GenericSort}
 use Rattle.pp_typed.specs.declared.typed.Typed.{Typed}
 use Rattle.pp_typed.specs.declared.typed.TypedDef.{TypedDef}
 use Rattle.pp_validity.proofs.Carried.{IsGrouped}
-use Rattle.pp_validity.proofs.Defs.{def_bare, def_lists, def_sorted}
+use Rattle.pp_validity.proofs.BareDefs.{def_bare, functions_push}
+use Rattle.pp_validity.proofs.Defs.{def_lists, def_sorted}
 use Rattle.pp_validity.proofs.Known.{HasTypes, IsKnown}
 use Rattle.pp_validity.proofs.Listed.{numbers_from, offset_of}
 use Rattle.pp_validity.proofs.Placed.{before, some_same}
@@ -100,13 +101,6 @@ module _ (typed : Typed) (set : Setting) (texts : List (List ℕ)) (all : List F
   places_push (g ∷ fs) (j ∷ is) f i even =
       ap (λ l. places_at g j ++ l) (places_push fs is f i (omega arith)) ∙ sym (append_assoc (places_at g j) (At fs is) (places_at f i))
 
-  functions_push : (is : List Instance) (i : Instance) (d : TypedDef) → slice_get typed.defs i.number ≡ Some d
-      → functions_of typed texts set.roots set.functions (is ++ i ∷ []) ≡ functions_of typed texts set.roots set.functions is ++ function_of typed texts set.roots set.functions i d ∷ []
-  functions_push [] i d h = ap (λ o. function_if typed texts set.roots set.functions i o ++ []) h
-  functions_push (j ∷ is) i d h =
-      let here = function_if typed texts set.roots set.functions j (slice_get typed.defs j.number) in
-      ap (λ l. here ++ l) (functions_push is i d h) ∙ sym (append_assoc here (functions_of typed texts set.roots set.functions is) (function_of typed texts set.roots set.functions i d ∷ []))
-
   -- what is known of an instance of a function
   pub record IsReady (ms : List Member) (own : Frame) (d : TypedDef) : Type 0 where
     pub def : IsDef typed d
@@ -165,8 +159,8 @@ module _ (typed : Typed) (set : Setting) (texts : List (List ℕ)) (all : List F
               (λ (q : (k ≡ length fs) × (f ≡ g)). subst (λ (j : ℕ). Carries set.types all j s) (number ∙ sym q.0)
               (lists.carry s (subst (λ (z : Function). Contains (function_sites set.types all z) s) (sym q.1) c))) (last_or_before fs f k g h);
           bare = map_push bare_function fs f ∙ ap (λ l. l ++ bare_function f ∷ []) w.bare
-              ∙ ap (λ z. functions_of typed texts set.roots set.functions is ++ z ∷ []) (def_bare typed set ms all known own r.grouped r.types d t args)
-              ∙ sym (functions_push is i d at_def);
+              ∙ ap (λ z. functions_of typed texts set.roots set.functions is ++ z ∷ []) (def_bare typed set own d t args)
+              ∙ sym (functions_push typed set texts is i d at_def);
           places = ap (map place_of) long ∙ map-append place_of (checks_from texts 0 mid) (checks_from texts (0 + length mid) lists.more)
               ∙ ap (λ l. l ++ map place_of (checks_from texts (0 + length mid) lists.more)) w.places
               ∙ ap (λ l. At fs is ++ l) (ap (map place_of) behind_is ∙ places_are (length mid) lists.more ∙ ap (map (place_at texts)) (sym lists.places)

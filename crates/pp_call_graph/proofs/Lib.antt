@@ -1,0 +1,5 @@
+pub mod Forms
+pub mod Numberless
+pub mod Translated
+pub mod Table
+pub mod Grouped

@@ -1,0 +1,13 @@
+use Rattle.pp_call_graph.specs.TypedCalls.{case_calls, typed_calls}
+use Rattle.pp_prog.proofs.Called.{one_more}
+use Rattle.pp_call_graph.proofs.calls.+calls.Goals as goal
+
+pub add_all-loop-e-preserved : goal.add_all-loop-e-preserved
+add_all-loop-e-preserved t c =
+    one_more (typed_calls c.args.numbers.now.functions c.args.args.now) c.args.es.now c.loop-e.e-index c.e-item.result
+    c.args.found.now c.loop-e-test.true c.e-item.is c.loop-e.invariant c.in_ok-add_calls.ensures
+
+pub add_cases-loop-c-preserved : goal.add_cases-loop-c-preserved
+add_cases-loop-c-preserved t c =
+    one_more (case_calls c.args.numbers.now.functions c.args.args.now) c.args.cases.now c.loop-c.c-index
+    c.c-item.result c.args.found.now c.loop-c-test.true c.c-item.is c.loop-c.invariant c.in_ok-add_case.ensures

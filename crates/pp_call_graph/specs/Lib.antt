@@ -1,0 +1,2 @@
+pub mod TypedCalls
+pub mod Groups

@@ -1,0 +1,4 @@
+pub mod Sorted
+pub mod Made
+pub mod Listing
+pub mod Laws
