@@ -65,6 +65,7 @@ module _ (typed : Typed) (texts : List (List ℕ)) (fs rs : List Instance) (all 
       record {
         members = all.members;
         instances = all.instances;
+        few = all.few;
         functions = fs;
         roots = rs;
         listed = all.listed;

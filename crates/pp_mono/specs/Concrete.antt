@@ -1,5 +1,5 @@
 -- Which program belongs to typed units. Source: own.
-use Rattle.std.specs.Prelude.{◌≡◌, ℕ, List, map}
+use Rattle.std.specs.Prelude.{◌≡◌, ◌≤◌, ℕ, List, length, map}
 use Rattle.pp_instances.specs.Closure.{AreInstances}
 use Rattle.pp_instances.specs.Order.{AreListed}
 use Rattle.pp_instances.specs.declared.member.Decl.TheVariants.{Function, Root}
@@ -30,6 +30,7 @@ function_members = map (stands_for Function)
 pub record IsConcrete (typed : Typed) (texts : List (List ℕ)) (p : Program) : Type 0 where
   pub members : List Member
   pub instances : AreInstances typed members
+  pub few : length members ≤ 512
   pub functions : List Instance
   pub roots : List Instance
   pub listed : AreListed typed members functions roots

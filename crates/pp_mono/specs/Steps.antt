@@ -17,6 +17,7 @@ pub record AreInstancesOf (typed : Typed) (fs rs : List Instance) : Type 0 where
   pub sorted : IsWellSorted typed
   pub members : List Member
   pub instances : AreInstances typed members
+  pub few : length members ≤ 512
   pub listed : AreListed typed members fs rs
   pub few_functions : length fs ≤ 512
   pub few_roots : length rs ≤ 512

@@ -30,7 +30,8 @@ distinct_from (m ∷ ms) apart = (
   distinct_from ms (λ i j n lt there here. apart (suc i) (suc j) n (omega arith) there here),
 )
 
-mapped : {X Y : Type 0} (f : X → Y) (o : Option X) (y : Y) → option_map f o ≡ Some y
+-- the element whose image is there
+pub mapped : {X Y : Type 0} (f : X → Y) (o : Option X) (y : Y) → option_map f o ≡ Some y
     → (x : X) × (o ≡ Some x) × (f x ≡ y)
 mapped f None y is = cc
 mapped f (Some x) y is = (x, refl, cc)

@@ -90,9 +90,11 @@ module _ (texts : List (List ℕ)) where
   joined_push : (xss : List Os) (xs : Os) → Stand (joined (xss ++ xs ∷ [])) → Stand (joined xss) × Stand xs
   joined_push [] xs h = (λ o c. absurd (nothing_in o c), left xs [] h)
   joined_push (ys ∷ xss) xs h =
-      let more = joined_push xss xs (right ys (joined (xss ++ xs ∷ [])) h) in
-      (λ o c. ⊎_elim (λ now. left ys (joined (xss ++ xs ∷ [])) h o now) (λ later. more.0 o later)
-      (Contains-append_cases ys (joined xss) o c), more.1)
+      let more = joined_push xss xs (right ys (joined (xss ++ xs ∷ [])) h) in (
+        λ o c. ⊎_elim (λ now. left ys (joined (xss ++ xs ∷ [])) h o now) (λ later. more.0 o later)
+            (Contains-append_cases ys (joined xss) o c),
+        more.1,
+      )
 
   pushed : {A : Type 0} (f : A → Os) (xs : List A) (x : A) → Stand (joined (map f (xs ++ x ∷ [])))
       → Stand (joined (map f xs)) × Stand (f x)

@@ -1,0 +1,11 @@
+pub mod Offsets
+pub mod SiteKinds
+pub mod Sited
+pub mod Marked
+pub mod Marks
+pub mod Chosen
+pub mod Apart
+pub mod Defs
+pub mod Functions
+pub mod Rows
+pub mod Law

@@ -1,0 +1,273 @@
+-- The sites of an expression that has a sort have its slots.
+use Rattle.std.proofs.Common.{◌≡◌, true, List, [], ◌∷◌, ◌++◌, map, Option, Some, None, slice_get, refl, sym, ap, ◌∙◌}
+use Rattle.std.proofs.Common.{subst}
+use Rattle.std.proofs.lemmas.Bool.{and_parts}
+use Rattle.std.proofs.lemmas.List.{map-append}
+use Rattle.pp_prog.specs.Calls.{joined}
+use Rattle.pp_prog.specs.ExprSorts.{Arm, Sorting, alike, arm_sort, arm_step, arm_with, arms_like, arms_sort}
+use Rattle.pp_prog.specs.ExprSorts.{field_sort, is_sorted, is_sorted_measure, is_sorted_post, is_sorted_pre, sort_of}
+use Rattle.pp_prog.specs.ExprSorts.{sort_step, sorts_in}
+use Rattle.pp_prog.specs.Listing.{CaseSites, Site, Sites, at_sort, case_sites, function_sites, matching, measure_sites}
+use Rattle.pp_prog.specs.Listing.{operator_site, post_sites, pre_sites, site_step, sites, sites_of_all, sites_of_cases}
+use Rattle.pp_prog.specs.Listing.{unguarded, with_bound}
+use Rattle.pp_prog.specs.PatternSorts.{bound_sorts}
+use Rattle.pp_prog.specs.Sorts.{param_sorts}
+use Rattle.pp_prog.specs.declared.expr.BinaryOp.{BinaryOp}
+use Rattle.pp_prog.specs.declared.expr.BinaryOp.TheVariants.{Add, Sub, Mul, Div, Rem, Equal, Differ, Less, AtMost}
+use Rattle.pp_prog.specs.declared.expr.BinaryOp.TheVariants.{More, AtLeast, AndAlso, OrElse, And, Or, Xor, Shl, Shr}
+use Rattle.pp_prog.specs.declared.expr.BinaryOp.TheVariants.{Ushr}
+use Rattle.pp_prog.specs.declared.expr.Case.{Case}
+use Rattle.pp_prog.specs.declared.expr.Expr.{Expr}
+use Rattle.pp_prog.specs.declared.expr.Expr.TheFolds.{fold-Case, fold-roll-Case, fold-roll-Expr, ind-Expr, map-Case}
+use Rattle.pp_prog.specs.declared.expr.Expr.TheFolds.{map-Expr, para-Case, para-roll-Case, para-roll-Expr}
+use Rattle.pp_prog.specs.declared.expr.Expr.TheOpen as layer
+use Rattle.pp_prog.specs.declared.expr.Expr.TheViews.{roll-Case, roll-Expr}
+use Rattle.pp_prog.specs.declared.expr.Function.{Function}
+use Rattle.pp_prog.specs.declared.expr.Pattern.{Pattern}
+use Rattle.pp_prog.specs.declared.id.CheckId.{CheckId}
+use Rattle.pp_prog.specs.declared.sort.Sort.{Sort}
+use Rattle.pp_prog.specs.declared.types.TypeTable.{TypeTable}
+use Rattle.pp_sound.proofs.Sorting.{alike_are, bool_then, call_sort_is, has_the_sort_is, sort_then, tree_sort_is}
+use Rattle.pp_sound.proofs.Sorting.{tree_then}
+use Rattle.pp_mono_laws.proofs.Parts.{binary_parts, sort_there, unary_part}
+use Rattle.pp_mono_laws.proofs.Slots.{Slots, case_slots, case_step, function_slots, post_slots, pre_slots, slot_of}
+use Rattle.pp_mono_laws.proofs.Slots.{slot_step, slots}
+
+operator_slot : (op : BinaryOp) (n : Option CheckId) → map slot_of (operator_site op n ∷ []) ≡ n ∷ []
+operator_slot Add n = refl
+operator_slot Sub n = refl
+operator_slot Mul n = refl
+operator_slot Div n = refl
+operator_slot Rem n = refl
+operator_slot Equal n = refl
+operator_slot Differ n = refl
+operator_slot Less n = refl
+operator_slot AtMost n = refl
+operator_slot More n = refl
+operator_slot AtLeast n = refl
+operator_slot AndAlso n = refl
+operator_slot OrElse n = refl
+operator_slot And n = refl
+operator_slot Or n = refl
+operator_slot Xor n = refl
+operator_slot Shl n = refl
+operator_slot Shr n = refl
+operator_slot Ushr n = refl
+
+-- sites, one part after another
+both_slotted : (xs ys : List Site) {a b : Slots} → map slot_of xs ≡ a → map slot_of ys ≡ b
+    → map slot_of (xs ++ ys) ≡ a ++ b
+both_slotted xs ys {a} p q = map-append slot_of xs ys ∙ ap (λ l. l ++ map slot_of ys) p ∙ ap (λ l. a ++ l) q
+
+module _ (types : TypeTable) (fs : List Function) where
+  abbrev S : Expr → Sorting
+  S = sort_of types fs
+
+  abbrev arm_of : Case → Arm
+  arm_of = fold-Case Sorting Arm (sort_step types fs) arm_step
+
+  abbrev In : Expr → Sites
+  In = sites types fs
+
+  abbrev in_case : Case → CaseSites
+  in_case = para-Case Sites CaseSites (site_step types fs) (case_sites types fs)
+
+  abbrev beside : Expr → Expr × Sites
+  beside x = (x, In x)
+
+  abbrev case_beside : Case → Case × CaseSites
+  case_beside c = (c, in_case c)
+
+  abbrev P : Expr → Type 0
+  P e = (scope : List Sort) (s : Sort) → S e scope ≡ Some s → map slot_of (In e scope) ≡ slots e
+
+  abbrev Q : Case → Type 0
+  Q c = (s : Sort) (scope : List Sort) (u : Sort) → arm_sort types fs (arm_of c) s scope ≡ Some u
+      → map slot_of (in_case c s scope) ≡ case_slots c
+
+  abbrev E : Type 0
+  E = (e : Expr) × P e
+
+  abbrev K : Type 0
+  K = (c : Case) × Q c
+
+  abbrev expr_below : layer.Expr-F E K → layer.Expr-F Expr Case
+  expr_below = map-Expr E K Expr Case (λ z. z.0) (λ z. z.0)
+
+  abbrev case_below : layer.Case-F E K → layer.Case-F Expr Case
+  case_below = map-Case E K Expr Case (λ z. z.0) (λ z. z.0)
+
+  each : (ys : List E) (scope ts : List Sort) → sorts_in scope (map S (map (λ (z : E). z.0) ys)) ≡ map Some ts
+      → map slot_of (sites_of_all (map beside (map (λ (z : E). z.0) ys)) scope)
+      ≡ joined (map slots (map (λ (z : E). z.0) ys))
+  each [] scope ts h = refl
+  each (y ∷ ys) scope [] h = cc
+  each (y ∷ ys) scope (t ∷ ts) h =
+      let one : S y.0 scope ≡ Some t = cc in
+      let more : sorts_in scope (map S (map (λ (z : E). z.0) ys)) ≡ map Some ts = cc in
+      both_slotted (In y.0 scope) (sites_of_all (map beside (map (λ (z : E). z.0) ys)) scope) (y.1 scope t one)
+      (each ys scope ts more)
+
+  abbrev in_cases : List K → Sort → List Sort → List Site
+  in_cases ys s scope = sites_of_cases (map case_beside (map (λ (z : K). z.0) ys)) s scope
+
+  abbrev slots_in : List K → Slots
+  slots_in ys = joined (map case_slots (map (λ (z : K). z.0) ys))
+
+  each_case : (ys : List K) (t : Option Sort) (s : Sort) (scope : List Sort) (u : Sort)
+      → arms_like types fs t (map arm_of (map (λ (z : K). z.0) ys)) s scope ≡ Some u
+      → (t ≡ Some u) × (map slot_of (in_cases ys s scope) ≡ slots_in ys)
+  each_case [] t s scope u h = (h, refl)
+  each_case (y ∷ ys) t s scope u h =
+      let here = arm_sort types fs (arm_of y.0) s scope in
+      let rest = each_case ys (alike t here) s scope u h in
+      let both = alike_are t here u rest.0 in
+      (both.0, both_slotted (in_case y.0 s scope) (in_cases ys s scope) (y.1 s scope u both.1) rest.1)
+
+  all_cases : (ys : List K) (s : Sort) (scope : List Sort) (u : Sort)
+      → arms_sort types fs (map arm_of (map (λ (z : K). z.0) ys)) s scope ≡ Some u
+      → map slot_of (in_cases ys s scope) ≡ slots_in ys
+  all_cases [] s scope u h = cc
+  all_cases (y ∷ ys) s scope u h =
+      let rest = each_case ys (arm_sort types fs (arm_of y.0) s scope) s scope u h in
+      both_slotted (in_case y.0 s scope) (in_cases ys s scope) (y.1 s scope u rest.0) rest.1
+
+  abbrev sort_parts : layer.Expr-F Expr Case → layer.Expr-F Sorting Arm
+  sort_parts = map-Expr Expr Case Sorting Arm S arm_of
+
+  abbrev site_parts : layer.Expr-F Expr Case → layer.Expr-F (Expr × Sites) (Case × CaseSites)
+  site_parts = map-Expr Expr Case (Expr × Sites) (Case × CaseSites) beside case_beside
+
+  abbrev slot_parts : layer.Expr-F Expr Case → layer.Expr-F Slots Slots
+  slot_parts = map-Expr Expr Case Slots Slots slots case_slots
+
+  level : (y : layer.Expr-F E K) (scope : List Sort) (s : Sort)
+      → sort_step types fs (sort_parts (expr_below y)) scope ≡ Some s
+      → map slot_of (site_step types fs (site_parts (expr_below y)) scope) ≡ slot_step (slot_parts (expr_below y))
+  level (layer.Int n) scope s h = refl
+  level (layer.Bool b) scope s h = refl
+  level (layer.Var i) scope s h = refl
+  level (layer.Unary op a) scope s h = let t = unary_part op (S a.0 scope) s h in a.1 scope t.0 t.1
+  level (layer.Binary op a b check) scope s h =
+      let t = binary_parts op (S a.0 scope) (S b.0 scope) s h in
+      both_slotted (In a.0 scope ++ In b.0 scope) (operator_site op check ∷ [])
+      (both_slotted (In a.0 scope) (In b.0 scope) (a.1 scope t.0.0 t.0.1) (b.1 scope t.1.0 t.1.1))
+      (operator_slot op check)
+  level (layer.Construct c args) scope s h =
+      let k = tree_sort_is (slice_get types.ctors c.0) (sorts_in scope (map S (map (λ (z : E). z.0) args))) s h in
+      each args scope k.0.fields k.2
+  level (layer.Field e k) scope s h =
+      let t = tree_then (S e.0 scope) (λ d. field_sort types fs d k) s h in e.1 scope _ t.1
+  level (layer.If c a b) scope s h =
+      let t = bool_then (S c.0 scope) (alike (S a.0 scope) (S b.0 scope)) s h in
+      let both = alike_are (S a.0 scope) (S b.0 scope) s t.1 in
+      both_slotted (In c.0 scope ++ In a.0 scope) (In b.0 scope)
+      (both_slotted (In c.0 scope) (In a.0 scope) (c.1 scope _ t.0) (a.1 scope s both.0)) (b.1 scope s both.1)
+  level (layer.Match e cases check) scope s h =
+      let arms = map arm_of (map (λ (z : K). z.0) cases) in
+      let cs = map case_beside (map (λ (z : K). z.0) cases) in
+      let go : Sort → List Site = λ u. matching u (unguarded cs) check ∷ sites_of_cases cs u scope in
+      let t = sort_then (S e.0 scope) (λ u. arms_sort types fs arms u scope) s h in
+      both_slotted (In e.0 scope) (at_sort (S e.0 scope) go) (e.1 scope t.0 t.1)
+      (ap (λ o. map slot_of (at_sort o go)) t.1 ∙ ap (λ l. check ∷ l) (all_cases cases t.0 scope s t.2))
+  level (layer.Val a b) scope s h =
+      let go : Sort → List Site = λ u. In b.0 (scope ++ u ∷ []) in
+      let t = sort_then (S a.0 scope) (λ u. S b.0 (scope ++ u ∷ [])) s h in
+      both_slotted (In a.0 scope) (at_sort (S a.0 scope) go) (a.1 scope t.0 t.1)
+      (ap (λ o. map slot_of (at_sort o go)) t.1 ∙ b.1 (scope ++ t.0 ∷ []) s t.2)
+  level (layer.Assert check c e) scope s h =
+      let t = bool_then (S c.0 scope) (S e.0 scope) s h in
+      both_slotted (In c.0 scope) _ (c.1 scope _ t.0) (ap (λ l. Some check ∷ l) (e.1 scope s t.1))
+  level (layer.Call g args pre down) scope s h =
+      let k = call_sort_is (slice_get fs g.0) (sorts_in scope (map S (map (λ (z : E). z.0) args))) s h in
+      both_slotted (sites_of_all (map beside (map (λ (z : E). z.0) args)) scope) _
+      (each args scope (param_sorts k.0.params) k.2) refl
+
+  at_level : (y : layer.Expr-F E K) → P (roll-Expr (expr_below y))
+  at_level y scope s h =
+      let z = expr_below y in
+      ap (λ (f : Sites). map slot_of (f scope))
+      (para-roll-Expr Sites CaseSites (site_step types fs) (case_sites types fs) z)
+      ∙ level y scope s
+      (sym (ap (λ (f : Sorting). f scope) (fold-roll-Expr Sorting Arm (sort_step types fs) arm_step z)) ∙ h)
+      ∙ sym (fold-roll-Expr Slots Slots slot_step case_step z)
+
+  plain_arm : (b : E) (scope : List Sort) (u : Sort) (p : Pattern) (bound : Option (List Sort))
+      → arm_with (record { pattern = p; guard = None; body = S b.0 }) scope bound ≡ Some u
+      → map slot_of (with_bound bound (λ more. In b.0 (scope ++ more))) ≡ slots b.0
+  plain_arm b scope u p None h = cc
+  plain_arm b scope u p (Some bound) h = b.1 (scope ++ bound) u h
+
+  guarded_arm : (g b : E) (scope : List Sort) (u : Sort) (p : Pattern) (bound : Option (List Sort))
+      → arm_with (record { pattern = p; guard = Some (S g.0); body = S b.0 }) scope bound ≡ Some u
+      → map slot_of (with_bound bound (λ more. In g.0 (scope ++ more) ++ In b.0 (scope ++ more)))
+      ≡ slots g.0 ++ slots b.0
+  guarded_arm g b scope u p None h = cc
+  guarded_arm g b scope u p (Some bound) h =
+      let t = bool_then (S g.0 (scope ++ bound)) (S b.0 (scope ++ bound)) u h in
+      both_slotted (In g.0 (scope ++ bound)) (In b.0 (scope ++ bound))
+      (g.1 (scope ++ bound) _ t.0) (b.1 (scope ++ bound) u t.1)
+
+  abbrev case_parts : layer.Case-F Expr Case → layer.Case-F (Expr × Sites) (Case × CaseSites)
+  case_parts = map-Case Expr Case (Expr × Sites) (Case × CaseSites) beside case_beside
+
+  at_parts : (p : Pattern) (o : Option E) (b : E) (s : Sort) (scope : List Sort) (u : Sort)
+      → let z = case_below (record { pattern = p; guard = o; body = b }) in
+      arm_sort types fs (arm_step (map-Case Expr Case Sorting Arm S arm_of z)) s scope ≡ Some u
+      → map slot_of (case_sites types fs (case_parts z) s scope)
+      ≡ case_step (map-Case Expr Case Slots Slots slots case_slots z)
+  at_parts p None b s scope u h = plain_arm b scope u p (bound_sorts types.ctors p s) h
+  at_parts p (Some g) b s scope u h = guarded_arm g b scope u p (bound_sorts types.ctors p s) h
+
+  at_case : (y : layer.Case-F E K) → Q (roll-Case (case_below y))
+  at_case y s scope u h =
+      let z = case_below y in
+      ap (λ (f : CaseSites). map slot_of (f s scope))
+      (para-roll-Case Sites CaseSites (site_step types fs) (case_sites types fs) z)
+      ∙ at_parts y.pattern y.guard y.body s scope u
+      (sym (ap (λ (a : Arm). arm_sort types fs a s scope)
+      (fold-roll-Case Sorting Arm (sort_step types fs) arm_step z)) ∙ h)
+      ∙ sym (fold-roll-Case Slots Slots slot_step case_step z)
+
+  sites_slots : (e : Expr) → P e
+  sites_slots = ind-Expr P Q (λ x y is. subst (λ z. P (roll-Expr z)) is (at_level y))
+      (λ x y is. subst (λ z. Q (roll-Case z)) is (at_case y))
+
+  pre_has : (pre : Option Expr) (scope : List Sort) → is_sorted_pre types fs pre scope ≡ true
+      → map slot_of (pre_sites types fs pre scope) ≡ pre_slots pre
+  pre_has None scope h = refl
+  pre_has (Some e) scope h = sites_slots e scope _ (has_the_sort_is types fs _ (S e scope) h)
+
+  measure_has : (es : List Expr) (scope : List Sort) → is_sorted_measure types fs es scope ≡ true
+      → map slot_of (measure_sites types fs es scope) ≡ joined (map slots es)
+  measure_has [] scope h = refl
+  measure_has (e ∷ es) scope h =
+      let parts = and_parts _ _ h in
+      let s = sort_there (S e scope) parts.0 in
+      both_slotted (In e scope) (measure_sites types fs es scope)
+      (sites_slots e scope s.0 s.1) (measure_has es scope parts.1)
+
+  post_has : (post : Option (CheckId × Expr)) (result : Sort) (scope : List Sort)
+      → is_sorted_post types fs post (scope ++ result ∷ []) ≡ true
+      → map slot_of (post_sites types fs post result scope) ≡ post_slots post
+  post_has None result scope h = refl
+  post_has (Some post) result scope h =
+      both_slotted (In post.1 (scope ++ result ∷ [])) _
+      (sites_slots post.1 (scope ++ result ∷ []) _
+      (has_the_sort_is types fs _ (S post.1 (scope ++ result ∷ [])) h)) refl
+
+  -- the sites of a function whose expressions have sorts have its slots
+  pub function_has : (f : Function) → is_sorted types fs f ≡ true
+      → map slot_of (function_sites types fs f) ≡ function_slots f
+  function_has f h =
+      let scope = param_sorts f.params in
+      let a = and_parts _ _ h in
+      let b = and_parts _ _ a.1 in
+      let c = and_parts _ _ b.1 in
+      let pre = pre_sites types fs f.pre scope in
+      let down = measure_sites types fs f.measure scope in
+      both_slotted (pre ++ down ++ In f.body scope) (post_sites types fs f.post f.result scope)
+      (both_slotted (pre ++ down) (In f.body scope)
+      (both_slotted pre down (pre_has f.pre scope a.0) (measure_has f.measure scope b.0))
+      (sites_slots f.body scope _ (has_the_sort_is types fs _ (S f.body scope) c.0)))
+      (post_has f.post f.result scope c.1)
