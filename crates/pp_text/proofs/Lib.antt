@@ -1,2 +1,3 @@
-pub mod Columns
 pub mod FirstBad
+pub mod Places
+pub mod Tables

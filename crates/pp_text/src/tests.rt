@@ -85,6 +85,28 @@ fn places(rt: HostRuntime) -> Result<(), Fail> {
     Ok(())
 }
 
+/// Far from the start, places are counted from the table, also where a character goes on past 64 bytes.
+#[test]
+fn places_far_in(rt: HostRuntime) -> Result<(), Fail> {
+    // 62 bytes, a character of four, a line feed, 61 bytes, and one more
+    let source = "01234567890123456789012345678901234567890123456789012345678901\u{1f600}\n\
+                  0123456789012345678901234567890123456789012345678901234567890z";
+    let rows: [(usize, u32, u32); 5] = [
+        (62, 1, 63),
+        (66, 1, 64),
+        (67, 2, 1),
+        (128, 2, 62),
+        // the end
+        (129, 2, 63),
+    ];
+    let text = Text::read(rt.alloc(), source.as_bytes())?;
+    for (offset, line, column) in rows {
+        assert!(rt; text.as_str().is_char_boundary(offset));
+        assert_eq!(rt; text.place(offset as u32), (line, column), "at {offset}");
+    }
+    Ok(())
+}
+
 /// A name holds the bytes of its text.
 #[test]
 fn names(rt: HostRuntime) -> Result<(), Fail> {

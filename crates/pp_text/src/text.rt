@@ -5,7 +5,7 @@ ghost use Rattle.std.specs.Str.{IsUtf8, IsCharBoundary};
 ghost use Rattle.pp_text.specs.Limits.{most_bytes};
 ghost use Rattle.pp_text.specs.Place.{place_of};
 
-use crate::place::place_behind;
+use crate::place::{BYTES_APART, past_bytes, table};
 use std::alloc::{AllocError, Global};
 use std::marker::Model;
 
@@ -35,18 +35,20 @@ impl From<AllocError> for TextFault {
 #[derive(Debug, Drop)]
 pub struct Text {
     text: String,
+    // the places in the text from which `place` counts on
+    table: Vec<(u32, u32)>,
 }
 
 impl Model for Text {
-    ghost use Rattle.std.specs.Prelude.{List, ℕ, ◌≤◌, length};
+    ghost use Rattle.std.specs.Prelude.{List, ℕ};
     ghost use Rattle.std.specs.String.{string_bytes};
-    ghost use Rattle.pp_text.specs.Limits.{most_bytes};
+    ghost use Rattle.pp_text.specs.Table.{IsKept};
 
     ghost Value = { List ℕ };
 
     ghost view = { λ t. string_bytes t.text };
 
-    ghost invariant = { λ t. length (string_bytes t.text) ≤ most_bytes };
+    ghost invariant = { λ t. IsKept (string_bytes t.text) t.table.items };
 }
 
 impl Text {
@@ -61,10 +63,11 @@ impl Text {
         ensures refused { IfErr result (λ fault. IsCause fault bytes.now) }
     {
         match str::from_utf8(bytes) {
-            Ok(text) => match String::from_str(alloc, text) {
-                Ok(text) => Ok(Text { text }),
-                Err(_) => Err(TextFault::Memory),
-            },
+            Ok(valid) => {
+                let table = table(alloc, bytes)?;
+                let text = String::from_str(alloc, valid)?;
+                Ok(Text { text, table })
+            }
             Err(fault) => Err(TextFault::NotUtf8(fault.valid_up_to() as u32)),
         }
     }
@@ -79,11 +82,15 @@ impl Text {
     }
 
     /// The line and the column of the offset, both from 1. A line ends with a line feed, and a column counts characters
-    /// (Unicode scalar values). The offset is one at which a character begins, or the end. It takes no memory.
+    /// (Unicode scalar values). The offset is one at which a character begins, or the end. It takes no memory, and it
+    /// passes fewer than 64 bytes of the text.
     pub fn place(&self, offset: u32) -> (u32, u32)
         requires { IsCharBoundary self.now offset }
         ensures { result ≡ place_of self.now offset }
     {
-        place_behind(&self.text.as_str()[..offset as usize])
+        let offset = offset as usize;
+        let mark = offset / BYTES_APART;
+        let start = BYTES_APART * mark;
+        past_bytes(self.table[mark], &self.text.as_bytes()[start..offset])
     }
 }
