@@ -30,23 +30,23 @@ has_more steps n k m le h =
 pub has_whole : (steps : List Step) (n : ℕ) (m : Literal) → n ≤ length steps → has (lits (take n steps)) m ≡ true → has (lits steps) m ≡ true
 has_whole steps n m le h = subst (λ (z : List Step). has (lits z) m ≡ true) (take_all (length steps) steps (omega arith)) (has_more steps n (length steps) m le h)
 
-learnt_refutes_not : (assumed : List Literal) (scan : Trail) (end start : ℕ) (m : Lemma) (back : ℕ) → HoldsAll assumed scan.steps end → end ≤ start → IsLearnt scan start m back → all_negated assumed m.clause ≡ false
-learnt_refutes_not assumed scan end start m back a le h =
+learnt_refutes_not : (assumed : List Literal) (watch : Trail) (end start : ℕ) (m : Lemma) (back : ℕ) → HoldsAll assumed watch.steps end → end ≤ start → IsLearnt watch start m back → all_negated assumed m.clause ≡ false
+learnt_refutes_not assumed watch end start m back a le h =
     false_from_ne_true (all_negated assumed m.clause) (λ n.
-    let there : has (lits (take end scan.steps)) (opposite h.literal) ≡ true = has-All (λ z. has (lits (take end scan.steps)) z ≡ true) assumed (opposite h.literal) a.held (negated_at assumed m.clause h.literal n h.held) in
-    both_ways (has (lits (take start scan.steps)) (opposite h.literal)) h.is_open.negation (has_more scan.steps end start (opposite h.literal) le there))
+    let there : has (lits (take end watch.steps)) (opposite h.literal) ≡ true = has-All (λ z. has (lits (take end watch.steps)) z ≡ true) assumed (opposite h.literal) a.held (negated_at assumed m.clause h.literal n h.held) in
+    both_ways (has (lits (take start watch.steps)) (opposite h.literal)) h.is_open.negation (has_more watch.steps end start (opposite h.literal) le there))
 
 own_base : (assumed : List Literal) (steps : List Step) (base : Option ℕ) (start : ℕ) → IsBase assumed steps base → (o : IsOwn steps base start) → HoldsAll assumed steps o.end
 own_base assumed steps base start b o = subst (λ (z : Option ℕ). IsBase assumed steps z) o.is b
 
 -- the log with the lemma
-pub learnt_log : (cs : List (List Literal)) (assumed : List Literal) (lemmas : ℕ) (scan : Trail) (log : List Lemma) (base : Option ℕ) (m : Lemma) (back : ℕ) →
-    Standing cs assumed lemmas scan log base → IsOwnLemma scan base m back → IsLog cs assumed (log ++ m ∷ [])
-learnt_log cs assumed lemmas scan log base m back s k =
+pub learnt_log : (cs : List (List Literal)) (assumed : List Literal) (lemmas : ℕ) (watch : Trail) (log : List Lemma) (base : Option ℕ) (m : Lemma) (back : ℕ) →
+    Standing cs assumed lemmas watch log base → IsOwnLemma watch base m back → IsLog cs assumed (log ++ m ∷ [])
+learnt_log cs assumed lemmas watch log base m back s k =
     log_push cs assumed log m s.logged.right
     (subst (λ (z : List (List Literal)). Derives z m.chain m.clause) s.logged.clauses k.learnt.derives)
     (subst (λ (z : List (List Literal)). IsNew z m.clause) s.logged.clauses (k.learnt.new (s.layered.closed k.start k.own.last.step k.own.last.decision)))
-    (learnt_refutes_not assumed scan k.own.end k.start m back (own_base assumed scan.steps base k.start s.based k.own) k.own.after k.learnt)
+    (learnt_refutes_not assumed watch k.own.end k.start m back (own_base assumed watch.steps base k.start s.based k.own) k.own.after k.learnt)
 
 stands_take : (steps : List Step) (n place : ℕ) (step : Step) → n ≤ length steps → IsDecision (take n steps) place step → IsDecision steps place step × (place < n)
 stands_take steps n place step le d =
@@ -55,18 +55,18 @@ stands_take steps n place step le d =
     let lt : place < n = omega arith in
     (record { stands = record { within = omega arith; is = d.stands.is ∙ get_or-take n steps place step lt }; free = d.free }, lt)
 
-learnt_layered : (scan : Trail) (start to : ℕ) (m : Lemma) (back : ℕ) → IsLayered scan → IsLearnt scan start m back → to ≤ length scan.steps → NoDecision scan.steps back to → IsLayered (record { clauses = scan.clauses ++ m.clause ∷ []; steps = take to scan.steps; vars = scan.vars })
-learnt_layered scan start to m back y h le none = record {
+learnt_layered : (watch : Trail) (start to : ℕ) (m : Lemma) (back : ℕ) → IsLayered watch → IsLearnt watch start m back → to ≤ length watch.steps → NoDecision watch.steps back to → IsLayered (record { clauses = watch.clauses ++ m.clause ∷ []; steps = take to watch.steps; vars = watch.vars })
+learnt_layered watch start to m back y h le none = record {
   closed = λ place step d. (
-      let p = stands_take scan.steps to place step le d in
+      let p = stands_take watch.steps to place step le d in
       elim (cases_lt place back) [
         | inr ge ↦ absurd (none.none place step p.0 ge p.1)
         | inl lt ↦ (
-            let before : take place (take to scan.steps) ≡ take place scan.steps = take-take place to scan.steps (let b = p.1 in omega arith) in
-            let missing : has (lits (take place scan.steps)) (opposite h.literal) ≡ false = false_from_ne_true _ (λ k. both_ways (has (lits (take start scan.steps)) (opposite h.literal)) h.is_open.negation (has_more scan.steps place start (opposite h.literal) (let w = h.within in omega arith) k)) in
-            rw before (elim (others_or_not (lits (take place scan.steps)) m.clause h.literal) [
+            let before : take place (take to watch.steps) ≡ take place watch.steps = take-take place to watch.steps (let b = p.1 in omega arith) in
+            let missing : has (lits (take place watch.steps)) (opposite h.literal) ≡ false = false_from_ne_true _ (λ k. both_ways (has (lits (take start watch.steps)) (opposite h.literal)) h.is_open.negation (has_more watch.steps place start (opposite h.literal) (let w = h.within in omega arith) k)) in
+            rw before (elim (others_or_not (lits (take place watch.steps)) m.clause h.literal) [
               | inl o ↦ absurd (let b = h.least place o in omega arith)
-              | inr w ↦ closed_add scan.clauses (lits (take place scan.steps)) m.clause h.literal (y.closed place step p.0) h.held missing w
+              | inr w ↦ closed_add watch.clauses (lits (take place watch.steps)) m.clause h.literal (y.closed place step p.0) h.held missing w
             ]))
       ]);
 }
@@ -95,19 +95,19 @@ base_after assumed steps base start to le b o =
     subst (λ (z : Option ℕ). IsBase assumed (take to steps) (cut_base z to)) (sym o.is) (base_cut assumed steps o.end to le (own_base assumed steps base start b o))
 
 -- the state with the lemma, after the trail is cut
-pub standing_learnt : (cs : List (List Literal)) (assumed : List Literal) (lemmas : ℕ) (scan : Trail) (log : List Lemma) (base : Option ℕ) (to : ℕ) (m : Lemma) (back : ℕ) →
-    Standing cs assumed lemmas scan log base → IsOwnLemma scan base m back → length (log ++ m ∷ []) < lemmas → to ≤ length scan.steps → NoDecision scan.steps back to →
-    Standing cs assumed lemmas (record { clauses = scan.clauses ++ m.clause ∷ []; steps = take to scan.steps; vars = scan.vars }) (log ++ m ∷ []) (cut_base base to)
-standing_learnt cs assumed lemmas scan log base to m back s k few le none = record {
+pub standing_learnt : (cs : List (List Literal)) (assumed : List Literal) (lemmas : ℕ) (watch : Trail) (log : List Lemma) (base : Option ℕ) (to : ℕ) (m : Lemma) (back : ℕ) →
+    Standing cs assumed lemmas watch log base → IsOwnLemma watch base m back → length (log ++ m ∷ []) < lemmas → to ≤ length watch.steps → NoDecision watch.steps back to →
+    Standing cs assumed lemmas (record { clauses = watch.clauses ++ m.clause ∷ []; steps = take to watch.steps; vars = watch.vars }) (log ++ m ∷ []) (cut_base base to)
+standing_learnt cs assumed lemmas watch log base to m back s k few le none = record {
   logged = record {
     clauses = ap (λ (z : List (List Literal)). z ++ m.clause ∷ []) s.logged.clauses ∙ append_assoc cs (lemma_clauses log) (m.clause ∷ []) ∙ sym (ap (λ (z : List (List Literal)). cs ++ z) (clauses_push log m));
-    right = learnt_log cs assumed lemmas scan log base m back s k;
+    right = learnt_log cs assumed lemmas watch log base m back s k;
     some_left = few;
   };
   up_to = s.up_to;
   small = s.small;
-  layered = learnt_layered scan k.start to m back s.layered k.learnt le none;
-  based = base_after assumed scan.steps base k.start to le s.based k.own;
+  layered = learnt_layered watch k.start to m back s.layered k.learnt le none;
+  based = base_after assumed watch.steps base k.start to le s.based k.own;
 }
 
 -- the literals of a clause that a trail negates are up to the greatest variable of the trail

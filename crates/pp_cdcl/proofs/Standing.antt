@@ -10,7 +10,7 @@ use Rattle.pp_clause.specs.declared.log.Lemma.{Lemma}
 use Rattle.pp_clause.proofs.Has.{false_not_true}
 use Rattle.pp_trail.specs.declared.step.Step.{Step}
 use Rattle.pp_trail.specs.Trail.{Trail, Extends, lits}
-use Rattle.pp_cdcl.specs.Standing.{IsDecision, IsBase, IsLayered, Standing}
+use Rattle.pp_cdcl.specs.Standing.{IsDecision, NoDecision, IsBase, IsLayered, Standing}
 
 -- steps with reasons are no decisions
 decision_before : (old new : List Step) (e : Extends old new) (place : ℕ) (step : Step) → IsDecision new place step → IsDecision old place step
@@ -74,26 +74,26 @@ decision_cases steps s place step at =
           inl (record { stands = record { within = lt; is = at.stands.is ∙ get_or_append_left steps (s ∷ []) step place lt }; free = at.free }))
     ]
 
-layered_push : (scan : Trail) (s : Step) → IsLayered scan → IsClosed scan.clauses (lits scan.steps) → IsLayered (record scan { steps = scan.steps ++ s ∷ [] })
-layered_push scan s h c = record {
+layered_push : (watch : Trail) (s : Step) → IsLayered watch → IsClosed watch.clauses (lits watch.steps) → IsLayered (record watch { steps = watch.steps ++ s ∷ [] })
+layered_push watch s h c = record {
   closed = λ place step at.
-      elim (decision_cases scan.steps s place step at) [
+      elim (decision_cases watch.steps s place step at) [
         | inl d ↦ (
-            let le : place ≤ length scan.steps = (let w = d.stands.within in omega arith) in
-            rw (take-append-le place scan.steps (s ∷ []) le) (h.closed place step d))
-        | inr p ↦ rw (take_at scan.steps (s ∷ []) place (sym p.0)) c
+            let le : place ≤ length watch.steps = (let w = d.stands.within in omega arith) in
+            rw (take-append-le place watch.steps (s ∷ []) le) (h.closed place step d))
+        | inr p ↦ rw (take_at watch.steps (s ∷ []) place (sym p.0)) c
       ];
 }
 
 -- an assumption is decided
-pub standing_assumed : (cs : List (List Literal)) (assumed : List Literal) (lemmas : ℕ) (scan : Trail) (log : List Lemma) (s : Step) → Standing cs assumed lemmas scan log None → IsClosed scan.clauses (lits scan.steps) → has assumed s.lit ≡ true → Standing cs assumed lemmas (record scan { steps = scan.steps ++ s ∷ [] }) log None
-standing_assumed cs assumed lemmas scan log s h c a = record {
+pub standing_assumed : (cs : List (List Literal)) (assumed : List Literal) (lemmas : ℕ) (watch : Trail) (log : List Lemma) (s : Step) → Standing cs assumed lemmas watch log None → IsClosed watch.clauses (lits watch.steps) → has assumed s.lit ≡ true → Standing cs assumed lemmas (record watch { steps = watch.steps ++ s ∷ [] }) log None
+standing_assumed cs assumed lemmas watch log s h c a = record {
   logged = record { clauses = h.logged.clauses; right = h.logged.right; some_left = h.logged.some_left };
   up_to = h.up_to;
   small = h.small;
-  layered = layered_push scan s h.layered c;
+  layered = layered_push watch s h.layered c;
   based = record {
-    each = λ place step at lt. elim (decision_cases scan.steps s place step at) [
+    each = λ place step at lt. elim (decision_cases watch.steps s place step at) [
       | inl d ↦ h.based.each place step d d.stands.within
       | inr p ↦ subst (λ (z : Step). has assumed z.lit ≡ true) (sym p.1) a
     ];
@@ -101,22 +101,27 @@ standing_assumed cs assumed lemmas scan log s h c a = record {
 }
 
 -- another literal is decided, once all assumptions are true
-pub standing_decided : (cs : List (List Literal)) (assumed : List Literal) (lemmas : ℕ) (scan : Trail) (log : List Lemma) (end : ℕ) (s : Step) → Standing cs assumed lemmas scan log (Some end) → IsClosed scan.clauses (lits scan.steps) → Standing cs assumed lemmas (record scan { steps = scan.steps ++ s ∷ [] }) log (Some end)
-standing_decided cs assumed lemmas scan log end s h c =
+pub standing_decided : (cs : List (List Literal)) (assumed : List Literal) (lemmas : ℕ) (watch : Trail) (log : List Lemma) (end : ℕ) (s : Step) → Standing cs assumed lemmas watch log (Some end) → IsClosed watch.clauses (lits watch.steps) → Standing cs assumed lemmas (record watch { steps = watch.steps ++ s ∷ [] }) log (Some end)
+standing_decided cs assumed lemmas watch log end s h c =
     let w = h.based.within in
     record {
       logged = record { clauses = h.logged.clauses; right = h.logged.right; some_left = h.logged.some_left };
       up_to = h.up_to;
       small = h.small;
-      layered = layered_push scan s h.layered c;
+      layered = layered_push watch s h.layered c;
       based = record {
-        within = (let k = length_push scan.steps s in omega arith);
+        within = (let k = length_push watch.steps s in omega arith);
         decisions = record {
-          each = λ place step at lt. elim (decision_cases scan.steps s place step at) [
+          each = λ place step at lt. elim (decision_cases watch.steps s place step at) [
             | inl d ↦ h.based.decisions.each place step d lt
             | inr p ↦ absurd (let e = p.0 in omega arith)
           ];
         };
-        held = subst (λ (z : List Step). All (λ a. has (lits z) a ≡ true) assumed) (sym (take-append-le end scan.steps (s ∷ []) w)) h.based.held;
+        held = subst (λ (z : List Step). All (λ a. has (lits z) a ≡ true) assumed) (sym (take-append-le end watch.steps (s ∷ []) w)) h.based.held;
       };
     }
+
+-- no decision stands before an earlier place either
+pub no_decision_before : (steps : List Step) (back to earlier : ℕ) → NoDecision steps back to → earlier ≤ to →
+    NoDecision steps back earlier
+no_decision_before steps back to earlier h le = record { none = λ place s d ge lt. h.none place s d ge (omega arith) }

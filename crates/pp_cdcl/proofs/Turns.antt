@@ -35,9 +35,9 @@ use Rattle.pp_cdcl.proofs.Reading.{clauses_true, assumptions_true, first_true, s
 use Rattle.pp_cdcl.proofs.Standing.{standing_assumed, standing_decided}
 
 -- the lemma that refutes
-pub refutes : (cs : List (List Literal)) (assumed : List Literal) (lemmas : ℕ) (scan : Trail) (log new : List Lemma) (m : Lemma) → Logged cs assumed lemmas scan log → AreAssumed assumed scan.steps (length scan.steps) → Derives scan.clauses m.chain m.clause → all_negated (decisions scan.steps) m.clause ≡ true → new ≡ log ++ m ∷ [] → RefutesWithin cs assumed lemmas new
-refutes cs assumed lemmas scan log new m h a d n e =
-    rw e (log_refutes cs assumed lemmas log m h.right h.some_left (subst (λ (z : List (List Literal)). Derives z m.chain m.clause) h.clauses d) (all_assumed assumed scan.steps m.clause a n))
+pub refutes : (cs : List (List Literal)) (assumed : List Literal) (lemmas : ℕ) (watch : Trail) (log new : List Lemma) (m : Lemma) → Logged cs assumed lemmas watch log → AreAssumed assumed watch.steps (length watch.steps) → Derives watch.clauses m.chain m.clause → all_negated (decisions watch.steps) m.clause ≡ true → new ≡ log ++ m ∷ [] → RefutesWithin cs assumed lemmas new
+refutes cs assumed lemmas watch log new m h a d n e =
+    rw e (log_refutes cs assumed lemmas log m h.right h.some_left (subst (λ (z : List (List Literal)). Derives z m.chain m.clause) h.clauses d) (all_assumed assumed watch.steps m.clause a n))
 
 -- an assumption that is false
 stands_there : (steps : List Step) (place : ℕ) (s : Step) → StandsAt steps place s → has (lits steps) s.lit ≡ true
@@ -113,8 +113,8 @@ false_decided cs vars steps place n l t h =
     }
 
 -- the solver goes on
-pub goes_on : (cs : List (List Literal)) (assumed : List Literal) (lemmas before : ℕ) (next : Search) (scan : Trail) (log : List Lemma) (base : Option ℕ) → next.scan ≡ scan → next.log ≡ log → next.base ≡ base → Standing cs assumed lemmas scan log base → left lemmas scan log < before → GoesOn cs assumed lemmas before next
-goes_on cs assumed lemmas before next scan log base e f g s h = record {
+pub goes_on : (cs : List (List Literal)) (assumed : List Literal) (lemmas before : ℕ) (next : Search) (watch : Trail) (log : List Lemma) (base : Option ℕ) → next.watch ≡ watch → next.log ≡ log → next.base ≡ base → Standing cs assumed lemmas watch log base → left lemmas watch log < before → GoesOn cs assumed lemmas before next
+goes_on cs assumed lemmas before next watch log base e f g s h = record {
   standing = rw (e, f, g) s;
   nearer = rw (e, f) h;
 }
@@ -122,45 +122,45 @@ goes_on cs assumed lemmas before next scan log base e f g s h = record {
 more_steps : (a v x y : ℕ) → x < y → a * (v + 1) + x < a * (v + 1) + y
 more_steps a v x y lt = omega arith
 
-left_decided : (lemmas : ℕ) (scan : Trail) (log : List Lemma) (s : Step) → length scan.steps < scan.vars → left lemmas (record scan { steps = scan.steps ++ s ∷ [] }) log < left lemmas scan log
-left_decided lemmas scan log s lt =
-    let k : length (scan.steps ++ s ∷ []) ≡ length scan.steps + 1 = length_push scan.steps s in
-    more_steps (lemmas - length log) scan.vars (scan.vars - length (scan.steps ++ s ∷ [])) (scan.vars - length scan.steps) (omega arith)
+left_decided : (lemmas : ℕ) (watch : Trail) (log : List Lemma) (s : Step) → length watch.steps < watch.vars → left lemmas (record watch { steps = watch.steps ++ s ∷ [] }) log < left lemmas watch log
+left_decided lemmas watch log s lt =
+    let k : length (watch.steps ++ s ∷ []) ≡ length watch.steps + 1 = length_push watch.steps s in
+    more_steps (lemmas - length log) watch.vars (watch.vars - length (watch.steps ++ s ∷ [])) (watch.vars - length watch.steps) (omega arith)
 
-pub goes_decided : (cs : List (List Literal)) (assumed : List Literal) (lemmas : ℕ) (scan : Trail) (log : List Lemma) (base : Option ℕ) (s : Step) (next : Search) → Standing cs assumed lemmas scan log base → IsSome base → IsClosed scan.clauses (lits scan.steps) → length scan.steps < scan.vars → next.scan ≡ record scan { steps = scan.steps ++ s ∷ [] } → next.log ≡ log → next.base ≡ base → GoesOn cs assumed lemmas (left lemmas scan log) next
-goes_decided cs assumed lemmas scan log None s next h some c room e f g = absurd (false_not_true some)
-goes_decided cs assumed lemmas scan log (Some end) s next h some c room e f g =
-    goes_on cs assumed lemmas (left lemmas scan log) next (record scan { steps = scan.steps ++ s ∷ [] }) log (Some end) e f g (standing_decided cs assumed lemmas scan log end s h c) (left_decided lemmas scan log s room)
+pub goes_decided : (cs : List (List Literal)) (assumed : List Literal) (lemmas : ℕ) (watch : Trail) (log : List Lemma) (base : Option ℕ) (s : Step) (next : Search) → Standing cs assumed lemmas watch log base → IsSome base → IsClosed watch.clauses (lits watch.steps) → length watch.steps < watch.vars → next.watch ≡ record watch { steps = watch.steps ++ s ∷ [] } → next.log ≡ log → next.base ≡ base → GoesOn cs assumed lemmas (left lemmas watch log) next
+goes_decided cs assumed lemmas watch log None s next h some c room e f g = absurd (false_not_true some)
+goes_decided cs assumed lemmas watch log (Some end) s next h some c room e f g =
+    goes_on cs assumed lemmas (left lemmas watch log) next (record watch { steps = watch.steps ++ s ∷ [] }) log (Some end) e f g (standing_decided cs assumed lemmas watch log end s h c) (left_decided lemmas watch log s room)
 
-pub goes_assumed : (cs : List (List Literal)) (assumed : List Literal) (lemmas : ℕ) (scan : Trail) (log : List Lemma) (base : Option ℕ) (s : Step) (next : Search) → Standing cs assumed lemmas scan log base → base ≡ None → IsClosed scan.clauses (lits scan.steps) → has assumed s.lit ≡ true → length scan.steps < scan.vars → next.scan ≡ record scan { steps = scan.steps ++ s ∷ [] } → next.log ≡ log → next.base ≡ base → GoesOn cs assumed lemmas (left lemmas scan log) next
-goes_assumed cs assumed lemmas scan log base s next h none c a room e f g =
-    goes_on cs assumed lemmas (left lemmas scan log) next (record scan { steps = scan.steps ++ s ∷ [] }) log None e f (g ∙ none)
-    (standing_assumed cs assumed lemmas scan log s (subst (λ (z : Option ℕ). Standing cs assumed lemmas scan log z) none h) c a) (left_decided lemmas scan log s room)
+pub goes_assumed : (cs : List (List Literal)) (assumed : List Literal) (lemmas : ℕ) (watch : Trail) (log : List Lemma) (base : Option ℕ) (s : Step) (next : Search) → Standing cs assumed lemmas watch log base → base ≡ None → IsClosed watch.clauses (lits watch.steps) → has assumed s.lit ≡ true → length watch.steps < watch.vars → next.watch ≡ record watch { steps = watch.steps ++ s ∷ [] } → next.log ≡ log → next.base ≡ base → GoesOn cs assumed lemmas (left lemmas watch log) next
+goes_assumed cs assumed lemmas watch log base s next h none c a room e f g =
+    goes_on cs assumed lemmas (left lemmas watch log) next (record watch { steps = watch.steps ++ s ∷ [] }) log None e f (g ∙ none)
+    (standing_assumed cs assumed lemmas watch log s (subst (λ (z : Option ℕ). Standing cs assumed lemmas watch log z) none h) c a) (left_decided lemmas watch log s room)
 
 fewer_lemmas : (a v x y : ℕ) → x ≤ v → a * (v + 1) + x < (a + 1) * (v + 1) + y
 fewer_lemmas a v x y le = omega arith
 
-pub goes_learnt : (cs : List (List Literal)) (assumed : List Literal) (lemmas : ℕ) (scan : Trail) (log : List Lemma) (base : Option ℕ) (m : Lemma) (back to : ℕ) (next : Search) →
-    Standing cs assumed lemmas scan log base → IsOwnLemma scan base m back → (length (log ++ m ∷ []) ≡ lemmas → ⊥) → to ≤ length scan.steps → NoDecision scan.steps back to →
-    next.scan ≡ record { clauses = scan.clauses ++ m.clause ∷ []; steps = take to scan.steps; vars = scan.vars } → next.log ≡ log ++ m ∷ [] → next.base ≡ cut_base base to → GoesOn cs assumed lemmas (left lemmas scan log) next
-goes_learnt cs assumed lemmas scan log base m back to next s k ne le none e f g =
+pub goes_learnt : (cs : List (List Literal)) (assumed : List Literal) (lemmas : ℕ) (watch : Trail) (log : List Lemma) (base : Option ℕ) (m : Lemma) (back to : ℕ) (next : Search) →
+    Standing cs assumed lemmas watch log base → IsOwnLemma watch base m back → (length (log ++ m ∷ []) ≡ lemmas → ⊥) → to ≤ length watch.steps → NoDecision watch.steps back to →
+    next.watch ≡ record { clauses = watch.clauses ++ m.clause ∷ []; steps = take to watch.steps; vars = watch.vars } → next.log ≡ log ++ m ∷ [] → next.base ≡ cut_base base to → GoesOn cs assumed lemmas (left lemmas watch log) next
+goes_learnt cs assumed lemmas watch log base m back to next s k ne le none e f g =
     let len : length (log ++ m ∷ []) ≡ length log + 1 = length_push log m in
     let some = s.logged.some_left in
     let few : length (log ++ m ∷ []) < lemmas = omega arith in
     let one : lemmas - length log ≡ (lemmas - length (log ++ m ∷ [])) + 1 = omega arith in
-    goes_on cs assumed lemmas (left lemmas scan log) next (record { clauses = scan.clauses ++ m.clause ∷ []; steps = take to scan.steps; vars = scan.vars }) (log ++ m ∷ []) (cut_base base to) e f g
-    (standing_learnt cs assumed lemmas scan log base to m back s k few le none)
-    (subst (λ (z : ℕ). (lemmas - length (log ++ m ∷ [])) * (scan.vars + 1) + (scan.vars - length (take to scan.steps)) < z * (scan.vars + 1) + (scan.vars - length scan.steps)) (sym one)
-    (fewer_lemmas (lemmas - length (log ++ m ∷ [])) scan.vars (scan.vars - length (take to scan.steps)) (scan.vars - length scan.steps) (omega arith)))
+    goes_on cs assumed lemmas (left lemmas watch log) next (record { clauses = watch.clauses ++ m.clause ∷ []; steps = take to watch.steps; vars = watch.vars }) (log ++ m ∷ []) (cut_base base to) e f g
+    (standing_learnt cs assumed lemmas watch log base to m back s k few le none)
+    (subst (λ (z : ℕ). (lemmas - length (log ++ m ∷ [])) * (watch.vars + 1) + (watch.vars - length (take to watch.steps)) < z * (watch.vars + 1) + (watch.vars - length watch.steps)) (sym one)
+    (fewer_lemmas (lemmas - length (log ++ m ∷ [])) watch.vars (watch.vars - length (take to watch.steps)) (watch.vars - length watch.steps) (omega arith)))
 
 -- the trail is cut, and then the clause is added
 pub cut_and_added : (old cut new : Trail) (to : ℕ) (c d : List Literal) → cut ≡ record old { steps = take to old.steps } → new ≡ record cut { clauses = cut.clauses ++ d ∷ [] } → d ≡ c → new ≡ record { clauses = old.clauses ++ c ∷ []; steps = take to old.steps; vars = old.vars }
 cut_and_added old cut new to c d e f g =
     f ∙ ap (λ (t : Trail). record t { clauses = t.clauses ++ d ∷ [] }) e ∙ ap (λ (z : List Literal). record old { clauses = old.clauses ++ z ∷ []; steps = take to old.steps }) g
 
-pub spends_all : (cs : List (List Literal)) (assumed : List Literal) (lemmas : ℕ) (scan : Trail) (log : List Lemma) (base : Option ℕ) (m : Lemma) (back : ℕ) (new : List Lemma) → Standing cs assumed lemmas scan log base → IsOwnLemma scan base m back → new ≡ log ++ m ∷ [] → length new ≡ lemmas → All IsLemma new → SpendsAll cs assumed lemmas new
-spends_all cs assumed lemmas scan log base m back new s k e len h = record {
-  spent = log_spent cs assumed lemmas new (rw e (learnt_log cs assumed lemmas scan log base m back s k)) len;
+pub spends_all : (cs : List (List Literal)) (assumed : List Literal) (lemmas : ℕ) (watch : Trail) (log : List Lemma) (base : Option ℕ) (m : Lemma) (back : ℕ) (new : List Lemma) → Standing cs assumed lemmas watch log base → IsOwnLemma watch base m back → new ≡ log ++ m ∷ [] → length new ≡ lemmas → All IsLemma new → SpendsAll cs assumed lemmas new
+spends_all cs assumed lemmas watch log base m back new s k e len h = record {
+  spent = log_spent cs assumed lemmas new (rw e (learnt_log cs assumed lemmas watch log base m back s k)) len;
   lemmas = h;
 }
 
@@ -169,11 +169,11 @@ held_whole : (assumed : List Literal) (steps : List Step) (base : Option ℕ) �
 held_whole assumed steps None b some = absurd (false_not_true some)
 held_whole assumed steps (Some end) b some = All-weaker (λ a. has (lits (take end steps)) a ≡ true) (λ a. has (lits steps) a ≡ true) (λ a h. has_whole steps end a b.within h) assumed b.held
 
-pub satisfies : (cs : List (List Literal)) (assumed : List Literal) (lemmas : ℕ) (scan : Trail) (log : List Lemma) (base : Option ℕ) (values : List Bool) → Standing cs assumed lemmas scan log base → IsSome base → IsClosed scan.clauses (lits scan.steps) → IsFull scan.vars scan.steps → Reads values (lits scan.steps) → All IsClause scan.clauses → All (IsUpTo scan.vars) scan.clauses → Satisfies cs assumed values
-satisfies cs assumed lemmas scan log base values s some c full r order up = record {
+pub satisfies : (cs : List (List Literal)) (assumed : List Literal) (lemmas : ℕ) (watch : Trail) (log : List Lemma) (base : Option ℕ) (values : List Bool) → Standing cs assumed lemmas watch log base → IsSome base → IsClosed watch.clauses (lits watch.steps) → IsFull watch.vars watch.steps → Reads values (lits watch.steps) → All IsClause watch.clauses → All (IsUpTo watch.vars) watch.clauses → Satisfies cs assumed values
+satisfies cs assumed lemmas watch log base values s some c full r order up = record {
   clauses = first_true (assigned values) cs (lemma_clauses log)
-      (subst (λ (z : List (List Literal)). clauses_value (assigned values) z ≡ true) s.logged.clauses (clauses_true scan.vars scan.steps values scan.clauses full r order up c.none_false));
-  assumptions = assumptions_true values (lits scan.steps) assumed r (held_whole assumed scan.steps base s.based some);
+      (subst (λ (z : List (List Literal)). clauses_value (assigned values) z ≡ true) s.logged.clauses (clauses_true watch.vars watch.steps values watch.clauses full r order up c.none_false));
+  assumptions = assumptions_true values (lits watch.steps) assumed r (held_whole assumed watch.steps base s.based some);
 }
 
 -- what learning at the last decision needs

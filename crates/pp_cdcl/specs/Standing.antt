@@ -39,8 +39,8 @@ IsBase assumed steps None = AreAssumed assumed steps (length steps)
 IsBase assumed steps (Some end) = HoldsAll assumed steps end
 
 -- before each decision the trail was closed for all the clauses that are there now
-pub record IsLayered (scan : Trail) : Type 0 where
-  pub closed : (place : ℕ) (step : Step) → IsDecision scan.steps place step → IsClosed scan.clauses (lits (take place scan.steps))
+pub record IsLayered (watch : Trail) : Type 0 where
+  pub closed : (place : ℕ) (step : Step) → IsDecision watch.steps place step → IsClosed watch.clauses (lits (take place watch.steps))
 
 -- the lemmas are derived, each is new over all clauses before it, and none has only negated assumptions
 pub record IsLog (cs : List (List Literal)) (assumed : List Literal) (log : List Lemma) : Type 0 where
@@ -48,20 +48,20 @@ pub record IsLog (cs : List (List Literal)) (assumed : List Literal) (log : List
   pub new : AllNew cs (lemma_clauses log)
   pub none_refutes : All (λ m. all_negated assumed m.clause ≡ false) log
 
--- the clauses of the scan are the given ones and then those of the lemmas, and some lemmas are left
-pub record Logged (cs : List (List Literal)) (assumed : List Literal) (lemmas : ℕ) (scan : Trail) (log : List Lemma) : Type 0 where
-  pub clauses : scan.clauses ≡ cs ++ lemma_clauses log
+-- the clauses of the watch are the given ones and then those of the lemmas, and some lemmas are left
+pub record Logged (cs : List (List Literal)) (assumed : List Literal) (lemmas : ℕ) (watch : Trail) (log : List Lemma) : Type 0 where
+  pub clauses : watch.clauses ≡ cs ++ lemma_clauses log
   pub right : IsLog cs assumed log
   pub some_left : length log < lemmas
 
 -- the state of a solver over these clauses and assumptions
-pub record Standing (cs : List (List Literal)) (assumed : List Literal) (lemmas : ℕ) (scan : Trail) (log : List Lemma) (base : Option ℕ) : Type 0 where
-  pub logged : Logged cs assumed lemmas scan log
-  pub up_to : IsUpTo scan.vars assumed
-  pub small : scan.vars ≤ 2 ^ 30
-  pub layered : IsLayered scan
-  pub based : IsBase assumed scan.steps base
+pub record Standing (cs : List (List Literal)) (assumed : List Literal) (lemmas : ℕ) (watch : Trail) (log : List Lemma) (base : Option ℕ) : Type 0 where
+  pub logged : Logged cs assumed lemmas watch log
+  pub up_to : IsUpTo watch.vars assumed
+  pub small : watch.vars ≤ 2 ^ 30
+  pub layered : IsLayered watch
+  pub based : IsBase assumed watch.steps base
 
 -- how many conflicts and decisions there can still be
 abbrev pub left : ℕ → Trail → List Lemma → ℕ
-left lemmas scan log = (lemmas - length log) * (scan.vars + 1) + (scan.vars - length scan.steps)
+left lemmas watch log = (lemmas - length log) * (watch.vars + 1) + (watch.vars - length watch.steps)

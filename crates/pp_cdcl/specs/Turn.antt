@@ -29,8 +29,8 @@ IsRight cs assumed lemmas (Spent log) = SpendsAll cs assumed lemmas log
 
 -- the solver goes on, and is nearer to its end
 pub record GoesOn (cs : List (List Literal)) (assumed : List Literal) (lemmas before : ℕ) (next : Search) : Type 0 where
-  pub standing : Standing cs assumed lemmas next.scan next.log next.base
-  pub nearer : left lemmas next.scan next.log < before
+  pub standing : Standing cs assumed lemmas next.watch next.log next.base
+  pub nearer : left lemmas next.watch next.log < before
 
 -- what a turn of the solver answers
 abbrev pub IsTurn : List (List Literal) → List Literal → ℕ → ℕ → Turn → Type 0
@@ -46,22 +46,22 @@ pub record IsOwn (steps : List Step) (base : Option ℕ) (start : ℕ) : Type 0 
 
 -- what is known of a lemma that is learnt at the decision at place `start`: it has a literal that was open before that,
 -- and its others were false at length `back`, and not before
-pub record IsLearnt (scan : Trail) (start : ℕ) (m : Lemma) (back : ℕ) : Type 0 where
+pub record IsLearnt (watch : Trail) (start : ℕ) (m : Lemma) (back : ℕ) : Type 0 where
   pub literal : Literal
   pub held : has m.clause literal ≡ true
-  pub is_open : IsOpen (lits (take start scan.steps)) literal
-  pub others : OthersNegated (lits (take back scan.steps)) m.clause literal
-  pub least : (n : ℕ) → OthersNegated (lits (take n scan.steps)) m.clause literal → back ≤ n
+  pub is_open : IsOpen (lits (take start watch.steps)) literal
+  pub others : OthersNegated (lits (take back watch.steps)) m.clause literal
+  pub least : (n : ℕ) → OthersNegated (lits (take n watch.steps)) m.clause literal → back ≤ n
   pub within : back ≤ start
-  pub negated : all_negated (lits scan.steps) m.clause ≡ true
-  pub derives : Derives scan.clauses m.chain m.clause
-  pub new : IsClosed scan.clauses (lits (take start scan.steps)) → IsNew scan.clauses m.clause
+  pub negated : all_negated (lits watch.steps) m.clause ≡ true
+  pub derives : Derives watch.clauses m.chain m.clause
+  pub new : IsClosed watch.clauses (lits (take start watch.steps)) → IsNew watch.clauses m.clause
 
 -- a lemma that is learnt at the last decision, which is no assumption
-pub record IsOwnLemma (scan : Trail) (base : Option ℕ) (m : Lemma) (back : ℕ) : Type 0 where
+pub record IsOwnLemma (watch : Trail) (base : Option ℕ) (m : Lemma) (back : ℕ) : Type 0 where
   pub start : ℕ
-  pub own : IsOwn scan.steps base start
-  pub learnt : IsLearnt scan start m back
+  pub own : IsOwn watch.steps base start
+  pub learnt : IsLearnt watch start m back
 
 -- the base after the trail is cut to this length
 abbrev pub cut_base : Option ℕ → ℕ → Option ℕ

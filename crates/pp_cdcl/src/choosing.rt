@@ -8,16 +8,16 @@ ghost use Rattle.pp_cdcl.specs.Turn.{IsMissing};
 use crate::NoMemory;
 use crate::order::Order;
 use pp_clause::{Assignment, Lit};
-use pp_trail::Scan;
+use pp_watch::Watch;
 use std::alloc::Global;
 
 /// The first assumption that isn't true.
-pub fn missing(scan: &Scan, assumptions: &[Lit]) -> Option<Lit>
-    ensures some { IfSome result (IsMissing assumptions.now (lits scan.now.steps)) }
-    ensures none { IfNone result (All (λ a. has (lits scan.now.steps) a ≡ true) assumptions.now) }
+pub fn missing(watch: &Watch, assumptions: &[Lit]) -> Option<Lit>
+    ensures some { IfSome result (IsMissing assumptions.now (lits watch.now.steps)) }
+    ensures none { IfNone result (All (λ a. has (lits watch.now.steps) a ≡ true) assumptions.now) }
 {
     for lit in assumptions {
-        match scan.value(*lit) {
+        match watch.value(*lit) {
             Some(true) => {}
             _ => return Some(*lit),
         }
@@ -26,43 +26,43 @@ pub fn missing(scan: &Scan, assumptions: &[Lit]) -> Option<Lit>
 }
 
 /// A literal whose variable isn't in the trail: the first in order that is such, and else any.
-pub fn free_literal(scan: &Scan, order: &mut Order) -> Option<Lit>
-    requires { scan.now.vars ≤ 2 ^ 30 }
-    ensures some { IfSome result (IsFree scan.now.vars scan.now.steps) }
-    ensures none { IfNone result (IsFull scan.now.vars scan.now.steps) }
+pub fn free_literal(watch: &Watch, order: &mut Order) -> Option<Lit>
+    requires { watch.now.vars ≤ 2 ^ 30 }
+    ensures some { IfSome result (IsFree watch.now.vars watch.now.steps) }
+    ensures none { IfNone result (IsFull watch.now.vars watch.now.steps) }
 {
     for _ in 0..order.len() {
         if let Some(lit) = order.pop() {
-            if is_free(scan, lit) {
+            if is_free(watch, lit) {
                 return Some(lit);
             }
         }
     }
-    any_free(scan)
+    any_free(watch)
 }
 
 /// Whether the literal's variable may be decided.
-fn is_free(scan: &Scan, lit: Lit) -> bool
-    ensures { IsTrue result → IsFree scan.now.vars scan.now.steps lit }
+fn is_free(watch: &Watch, lit: Lit) -> bool
+    ensures { IsTrue result → IsFree watch.now.vars watch.now.steps lit }
 {
-    if lit.var() > scan.vars() {
+    if lit.var() > watch.vars() {
         return false;
     }
-    match scan.place(lit.var()) {
+    match watch.place(lit.var()) {
         Some(_) => false,
         None => true,
     }
 }
 
 /// A literal of the first variable that isn't in the trail.
-fn any_free(scan: &Scan) -> Option<Lit>
-    requires { scan.now.vars ≤ 2 ^ 30 }
-    ensures some { IfSome result (IsFree scan.now.vars scan.now.steps) }
-    ensures none { IfNone result (IsFull scan.now.vars scan.now.steps) }
+fn any_free(watch: &Watch) -> Option<Lit>
+    requires { watch.now.vars ≤ 2 ^ 30 }
+    ensures some { IfSome result (IsFree watch.now.vars watch.now.steps) }
+    ensures none { IfNone result (IsFull watch.now.vars watch.now.steps) }
 {
-    for before in 0..scan.vars() {
+    for before in 0..watch.vars() {
         let var = before + 1;
-        if let None = scan.place(var) {
+        if let None = watch.place(var) {
             return Some(Lit::new(var, false));
         }
     }
@@ -70,11 +70,11 @@ fn any_free(scan: &Scan) -> Option<Lit>
 }
 
 /// The assignment that makes the literals of the trail true, and other variables false.
-pub fn assignment(alloc: Global, scan: &Scan) -> Result<Assignment, NoMemory>
-    ensures { IfOk result (λ a. Reads a (lits scan.now.steps)) }
+pub fn assignment(alloc: Global, watch: &Watch) -> Result<Assignment, NoMemory>
+    ensures { IfOk result (λ a. Reads a (lits watch.now.steps)) }
 {
-    let mut values = vec![in alloc; false; scan.vars() as usize]?;
-    for step in scan.trail() {
+    let mut values = vec![in alloc; false; watch.vars() as usize]?;
+    for step in watch.trail() {
         values[step.lit.var() as usize - 1] = step.lit.is_positive();
     }
     Assignment::of(alloc, &values)

@@ -2,7 +2,7 @@
 use crate::answer::Answer;
 use crate::order::Order;
 use pp_clause::{Clauses, Lit, Log};
-use pp_trail::Scan;
+use pp_watch::Watch;
 
 /// What is to be solved.
 #[derive(Clone, Copy)]
@@ -19,7 +19,7 @@ pub struct Problem<'a> {
 #[derive(Drop)]
 pub struct Search {
     /// The given clauses and then those of the lemmas, and the trail.
-    pub scan: Scan,
+    pub watch: Watch,
     /// The lemmas so far.
     pub log: Log,
     /// The length of the trail at which all assumptions were true, if that is so. Before that only assumptions are

@@ -11,24 +11,25 @@ ghost use Rattle.pp_cdcl.specs.Turn.{IsTurn, IsOwn, IsOwnLemma, IsMissing, IsRea
 use crate::NoMemory;
 use crate::answer::Answer;
 use crate::choosing::{assignment, free_literal, missing};
-use crate::decisions::{last_decision, next_decision};
+use crate::decisions::{backjump, last_decision};
 use crate::order::Order;
 use crate::search::{Problem, Search, Turn};
 use pp_clause::{Lemma, Lit, Log};
 use pp_learn::{learn, refute};
-use pp_trail::{Scan, Step, greatest_var, raised};
+use pp_trail::{Step, greatest_var, raised};
+use pp_watch::Watch;
 use std::alloc::Global;
 
 /// A solver that has done nothing yet.
 pub fn start(alloc: Global, problem: Problem<'_>) -> Result<Search, NoMemory>
     requires { 1 ≤ problem.lemmas }
-    ensures { IfOk result (λ s. Standing problem.entry.clauses.now problem.entry.assumptions.now problem.entry.lemmas s.scan s.log s.base) }
+    ensures { IfOk result (λ s. Standing problem.entry.clauses.now problem.entry.assumptions.now problem.entry.lemmas s.watch s.log s.base) }
 {
     let vars = raised(greatest_var(problem.clauses), problem.assumptions);
-    let scan = Scan::over(alloc, problem.clauses, vars)?;
+    let watch = Watch::over(alloc, problem.clauses, vars)?;
     let order = Order::new(alloc, vars)?;
     Ok(Search {
-        scan,
+        watch,
         log: Log::new(alloc),
         base: None,
         order,
@@ -39,18 +40,18 @@ pub fn start(alloc: Global, problem: Problem<'_>) -> Result<Search, NoMemory>
 pub fn turn(alloc: Global, problem: Problem<'_>, search: Search) -> Result<Turn, NoMemory>
     requires apart { ¬ HasBoth problem.assumptions.now }
     requires fit { length problem.clauses.now + problem.lemmas < 2 ^ 32 }
-    requires standing { Standing problem.clauses.now problem.assumptions.now problem.lemmas search.scan search.log search.base }
-    ensures { IfOk result (IsTurn problem.entry.clauses.now problem.entry.assumptions.now problem.entry.lemmas (left problem.entry.lemmas search.scan search.log)) }
+    requires standing { Standing problem.clauses.now problem.assumptions.now problem.lemmas search.watch search.log search.base }
+    ensures { IfOk result (IsTurn problem.entry.clauses.now problem.entry.assumptions.now problem.entry.lemmas (left problem.entry.lemmas search.watch search.log)) }
 {
     let Search {
-        scan,
+        watch,
         log,
         base,
         order,
     } = search;
-    let (scan, conflict) = scan.propagate()?;
+    let (watch, conflict) = watch.propagate()?;
     let search = Search {
-        scan,
+        watch,
         log,
         base,
         order,
@@ -69,20 +70,20 @@ fn after_conflict(
     number: u32,
 ) -> Result<Turn, NoMemory>
     requires fit { length problem.clauses.now + problem.lemmas < 2 ^ 32 }
-    requires standing { Standing problem.clauses.now problem.assumptions.now problem.lemmas search.scan search.log search.base }
-    requires conflict { IsFalse search.scan.clauses (lits search.scan.steps) number }
-    ensures { IfOk result (IsTurn problem.entry.clauses.now problem.entry.assumptions.now problem.entry.lemmas (left problem.entry.lemmas search.scan search.log)) }
+    requires standing { Standing problem.clauses.now problem.assumptions.now problem.lemmas search.watch search.log search.base }
+    requires conflict { IsFalse search.watch.clauses (lits search.watch.steps) number }
+    ensures { IfOk result (IsTurn problem.entry.clauses.now problem.entry.assumptions.now problem.entry.lemmas (left problem.entry.lemmas search.watch search.log)) }
 {
     match own_decision(problem, &search) {
         Some(start) => after_decision(alloc, problem, search, number, start),
         None => {
             let Search {
-                scan,
+                watch,
                 log,
                 base: _,
                 order: _,
             } = search;
-            let log = refuting(alloc, problem, &scan, log, number)?;
+            let log = refuting(alloc, problem, &watch, log, number)?;
             Ok(Turn::Done(Answer::Unsat(log)))
         }
     }
@@ -90,12 +91,12 @@ fn after_conflict(
 
 /// The place of the last decision, where all assumptions were true before it.
 fn own_decision(problem: Problem<'_>, search: &Search) -> Option<usize>
-    requires { Standing problem.clauses.now problem.assumptions.now problem.lemmas search.now.scan search.now.log search.now.base }
-    ensures some { IfSome result (IsOwn search.now.scan.steps search.now.base) }
-    ensures none { IfNone result (AreAssumed problem.entry.assumptions.now search.now.scan.steps (length search.now.scan.steps)) }
+    requires { Standing problem.clauses.now problem.assumptions.now problem.lemmas search.now.watch search.now.log search.now.base }
+    ensures some { IfSome result (IsOwn search.now.watch.steps search.now.base) }
+    ensures none { IfNone result (AreAssumed problem.entry.assumptions.now search.now.watch.steps (length search.now.watch.steps)) }
 {
     let base = search.base?;
-    let start = last_decision(search.scan.trail())?;
+    let start = last_decision(search.watch.trail())?;
     if base <= start { Some(start) } else { None }
 }
 
@@ -103,16 +104,16 @@ fn own_decision(problem: Problem<'_>, search: &Search) -> Option<usize>
 fn refuting(
     alloc: Global,
     problem: Problem<'_>,
-    scan: &Scan,
+    watch: &Watch,
     log: Log,
     number: u32,
 ) -> Result<Log, NoMemory>
-    requires logged { Logged problem.clauses.now problem.assumptions.now problem.lemmas scan.now log }
-    requires assumed { AreAssumed problem.assumptions.now scan.now.steps (length scan.now.steps) }
-    requires conflict { IsFalse scan.now.clauses (lits scan.now.steps) number }
+    requires logged { Logged problem.clauses.now problem.assumptions.now problem.lemmas watch.now log }
+    requires assumed { AreAssumed problem.assumptions.now watch.now.steps (length watch.now.steps) }
+    requires conflict { IsFalse watch.now.clauses (lits watch.now.steps) number }
     ensures { IfOk result (RefutesWithin problem.entry.clauses.now problem.entry.assumptions.now problem.entry.lemmas) }
 {
-    let last = refute(alloc, scan, number)?;
+    let last = refute(alloc, watch.scan(), number)?;
     let mut log = log;
     log.push(last)?;
     Ok(log)
@@ -127,22 +128,22 @@ fn after_decision(
     start: usize,
 ) -> Result<Turn, NoMemory>
     requires fit { length problem.clauses.now + problem.lemmas < 2 ^ 32 }
-    requires standing { Standing problem.clauses.now problem.assumptions.now problem.lemmas search.scan search.log search.base }
-    requires conflict { IsFalse search.scan.clauses (lits search.scan.steps) number }
-    requires own { IsOwn search.scan.steps search.base start }
-    ensures { IfOk result (IsTurn problem.entry.clauses.now problem.entry.assumptions.now problem.entry.lemmas (left problem.entry.lemmas search.scan search.log)) }
+    requires standing { Standing problem.clauses.now problem.assumptions.now problem.lemmas search.watch search.log search.base }
+    requires conflict { IsFalse search.watch.clauses (lits search.watch.steps) number }
+    requires own { IsOwn search.watch.steps search.base start }
+    ensures { IfOk result (IsTurn problem.entry.clauses.now problem.entry.assumptions.now problem.entry.lemmas (left problem.entry.lemmas search.watch search.log)) }
 {
     let Search {
-        scan,
+        watch,
         log,
         base,
         mut order,
     } = search;
-    let _steps = scan.trail().len();
-    let learnt = learn(alloc, &scan, number, start as u32)?;
+    let _steps = watch.trail().len();
+    let learnt = learn(alloc, watch.scan(), number, start as u32)?;
     order.meet(&learnt.met);
     let search = Search {
-        scan,
+        watch,
         log,
         base,
         order,
@@ -159,12 +160,12 @@ fn keep(
     back: usize,
 ) -> Result<Turn, NoMemory>
     requires fit { length problem.clauses.now + problem.lemmas < 2 ^ 32 }
-    requires standing { Standing problem.clauses.now problem.assumptions.now problem.lemmas search.scan search.log search.base }
-    requires lemma { IsOwnLemma search.scan search.base lemma back }
-    ensures { IfOk result (IsTurn problem.entry.clauses.now problem.entry.assumptions.now problem.entry.lemmas (left problem.entry.lemmas search.scan search.log)) }
+    requires standing { Standing problem.clauses.now problem.assumptions.now problem.lemmas search.watch search.log search.base }
+    requires lemma { IsOwnLemma search.watch search.base lemma back }
+    ensures { IfOk result (IsTurn problem.entry.clauses.now problem.entry.assumptions.now problem.entry.lemmas (left problem.entry.lemmas search.watch search.log)) }
 {
     let Search {
-        scan,
+        watch,
         mut log,
         base,
         order,
@@ -174,24 +175,24 @@ fn keep(
     if log.as_slice().len() as u64 == problem.lemmas {
         return Ok(Turn::Done(Answer::Spent(log)));
     }
-    let to = next_decision(scan.trail(), back);
+    let to = backjump(watch.trail(), base, back, log.as_slice().len());
     let Search {
-        scan,
+        watch,
         log,
         base,
         order,
     } = cut(
         Search {
-            scan,
+            watch,
             log,
             base,
             order,
         },
         to,
     )?;
-    let (scan, _) = scan.add(clause)?;
+    let (watch, _) = watch.add(clause)?;
     Ok(Turn::Next(Search {
-        scan,
+        watch,
         log,
         base,
         order,
@@ -200,25 +201,25 @@ fn keep(
 
 /// Keeps the first `to` steps of the trail.
 fn cut(search: Search, to: usize) -> Result<Search, NoMemory>
-    requires { to ≤ length search.scan.steps }
-    ensures scan { IfOk result (λ s. s.scan ≡ record search.scan { steps = take to search.scan.steps }) }
+    requires { to ≤ length search.watch.steps }
+    ensures watch { IfOk result (λ s. s.watch ≡ record search.watch { steps = take to search.watch.steps }) }
     ensures log { IfOk result (λ s. s.log ≡ search.log) }
     ensures base { IfOk result (λ s. s.base ≡ cut_base search.base to) }
 {
     let Search {
-        mut scan,
+        mut watch,
         log,
         base,
         mut order,
     } = search;
-    order.release(&scan.trail()[to..])?;
-    scan.undo(to);
+    order.release(&watch.trail()[to..])?;
+    watch.undo(to);
     let base = match base {
         Some(end) => { if end <= to { Some(end) } else { None } }
         None => None,
     };
     Ok(Search {
-        scan,
+        watch,
         log,
         base,
         order,
@@ -228,25 +229,25 @@ fn cut(search: Search, to: usize) -> Result<Search, NoMemory>
 /// Goes on where no clause is false, and none leaves no other choice.
 fn after_closing(alloc: Global, problem: Problem<'_>, search: Search) -> Result<Turn, NoMemory>
     requires apart { ¬ HasBoth problem.assumptions.now }
-    requires standing { Standing problem.clauses.now problem.assumptions.now problem.lemmas search.scan search.log search.base }
-    requires closed { IsClosed search.scan.clauses (lits search.scan.steps) }
-    ensures { IfOk result (IsTurn problem.entry.clauses.now problem.entry.assumptions.now problem.entry.lemmas (left problem.entry.lemmas search.scan search.log)) }
+    requires standing { Standing problem.clauses.now problem.assumptions.now problem.lemmas search.watch search.log search.base }
+    requires closed { IsClosed search.watch.clauses (lits search.watch.steps) }
+    ensures { IfOk result (IsTurn problem.entry.clauses.now problem.entry.assumptions.now problem.entry.lemmas (left problem.entry.lemmas search.watch search.log)) }
 {
     if search.base.is_some() {
         return branch(alloc, problem, search);
     }
-    match missing(&search.scan, problem.assumptions) {
+    match missing(&search.watch, problem.assumptions) {
         Some(lit) => assume(alloc, problem, search, lit),
         None => {
             let Search {
-                scan,
+                watch,
                 log,
                 base: _,
                 order,
             } = search;
-            let base = Some(scan.trail().len());
+            let base = Some(watch.trail().len());
             let search = Search {
-                scan,
+                watch,
                 log,
                 base,
                 order,
@@ -259,15 +260,22 @@ fn after_closing(alloc: Global, problem: Problem<'_>, search: Search) -> Result<
 /// Decides an assumption that isn't true. Where it is false, the clauses are refuted.
 fn assume(alloc: Global, problem: Problem<'_>, search: Search, lit: Lit) -> Result<Turn, NoMemory>
     requires apart { ¬ HasBoth problem.assumptions.now }
-    requires standing { Standing problem.clauses.now problem.assumptions.now problem.lemmas search.scan search.log search.base }
+    requires standing { Standing problem.clauses.now problem.assumptions.now problem.lemmas search.watch search.log search.base }
     requires base { search.base ≡ None }
-    requires closed { IsClosed search.scan.clauses (lits search.scan.steps) }
-    requires missing { IsMissing problem.assumptions.now (lits search.scan.steps) lit }
-    ensures { IfOk result (IsTurn problem.entry.clauses.now problem.entry.assumptions.now problem.entry.lemmas (left problem.entry.lemmas search.scan search.log)) }
+    requires closed { IsClosed search.watch.clauses (lits search.watch.steps) }
+    requires missing { IsMissing problem.assumptions.now (lits search.watch.steps) lit }
+    ensures { IfOk result (IsTurn problem.entry.clauses.now problem.entry.assumptions.now problem.entry.lemmas (left problem.entry.lemmas search.watch search.log)) }
 {
-    match search.scan.place(lit.var()) {
+    match search.watch.place(lit.var()) {
         Some(place) => {
-            let log = contradicting(alloc, problem, search.scan, search.log, lit, place as usize)?;
+            let log = contradicting(
+                alloc,
+                problem,
+                search.watch,
+                search.log,
+                lit,
+                place as usize,
+            )?;
             Ok(Turn::Done(Answer::Unsat(log)))
         }
         None => Ok(Turn::Next(decide(search, lit))),
@@ -279,22 +287,22 @@ fn assume(alloc: Global, problem: Problem<'_>, search: Search, lit: Lit) -> Resu
 fn contradicting(
     alloc: Global,
     problem: Problem<'_>,
-    mut scan: Scan,
+    mut watch: Watch,
     log: Log,
     lit: Lit,
     place: usize,
 ) -> Result<Log, NoMemory>
     requires apart { ¬ HasBoth problem.assumptions.now }
-    requires logged { Logged problem.clauses.now problem.assumptions.now problem.lemmas scan log }
-    requires assumed { AreAssumed problem.assumptions.now scan.steps (length scan.steps) }
-    requires missing { IsMissing problem.assumptions.now (lits scan.steps) lit }
-    requires place { IsPlaceOf scan.steps lit.var place }
+    requires logged { Logged problem.clauses.now problem.assumptions.now problem.lemmas watch log }
+    requires assumed { AreAssumed problem.assumptions.now watch.steps (length watch.steps) }
+    requires missing { IsMissing problem.assumptions.now (lits watch.steps) lit }
+    requires place { IsPlaceOf watch.steps lit.var place }
     ensures { IfOk result (RefutesWithin problem.entry.clauses.now problem.entry.assumptions.now problem.entry.lemmas) }
 {
-    let reason = reason_at(problem, scan.trail(), lit, place);
-    scan.undo(place);
-    scan.decide(lit);
-    refuting(alloc, problem, &scan, log, reason)
+    let reason = reason_at(problem, watch.trail(), lit, place);
+    watch.undo(place);
+    watch.decide(lit);
+    refuting(alloc, problem, &watch, log, reason)
 }
 
 /// The reason of the step that makes an assumption false.
@@ -311,21 +319,21 @@ fn reason_at(problem: Problem<'_>, trail: &[Step], lit: Lit, place: usize) -> u3
 /// Decides a literal whose variable isn't in the trail, once all assumptions are true. Where there is none, the trail
 /// makes all clauses true.
 fn branch(alloc: Global, problem: Problem<'_>, search: Search) -> Result<Turn, NoMemory>
-    requires standing { Standing problem.clauses.now problem.assumptions.now problem.lemmas search.scan search.log search.base }
+    requires standing { Standing problem.clauses.now problem.assumptions.now problem.lemmas search.watch search.log search.base }
     requires base { IsSome search.base }
-    requires closed { IsClosed search.scan.clauses (lits search.scan.steps) }
-    ensures { IfOk result (IsTurn problem.entry.clauses.now problem.entry.assumptions.now problem.entry.lemmas (left problem.entry.lemmas search.scan search.log)) }
+    requires closed { IsClosed search.watch.clauses (lits search.watch.steps) }
+    ensures { IfOk result (IsTurn problem.entry.clauses.now problem.entry.assumptions.now problem.entry.lemmas (left problem.entry.lemmas search.watch search.log)) }
 {
     let Search {
-        scan,
+        watch,
         log,
         base,
         mut order,
     } = search;
-    match free_literal(&scan, &mut order) {
+    match free_literal(&watch, &mut order) {
         Some(lit) => {
             let search = Search {
-                scan,
+                watch,
                 log,
                 base,
                 order,
@@ -333,8 +341,8 @@ fn branch(alloc: Global, problem: Problem<'_>, search: Search) -> Result<Turn, N
             Ok(Turn::Next(decide(search, lit)))
         }
         None => {
-            let _count = scan.clauses().len();
-            let found = assignment(alloc, &scan)?;
+            let _count = watch.clauses().len();
+            let found = assignment(alloc, &watch)?;
             Ok(Turn::Done(Answer::Sat(found)))
         }
     }
@@ -343,23 +351,23 @@ fn branch(alloc: Global, problem: Problem<'_>, search: Search) -> Result<Turn, N
 /// Decides a literal.
 fn decide(search: Search, lit: Lit) -> Search
     requires low { 1 ≤ lit.var }
-    requires up_to { lit.var ≤ search.scan.vars }
-    requires absent { All (λ s. s.lit.var ≢ lit.var) search.scan.steps }
-    ensures scan { result.scan ≡ record search.scan { steps = search.scan.steps ++ record { lit = lit; reason = None } ∷ [] } }
+    requires up_to { lit.var ≤ search.watch.vars }
+    requires absent { All (λ s. s.lit.var ≢ lit.var) search.watch.steps }
+    ensures watch { result.watch ≡ record search.watch { steps = search.watch.steps ++ record { lit = lit; reason = None } ∷ [] } }
     ensures log { result.log ≡ search.log }
     ensures base { result.base ≡ search.base }
-    ensures room { length search.scan.steps < search.scan.vars }
+    ensures room { length search.watch.steps < search.watch.vars }
 {
     let Search {
-        mut scan,
+        mut watch,
         log,
         base,
         order,
     } = search;
-    let _steps = scan.trail();
-    scan.decide(lit);
+    let _steps = watch.trail();
+    watch.decide(lit);
     Search {
-        scan,
+        watch,
         log,
         base,
         order,

@@ -158,8 +158,9 @@ impl Scan {
         }
     }
 
-    /// Adds a step. There is room for it: there are no more steps than variables.
-    fn push(&mut self, step: Step)
+    /// Adds a step. Its variable may be at most `vars`, and not in the trail; a reason must leave no other choice.
+    /// There is room for it: there are no more steps than variables.
+    pub fn push(&mut self, step: Step)
         requires up_to { step.lit.var ≤ self.old.vars }
         requires absent { All (λ s. s.lit.var ≢ step.lit.var) self.old.steps }
         requires reason { IfSome step.reason (IsReason self.old.clauses (lits self.old.steps) step.lit) }

@@ -4,4 +4,4 @@ use Rattle.pp_trail.specs.Trail.{lits}
 use Rattle.pp_cdcl.proofs.choosing.missing.Given as goal
 
 abbrev pub invariant-loop-lit : goal.invariant-loop-lit
-invariant-loop-lit l = All (λ a. has (lits l.scan.steps) a ≡ true) (take l.lit-index l.assumptions)
+invariant-loop-lit l = All (λ a. has (lits l.watch.steps) a ≡ true) (take l.lit-index l.assumptions)

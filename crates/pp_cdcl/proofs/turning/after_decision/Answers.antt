@@ -13,4 +13,4 @@ overflow_cast-start c =
 pub learn-requires-clause-later : goal.learn-requires-clause-later
 learn-requires-clause-later c =
     let last = c.requires.own.last in
-    not_false_before _ _ _ (c.requires.standing.layered.closed c.args.start last.step last.decision)
+    rw c.scan.ensures (not_false_before _ _ _ (c.requires.standing.layered.closed c.args.start last.step last.decision))

@@ -4,8 +4,8 @@ use Rattle.pp_cdcl.proofs.Turns.{goes_assumed}
 use Rattle.pp_cdcl.proofs.turning.assume.Goals as goal
 
 pub decide-requires-clause-up_to : goal.decide-requires-clause-up_to
-decide-requires-clause-up_to c = has-All (λ l. l.var ≤ c.args.search.scan.vars) c.args.problem.assumptions.now c.args.lit c.requires.standing.up_to c.requires.missing.held
+decide-requires-clause-up_to c = has-All (λ l. l.var ≤ c.args.search.watch.vars) c.args.problem.assumptions.now c.args.lit c.requires.standing.up_to c.requires.missing.held
 
 pub returns-in-None : goal.returns-in-None
 returns-in-None c =
-    goes_assumed _ _ _ c.args.search.scan c.args.search.log c.args.search.base _ c.decide.result c.requires.standing c.requires.base c.requires.closed c.requires.missing.held c.decide.ensures.room c.decide.ensures.scan c.decide.ensures.log c.decide.ensures.base
+    goes_assumed _ _ _ c.args.search.watch c.args.search.log c.args.search.base _ c.decide.result c.requires.standing c.requires.base c.requires.closed c.requires.missing.held c.decide.ensures.room c.decide.ensures.watch c.decide.ensures.log c.decide.ensures.base

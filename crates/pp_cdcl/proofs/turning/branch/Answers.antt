@@ -6,9 +6,9 @@ use Rattle.pp_cdcl.proofs.turning.branch.Goals as goal
 
 pub returns-in-Some : goal.returns-in-Some
 returns-in-Some c =
-    goes_decided _ _ _ c.args.search.scan c.args.search.log c.args.search.base _ c.decide.result c.requires.standing c.requires.base c.requires.closed c.decide.ensures.room c.decide.ensures.scan c.decide.ensures.log c.decide.ensures.base
+    goes_decided _ _ _ c.args.search.watch c.args.search.log c.args.search.base _ c.decide.result c.requires.standing c.requires.base c.requires.closed c.decide.ensures.room c.decide.ensures.watch c.decide.ensures.log c.decide.ensures.base
 
 pub returns-in_ok-found-in-None : goal.returns-in_ok-found-in-None
 returns-in_ok-found-in-None c =
-    satisfies _ _ _ c.args.search.scan c.args.search.log c.args.search.base _ c.requires.standing c.requires.base c.requires.closed c.in-None.ensures.none c.in_ok-found-in-None.ensures
+    satisfies _ _ _ c.args.search.watch c.args.search.log c.args.search.base _ c.requires.standing c.requires.base c.requires.closed c.in-None.ensures.none c.in_ok-found-in-None.ensures
     (All-same IsClause _ _ (sym c.clauses.ensures.value) c.len-count.ensures.order) c.clauses.ensures.up_to

@@ -15,4 +15,4 @@ refuting-requires-clause-assumed c =
 
 pub refuting-requires-clause-conflict : goal.refuting-requires-clause-conflict
 refuting-requires-clause-conflict c =
-    rw (c.decide.ensures, c.undo.ensures) (false_decided _ c.args.scan.vars _ c.args.place _ c.args.lit c.trail.ensures.trail (rw c.trail.ensures.value at c.reason_at-reason.ensures))
+    rw (c.decide.ensures, c.undo.ensures) (false_decided _ c.args.watch.vars _ c.args.place _ c.args.lit c.trail.ensures.trail (rw c.trail.ensures.value at c.reason_at-reason.ensures))

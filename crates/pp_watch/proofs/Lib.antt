@@ -1,0 +1,10 @@
+pub mod Rows
+pub mod Listed
+pub mod Watched
+pub mod Literals
+pub mod Guarded
+pub mod Closed
+pub mod States
+pub mod Attached
+pub mod Looked
+pub mod Visited

@@ -1,0 +1,78 @@
+-- What looks at the literals of a clause find, a literal at a time.
+use Rattle.std.proofs.Common.{ℕ, ◌+◌, ◌≡◌, ◌≢◌, ◌<◌, ◌≤◌, true, List, [], ◌∷◌, ◌++◌, sym}
+use Rattle.std.proofs.Common.{ap, ◌∙◌, subst, inl, inr, arith, length, get_or, take}
+use Rattle.std.proofs.lemmas.List.{take_more, take_all, get_or_default}
+use Rattle.std.proofs.lemmas.Bool.{false_from_ne_true}
+use Rattle.pp_clause.specs.Literal.{Literal, opposite}
+use Rattle.std.proofs.lemmas.List.Folds.{list_any_at}
+use Rattle.pp_clause.specs.Clause.{has, literal_eq}
+use Rattle.pp_clause.specs.Log.{all_negated}
+use Rattle.pp_clause.specs.New.{OthersNegated}
+use Rattle.pp_clause.proofs.Has.{has-nil, has-push_cases, literal_eq-same}
+use Rattle.pp_trail.specs.declared.step.Step.{Step}
+use Rattle.pp_trail.specs.Trail.{lits, IsTrail, IsPlaceOf}
+use Rattle.pp_trail.proofs.Places.{AreDistinct, literal_at}
+use Rattle.pp_trail.proofs.States.{all_negated_from, negated_at}
+use Rattle.pp_watch.specs.declared.head.Head.{Head}
+use Rattle.pp_watch.specs.Lists.{code}
+use Rattle.pp_watch.specs.Looking.{IsBound}
+
+take_next : (ls : List Literal) (i : ℕ) (l : Literal) → i < length ls → l ≡ get_or ls i l → take (i + 1) ls
+    ≡ take i ls ++ l ∷ []
+take_next ls i l lt is = take_more ls i l lt ∙ ap (λ (x : Literal). take i ls ++ x ∷ []) (sym is)
+
+pub has_item : (ls : List Literal) (i : ℕ) (l : Literal) → i < length ls → l ≡ get_or ls i l → has ls l ≡ true
+has_item ls i l lt is = list_any_at (literal_eq l) ls i l lt (ap (literal_eq l) (sym is) ∙ literal_eq-same l)
+
+pub negated_more : (set ls : List Literal) (i : ℕ) (l : Literal) → i < length ls → l ≡ get_or ls i l →
+    all_negated set (take i ls) ≡ true → has set (opposite l) ≡ true → all_negated set (take (i + 1) ls) ≡ true
+negated_more set ls i l lt is h k =
+    ap (all_negated set) (take_next ls i l lt is)
+    ∙ all_negated_from set (take i ls ++ l ∷ []) (λ m b. elim (has-push_cases (take i ls) l m b) [
+      | inl j ↦ negated_at set (take i ls) m h j
+      | inr e ↦ ap (λ (x : Literal). has set (opposite x)) e ∙ k
+    ])
+
+pub negated_all : (set ls : List Literal) (i : ℕ) → length ls ≤ i → all_negated set (take i ls) ≡ true →
+    all_negated set ls ≡ true
+negated_all set ls i le h = ap (all_negated set) (sym (take_all i ls le)) ∙ h
+
+pub others_none : (set : List Literal) (x : Literal) (ls : List Literal) → OthersNegated set (take 0 ls) x
+others_none set x ls = record { negated = λ m h ne. absurd (has-nil m h) }
+
+pub others_more : (set ls : List Literal) (i : ℕ) (l x : Literal) → i < length ls → l ≡ get_or ls i l →
+    OthersNegated set (take i ls) x → (l ≢ x → has set (opposite l) ≡ true) → OthersNegated set (take (i + 1) ls) x
+others_more set ls i l x lt is h k = record {
+  negated = λ m b ne. elim (has-push_cases (take i ls) l m
+      (ap (λ (z : List Literal). has z m) (sym (take_next ls i l lt is)) ∙ b)) [
+        | inl j ↦ h.negated m j ne
+        | inr e ↦ ap (λ (z : Literal). has set (opposite z)) e ∙ k (λ f. ne (e ∙ f))
+      ];
+}
+
+pub others_all : (set ls : List Literal) (i : ℕ) (x : Literal) → length ls ≤ i → OthersNegated set (take i ls) x →
+    OthersNegated set ls x
+others_all set ls i x le h = subst (λ (z : List Literal). OthersNegated set z x) (take_all i ls le) h
+
+-- before its place a literal isn't false
+before_place : (steps : List Step) (place n : ℕ) (l : Literal) → AreDistinct steps → IsPlaceOf steps l.var place →
+    n ≤ place → has (lits (take n steps)) (opposite l) ≡ true → ⊥
+before_place steps place n l d p le h =
+    let q = literal_at steps n (opposite l) h in
+    let early = q.before in
+    let far : (get_or steps q.place p.step).lit.var ≢ (get_or steps place p.step).lit.var = d q.place place p.step
+    (omega arith) p.stands.within in
+    let here : q.step ≡ get_or steps q.place p.step = q.stands.is
+    ∙ get_or_default steps q.place q.step p.step q.stands.within in
+    far (ap (λ (z : Step). z.lit.var) (sym here) ∙ ap (λ (z : Literal). z.var) q.is ∙ sym p.is ∙ ap
+    (λ (z : Step). z.lit.var) p.stands.is)
+
+pub bound_at : (cs : List (List Literal)) (vars : ℕ) (steps : List Step) (h : Head) (place : ℕ) →
+    IsTrail cs vars steps → IsPlaceOf steps h.second.var place → has (lits steps) (opposite h.second) ≡ true →
+    code h.first ≢ code h.second → IsBound steps h (place + 1)
+bound_at cs vars steps h place t p neg ne = record {
+  forced = inl neg;
+  differ = λ n lt. ne;
+  before = λ n lt. false_from_ne_true (has (lits (take n steps)) (opposite h.second))
+      (before_place steps place n h.second t.distinct p (omega arith));
+}

@@ -1,0 +1,4 @@
+pub mod Lists
+pub mod Watching
+pub mod Looking
+pub mod Attaching

@@ -1,0 +1,11 @@
+//! What a clause watches.
+use pp_clause::Lit;
+
+/// The two literals that a clause watches. A clause with one literal watches it twice.
+#[derive(Clone, Copy)]
+pub struct Head {
+    /// The one literal.
+    pub first: Lit,
+    /// The other literal.
+    pub second: Lit,
+}

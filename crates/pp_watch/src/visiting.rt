@@ -1,0 +1,182 @@
+//! Visits what watches false literals.
+ghost use Rattle.std.specs.Prelude.{◌≡◌, ◌≢◌, ◌+◌, ◌-◌, ◌<◌, ◌≤◌, true, false, length, IfSome, IfNone, IfOk};
+ghost use Rattle.pp_clause.specs.Literal.{opposite};
+ghost use Rattle.pp_clause.specs.Clause.{has};
+ghost use Rattle.pp_trail.specs.Trail.{lits, IsFalse};
+ghost use Rattle.pp_watch.specs.Watching.{IsSound, Grows, clause_at};
+ghost use Rattle.pp_watch.specs.Lists.{code, watchers_of};
+ghost use Rattle.pp_watch.specs.Looking.{AreLookedAt, AreOthersFalse, Advances, IsBeside, IsOther};
+
+use crate::NoMemory;
+use crate::finding::{is_false, is_true, lits_of, other_not_false};
+use crate::head::Head;
+use crate::state::State;
+use crate::watcher::Watcher;
+use pp_clause::Lit;
+use pp_trail::Step;
+
+impl State {
+    /// Visits the steps of the trail that haven't been visited, and those that this adds. The answer is the number of a
+    /// false clause, if there is one.
+    pub fn visit_all(&mut self) -> Result<Option<u32>, NoMemory>
+        requires { IsSound self.old }
+        ensures grows { IfOk result (λ _. Grows self.old.scan self.new.scan) }
+        ensures sound { IfOk result (λ _. IsSound self.new) }
+        ensures heads { IfOk result (λ _. length self.new.heads.items ≡ length self.old.heads.items) }
+        ensures all { IfOk result (λ o. IfNone o (self.new.visited ≡ length self.new.scan.steps)) }
+        ensures conflict { IfOk result (λ o. IfSome o (IsFalse self.new.scan.clauses (lits self.new.scan.steps))) }
+    {
+        while self.visited < self.scan.trail().len() {
+            let lit = self.scan.trail()[self.visited].lit.negated();
+            if let Some(number) = self.visit(lit)? {
+                return Ok(Some(number));
+            }
+            self.visited += 1;
+        }
+        Ok(None)
+    }
+
+    /// Looks at the clauses that watch a false literal.
+    fn visit(&mut self, lit: Lit) -> Result<Option<u32>, NoMemory>
+        requires sound { IsSound self.old }
+        requires negated { has (lits self.old.scan.steps) (opposite lit) ≡ true }
+        ensures advances { IfOk result (λ _. Advances self.old self.new) }
+        ensures looked { IfOk result (λ o. IfNone o (AreLookedAt self.new lit 0)) }
+        ensures conflict { IfOk result (λ o. IfSome o (IsFalse self.new.scan.clauses (lits self.new.scan.steps))) }
+    {
+        let _trail = self.scan.trail();
+        let mut place = self.lists.count(lit);
+        while place > 0 {
+            place -= 1;
+            if let Some(number) = self.look(lit, place)? {
+                return Ok(Some(number));
+            }
+        }
+        Ok(None)
+    }
+
+    /// Looks at the clause that watches a false literal at this place of the literal's list.
+    fn look(&mut self, lit: Lit, place: usize) -> Result<Option<u32>, NoMemory>
+        requires sound { IsSound self.old }
+        requires negated { has (lits self.old.scan.steps) (opposite lit) ≡ true }
+        requires place { place < length (watchers_of self.old.lists lit) }
+        requires looked { AreLookedAt self.old lit (place + 1) }
+        ensures advances { IfOk result (λ _. Advances self.old self.new) }
+        ensures looked { IfOk result (λ o. IfNone o (AreLookedAt self.new lit place)) }
+        ensures within { IfOk result (λ o. IfNone o (place ≤ length (watchers_of self.new.lists lit))) }
+        ensures conflict { IfOk result (λ o. IfSome o (IsFalse self.new.scan.clauses (lits self.new.scan.steps))) }
+    {
+        let watcher = self.lists.get(lit, place);
+        if is_true(&self.scan, watcher.blocker) {
+            return Ok(None);
+        }
+        let head = self.heads[watcher.number as usize - 1];
+        if head.first.index() == lit.index() {
+            self.look_beside(lit, place, watcher.number, head.second)
+        } else if head.second.index() == lit.index() {
+            self.look_beside(lit, place, watcher.number, head.first)
+        } else {
+            self.lists.remove(lit, place);
+            Ok(None)
+        }
+    }
+
+    /// Looks at a clause that watches a false literal and this other one.
+    fn look_beside(
+        &mut self,
+        lit: Lit,
+        place: usize,
+        number: u32,
+        other: Lit,
+    ) -> Result<Option<u32>, NoMemory>
+        requires sound { IsSound self.old }
+        requires negated { has (lits self.old.scan.steps) (opposite lit) ≡ true }
+        requires looked { AreLookedAt self.old lit (place + 1) }
+        requires beside { IsBeside self.old lit place number other }
+        ensures advances { IfOk result (λ _. Advances self.old self.new) }
+        ensures looked { IfOk result (λ o. IfNone o (AreLookedAt self.new lit place)) }
+        ensures within { IfOk result (λ o. IfNone o (place ≤ length (watchers_of self.new.lists lit))) }
+        ensures conflict { IfOk result (λ o. IfSome o (IsFalse self.new.scan.clauses (lits self.new.scan.steps))) }
+    {
+        if other.index() == lit.index() {
+            return Ok(None);
+        }
+        if is_true(&self.scan, other) {
+            self.lists.set(
+                lit,
+                place,
+                Watcher {
+                    number,
+                    blocker: other,
+                },
+            );
+            return Ok(None);
+        }
+        match other_not_false(&self.scan, lits_of(&self.scan, number), other) {
+            Some(new) => {
+                self.rewatch(lit, place, number, other, new)?;
+                Ok(None)
+            }
+            None => Ok(self.force(lit, place, number, other)),
+        }
+    }
+
+    /// Lets a clause watch a literal in place of a false one.
+    fn rewatch(
+        &mut self,
+        lit: Lit,
+        place: usize,
+        number: u32,
+        other: Lit,
+        new: Lit,
+    ) -> Result<(), NoMemory>
+        requires sound { IsSound self.old }
+        requires negated { has (lits self.old.scan.steps) (opposite lit) ≡ true }
+        requires looked { AreLookedAt self.old lit (place + 1) }
+        requires beside { IsBeside self.old lit place number other }
+        requires apart { code other ≢ code lit }
+        requires new { IsOther (lits self.old.scan.steps) (clause_at self.old.scan.clauses (number - 1)) other new }
+        ensures advances { IfOk result (λ _. Advances self.old self.new) }
+        ensures looked { IfOk result (λ _. AreLookedAt self.new lit place) }
+        ensures within { IfOk result (λ _. place ≤ length (watchers_of self.new.lists lit)) }
+    {
+        let _lits = lits_of(&self.scan, number);
+        self.lists.push(
+            new,
+            Watcher {
+                number,
+                blocker: other,
+            },
+        )?;
+        self.heads[number as usize - 1] = Head {
+            first: new,
+            second: other,
+        };
+        self.lists.remove(lit, place);
+        Ok(())
+    }
+
+    /// Makes the other watched literal of a clause true, where all others are false. The answer is the clause's number,
+    /// where that one is false too.
+    fn force(&mut self, lit: Lit, place: usize, number: u32, other: Lit) -> Option<u32>
+        requires sound { IsSound self.old }
+        requires looked { AreLookedAt self.old lit (place + 1) }
+        requires beside { IsBeside self.old lit place number other }
+        requires not_true { has (lits self.old.scan.steps) other ≡ false }
+        requires others { AreOthersFalse self.old number other }
+        ensures advances { Advances self.old self.new }
+        ensures looked { IfNone result (AreLookedAt self.new lit place) }
+        ensures within { IfNone result (place ≤ length (watchers_of self.new.lists lit)) }
+        ensures conflict { IfSome result (IsFalse self.new.scan.clauses (lits self.new.scan.steps)) }
+    {
+        let _lits = lits_of(&self.scan, number);
+        if is_false(&self.scan, other) {
+            return Some(number);
+        }
+        self.scan.push(Step {
+            lit: other,
+            reason: Some(number),
+        });
+        None
+    }
+}
