@@ -1,0 +1,211 @@
+-- Calls of guess runs have values of their functions' result sorts, or stop.
+use Rattle.std.proofs.Common.{◌≡◌, ℕ, zero, suc, ◌<◌, true, List, [], ◌∷◌, ◌++◌, Option, Some, None, is_some, length, slice_get, refl, sym, ap, ◌∙◌, subst}
+use Rattle.std.specs.Prelude.{⊤, Bool, false, Err, Ok, if◌then◌else◌, nat_eq}
+use Rattle.std.proofs.lemmas.Option.{slice_get_within}
+use Rattle.pp_prog.specs.declared.expr.Expr.{Expr}
+use Rattle.pp_prog.specs.declared.expr.Function.{Function}
+use Rattle.pp_prog.specs.declared.id.CheckId.{CheckId}
+use Rattle.pp_prog.specs.declared.id.FunctionId.{FunctionId}
+use Rattle.pp_prog.specs.declared.program.Program.{Program}
+use Rattle.pp_prog.specs.declared.sort.Sort.{Sort}
+use Rattle.pp_prog.specs.declared.sort.Sort.TheVariants as sort
+use Rattle.pp_prog.specs.declared.value.Value.{Value}
+use Rattle.pp_prog.specs.ExprSorts.{is_sorted_post, is_sorted_pre}
+use Rattle.pp_prog.specs.Listing.{post_sites, pre_sites}
+use Rattle.pp_prog.specs.Sorts.{param_sorts}
+use Rattle.pp_prog.specs.Valid.{has_precondition}
+use Rattle.pp_eval.specs.declared.outcome.Outcome.{Outcome}
+use Rattle.pp_eval.specs.declared.outcome.Outcome.TheVariants.{Done, Outside, Fails, Inner, Deep}
+use Rattle.pp_eval.specs.declared.outcome.Stop.TheVariants as stop
+use Rattle.pp_eval.specs.Calls.{admits, descends}
+use Rattle.pp_eval.specs.Equality.{equal}
+use Rattle.pp_eval.specs.Measure.{is_below}
+use Rattle.pp_eval.specs.Meaning.{Calls, Frame}
+use Rattle.pp_eval.specs.Part.{Part, found}
+use Rattle.pp_eval.specs.Runs.{run, run_at, run_with}
+use Rattle.pp_sound.specs.Sound.{IsCalled}
+use Rattle.pp_sound.proofs.Calls.{condition_fine, frame_fine, whole}
+use Rattle.pp_sound.proofs.Env.{Has, Have, have_more, have_one}
+use Rattle.pp_sound.proofs.Exprs.{AreGood, expr_sound}
+use Rattle.pp_sound.proofs.Laws.{keep_sorts}
+use Rattle.pp_sound.proofs.Operators.{judged}
+use Rattle.pp_sound.proofs.Parts.{IsAny, IsFine, IsOwn, IsSorted, MayStop, fine_either, fine_failed, fine_inside, fine_stop, fine_then, fine_value}
+use Rattle.pp_sound.proofs.Runs.{run_fine}
+use Rattle.pp_sound.proofs.Sites.{AreMet, met_left}
+use Rattle.pp_sound.proofs.Sorting.{has_the_sort_is}
+use Rattle.pp_run_laws.proofs.MeasureSorts.{told_value}
+use Rattle.pp_guess_runs.specs.Answers.{Answering, Answers, IsAnswering, answers_of, table, truth, value_done}
+use Rattle.pp_guess_runs.specs.Guess.{agreed, called, compared, done, fails, guess, guessed, held, skip, is_check, one_less, own, own_call, unfolded}
+use Rattle.pp_guess_runs.specs.Laws.{GuessesKeepSorts}
+use Rattle.pp_guess_runs.proofs.Tables.{tables_answer_once}
+
+module _ (p : Program) (W : Answering) (answering : IsAnswering p W) where
+  abbrev answer : Answers
+  answer = answers_of p.types.ctors p.functions W
+
+  abbrev U : Type 0
+  U = Unit {0}
+
+  abbrev calls_of : ℕ → Calls
+  calls_of n = called p.functions answer n
+
+  -- an answer has the result's sort
+  pub answer_sorted : (g : FunctionId) (f : Function) (args : List Value) → slice_get p.functions g.0 ≡ Some f
+      → Have p.types.ctors (param_sorts f.params) args → (v : Value) → answer g args ≡ Some v
+      → Has p.types.ctors f.result v
+  answer_sorted g f args is have v e = by W answering e
+    where
+      is_done : (o : Outcome) → value_done o ≡ Some v → o ≡ Done v
+      is_done (Done w) e = let same : w ≡ v = cc in ap Done same
+      is_done Outside e = cc
+      is_done (Fails c) e = cc
+      is_done (Inner h c) e = cc
+      is_done Deep e = cc
+
+      by : (A : Answering) → IsAnswering p A → answers_of p.types.ctors p.functions A g args ≡ Some v
+          → Has p.types.ctors f.result v
+      by (table entries) is_table e =
+          let k = tables_answer_once.only entries g args v e in
+          let s = is_table.sorted k.0 k.1 in
+          let same : s.0 ≡ f = (let both : Some s.0 ≡ Some f = sym s.1 ∙ ap
+          (λ (h : FunctionId). slice_get p.functions h.0) k.2 ∙ is in cc) in
+          subst (λ (h : Function). Has p.types.ctors h.result v) same (subst (Has p.types.ctors s.0.result) k.4 s.2)
+      by (truth n) true_at e =
+          let run_is : run p.types.ctors p.functions f args n ≡ Done v =
+          is_done (run p.types.ctors p.functions f args n) (sym (ap (λ o. value_done
+          (run_at p.types.ctors p.functions o args n)) is) ∙ e) in
+          keep_sorts p g.0 f args (record { function = is; arguments = have }) n v run_is
+
+  agreed_fine : (i : ℕ) (s : Sort) (o : Option Value) (v : Value) → Has p.types.ctors s v
+      → IsSorted p U i s (agreed o v)
+  agreed_fine i s None v has = fine_value has
+  agreed_fine i s (Some w) v has = fine_either (equal w v) (fine_value has) (fine_stop tt)
+
+  held_fine : (i : ℕ) (calls : Calls) → AreGood p U i calls
+      → (f : Function) (post : Option (CheckId × Expr)) (args : List Value)
+      → is_sorted_post p.types p.functions post (param_sorts f.params ++ f.result ∷ []) ≡ true
+      → AreMet p i (post_sites p.types p.functions post f.result (param_sorts f.params))
+      → Have p.types.ctors (param_sorts f.params) args → (v : Value) → Has p.types.ctors f.result v
+      → IsSorted p U i f.result (held calls post args v)
+  held_fine i calls good f None args sorted met have v has = fine_value has
+  held_fine i calls good f (Some post) args sorted met have v has =
+      let scope = param_sorts f.params ++ f.result ∷ [] in
+      judged p U i (expr_sound p U i calls good post.1 scope sort.Bool
+      (has_the_sort_is p.types p.functions sort.Bool _ sorted)
+      (met_left _ _ met) None (args ++ v ∷ []) (have_more p.types.ctors (param_sorts f.params) (f.result ∷ []) args
+      (v ∷ []) have (have_one p.types.ctors f.result v has)))
+      (λ t. fine_either t (fine_value has) (fine_stop tt))
+
+  unfolded_fine : (i : ℕ) (calls : Calls) (g : FunctionId) → AreGood p U g.0 calls → (f : Function)
+      → slice_get p.functions g.0 ≡ Some f → (args : List Value) → Have p.types.ctors (param_sorts f.params) args
+      → IsSorted p U i f.result (unfolded calls (answer g args) (Some f) g args)
+  unfolded_fine i calls g good f is args have =
+      let w = whole p g.0 f is in
+      fine_inside p U i g (slice_get_within p.functions g.0 f is)
+      (fine_then (expr_sound p U g.0 calls good f.body (param_sorts f.params) f.result w.body_sorted w.body_met None
+      args have)
+      (λ v has. fine_then (held_fine g.0 calls good f f.post args w.post_sorted w.post_met have v has)
+      (λ u is_u. agreed_fine g.0 f.result (answer g args) u is_u)))
+
+  -- calls from called frames, on arguments of the parameters' sorts
+  pub called_fine : (n i : ℕ) (frame : Frame) (g : FunctionId) (pre down : Option CheckId) (args : List Value)
+      (f : Function) → slice_get p.functions g.0 ≡ Some f → Have p.types.ctors (param_sorts f.params) args
+      → IsSorted p U i f.result (calls_of n frame g pre down args)
+  called_fine zero i frame g pre down args f is have = by (answer g args) refl
+    where
+      by : (o : Option Value) → answer g args ≡ o → IsSorted p U i f.result (found o)
+      by None e = fine_stop tt
+      by (Some v) e = fine_value (answer_sorted g f args is have v e)
+  called_fine (suc n) i frame g pre down args f is have =
+      let good : AreGood p U g.0 (calls_of n) = record {
+        part = λ frame h pre down args f is have met_pre met_down. called_fine n g.0 frame h pre down args f is have;
+      } in
+      subst (λ o. IsSorted p U i f.result (unfolded (calls_of n) (answer g args) o g args)) (sym is)
+      (unfolded_fine i (calls_of n) g good f is args have)
+
+  pub called_good : (n i : ℕ) → AreGood p U i (calls_of n)
+  called_good n i = record {
+    part = λ frame g pre down args f is have met_pre met_down. called_fine n i frame g pre down args f is have;
+  }
+
+  -- ---- calls from the own frame
+
+  descends_fine : (i : ℕ) (check : Option CheckId) (old new : Frame) → IsOwn p i check
+      → IsFine (MayStop p U i) (IsAny {A = ⊤}) (descends p.types.ctors check old new)
+  descends_fine i None old new mine = fine_value tt
+  descends_fine i (Some c) None new mine = fine_value tt
+  descends_fine i (Some c) (Some old) None mine = fine_value tt
+  descends_fine i (Some c) (Some old) (Some new) mine =
+      fine_either (is_below p.types.ctors new old) (fine_value tt) (fine_stop mine)
+
+  module _ (i n : ℕ) (g : FunctionId) (f : Function) (is : slice_get p.functions g.0 ≡ Some f) (args : List Value)
+      (have : Have p.types.ctors (param_sorts f.params) args) where
+    within : g.0 < length p.functions
+    within = slice_get_within p.functions g.0 f is
+
+    admits_fine : (pre : Option Expr) (check : Option CheckId)
+        → is_sorted_pre p.types p.functions pre (param_sorts f.params) ≡ true
+        → AreMet p g.0 (pre_sites p.types p.functions pre (param_sorts f.params)) → is_some check ≡ is_some pre
+        → IsOwn p i check
+        → IsFine (MayStop p U i) (IsAny {A = ⊤}) (admits (calls_of n) g pre check args)
+    admits_fine None check sorted met some mine = fine_value tt
+    admits_fine (Some pre) check sorted met some mine =
+        fine_then (fine_inside p U i g within (condition_fine p U g.0 (calls_of n) (called_good n g.0) pre
+        (param_sorts f.params) sorted met None args have))
+        (λ t _. fine_either t (fine_value tt) (fine_failed p U i check some mine))
+
+    compared_fine : (c : CheckId) (down : Option CheckId) (frame : Frame) → IsOwn p i down
+        → IsFine (MayStop p U i) (IsAny {A = ⊤}) (compared p.types.ctors c (calls_of n) f.measure g down frame args)
+    compared_fine c down frame mine =
+        let w = whole p g.0 f is in
+        fine_either (is_check c down)
+        (fine_then (fine_inside p U i g within (frame_fine p U g.0 (calls_of n) (called_good n g.0) f.measure
+        (param_sorts f.params) w.measure_sorted w.measure_met args have))
+        (λ new _. descends_fine i down frame new mine)) (fine_value tt)
+
+  pub own_good : (c : CheckId) (n i : ℕ) → AreGood p U i (own p.types.ctors p.functions answer c n)
+  own_good c n i = record {
+    part = λ frame g pre down args f is have met_pre met_down.
+        let w = whole p g.0 f is in
+        subst (λ o. IsSorted p U i f.result (own_call p.types.ctors c (calls_of (one_less n)) (calls_of n) o frame g
+        pre down args)) (sym is)
+        (fine_then (admits_fine i (one_less n) g f is args have f.pre pre w.pre_sorted w.pre_met
+        (met_pre.carries ∙ ap has_precondition is) met_pre.own)
+        (λ _ _. fine_then (compared_fine i (one_less n) g f is args have c down frame met_down.own)
+        (λ _ _. (called_good n i).part frame g pre down args f is have met_pre met_down)));
+  }
+
+  -- ---- the value of a guess run
+
+  done_value : (c : CheckId) (part : Part Outcome) (v : Value) → guessed c part ≡ done v → part ≡ Ok (Done v)
+  done_value c (Ok (Done w)) v e = let same : w ≡ v = cc in ap (λ u. Ok (Done u)) same
+  done_value c (Ok Outside) v e = cc
+  done_value c (Ok (Fails d)) v e = cc
+  done_value c (Ok (Inner g d)) v e = cc
+  done_value c (Ok Deep) v e = cc
+  done_value c (Err (stop.Fails d)) v e = absurd (by (nat_eq d.0 c.0) e)
+    where
+      by : (t : Bool) → (if t then fails else skip) ≡ done v → ⊥
+      by true e = cc
+      by false e = cc
+  done_value c (Err (stop.Inner g d)) v e = cc
+  done_value c (Err stop.Deep) v e = cc
+
+  guess_sorted : (i : ℕ) (f : Function) (args : List Value) → IsCalled p i f args → (c : CheckId) (n : ℕ) (v : Value)
+      → guess p.types.ctors p.functions f c args n W ≡ done v → Has p.types.ctors f.result v
+  guess_sorted i f args is_called c n v e =
+      let calls = own p.types.ctors p.functions answer c n in
+      told_value (run_fine p U i calls (own_good c n i) f is_called.function args is_called.arguments) (Done v)
+      (done_value c (run_with calls f args) v e)
+
+  call_sorted : (n : ℕ) (frame : Frame) (g : FunctionId) (pre down : Option CheckId) (args : List Value) (f : Function)
+      → slice_get p.functions g.0 ≡ Some f → Have p.types.ctors (param_sorts f.params) args → (v : Value)
+      → calls_of n frame g pre down args ≡ Ok v → Has p.types.ctors f.result v
+  call_sorted n frame g pre down args f is have v e = told_value (called_fine n 0 frame g pre down args f is have) v e
+
+pub guesses_keep_sorts : GuessesKeepSorts
+guesses_keep_sorts = record {
+  runs = λ p i f args is_called c n W answering v e. guess_sorted p W answering i f args is_called c n v e;
+  calls = λ p W answering n frame g pre down args f is have v e.
+      call_sorted p W answering n frame g pre down args f is have v e;
+}

@@ -1,0 +1,10 @@
+pub mod Views
+pub mod Fates
+pub mod Ready
+pub mod Callees
+pub mod Refuted
+pub mod Parts
+pub mod Contracts
+pub mod CallSettles
+pub mod Groups
+pub mod Ranks

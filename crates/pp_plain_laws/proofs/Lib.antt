@@ -1,0 +1,11 @@
+pub mod Counts
+pub mod Patterns
+pub mod Scope
+pub mod Setting
+pub mod Levels
+pub mod Cleaning
+pub mod Comparing
+pub mod CallsClean
+pub mod Tight
+pub mod Plain
+pub mod Law

@@ -1,0 +1,12 @@
+pub mod Eventually
+pub mod Follows
+pub mod Stops
+pub mod ExprFollows
+pub mod Depends
+pub mod Nested
+pub mod Parts
+pub mod Lasting
+pub mod Lists
+pub mod Descent
+pub mod MeasureSorts
+pub mod Known
