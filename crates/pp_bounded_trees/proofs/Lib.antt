@@ -1,0 +1,15 @@
+pub mod Values
+pub mod Alternatives
+pub mod Locality
+pub mod Lawful
+pub mod Looks
+pub mod Found
+pub mod Fields
+pub mod Blank
+pub mod Pushed
+pub mod Known
+pub mod Sorted
+pub mod Candidates
+pub mod Exclusive
+pub mod Kept
+pub mod Reading

@@ -1,0 +1,10 @@
+pub mod Values
+pub mod Alternatives
+pub mod Arena
+pub mod Meaning
+pub mod Agreement
+pub mod Laws
+pub mod Fields
+pub mod Possible
+pub mod Choices
+pub mod Readable

@@ -1,0 +1,4 @@
+pub mod Full
+pub mod FullParts
+pub mod FullTree
+pub mod AnyValue
