@@ -1,0 +1,6 @@
+pub mod Ahead
+pub mod Width
+pub mod Joining
+pub mod Arms
+pub mod Running
+pub mod Matching

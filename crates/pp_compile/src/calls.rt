@@ -1,0 +1,244 @@
+//! The steps of calls that are followed.
+
+ghost use Rattle.std.specs.Prelude.{◌≡◌, ◌∷◌, [], ℕ, suc, IfOk, List, Option, Some, None, length, slice_get};
+ghost use Rattle.pp_steps.specs.Piece.{plain};
+ghost use Rattle.pp_steps.specs.declared.step.Step.TheVariants as steps;
+ghost use Rattle.pp_steps.specs.Frames as spec;
+ghost use Rattle.pp_steps.specs.Frames.{admitting, descending, entering, falling, inlined, lower, measuring, shaped, stopped};
+ghost use Rattle.pp_compile.specs.Written.{IsFramed, IsMade};
+
+use crate::NoMemory;
+use crate::emit::{demand, emit, one, stop};
+use crate::exprs::{asks, value_of, values_of};
+use crate::work::{Ends, Framed, Work};
+use pp_list::at;
+use pp_prog::{BinaryOp, CheckId, Expr, Function, FunctionId, Sort};
+use pp_steps::{Numbers, Step};
+use std::alloc::Global;
+
+/// What calls are made of: the program's functions, and how deep calls may still be nested.
+#[derive(Clone, Copy)]
+pub(crate) struct Calls<'a> {
+    pub functions: &'a [Function],
+    pub fuel: u32,
+}
+
+/// The steps of a call, from a frame with these measure values, at a site with these checks.
+#[cycle(compile)]
+pub(crate) fn call(
+    alloc: Global,
+    calls: Calls<'_>,
+    asked: Option<CheckId>,
+    frame: &Option<Numbers>,
+    reach: u32,
+    callee: FunctionId,
+    pre: Option<CheckId>,
+    measure: Option<CheckId>,
+    args: Numbers,
+    work: &mut Work,
+) -> Result<Ends, NoMemory>
+    ensures { IfOk result (λ r. IsMade work.old work.new
+        (inlined calls.entry.functions.now calls.entry.fuel asked frame.now
+        (length work.old.steps) reach callee pre measure args) r) }
+{
+    if calls.fuel == 0 {
+        return stop(work, result_at(calls.functions, callee));
+    }
+    match at(calls.functions, callee.0 as usize) {
+        None => stop(work, Sort::Bool),
+        Some(f) => {
+            let inner = Calls {
+                functions: calls.functions,
+                fuel: calls.fuel - 1,
+            };
+            enter(
+                alloc, inner, asked, frame, reach, f, pre, measure, args, work,
+            )
+        }
+    }
+}
+
+// A call of f: its precondition, its measure list, which is compared, and its body.
+#[cycle(compile)]
+fn enter(
+    alloc: Global,
+    calls: Calls<'_>,
+    asked: Option<CheckId>,
+    frame: &Option<Numbers>,
+    reach: u32,
+    f: &Function,
+    pre: Option<CheckId>,
+    measure: Option<CheckId>,
+    args: Numbers,
+    work: &mut Work,
+) -> Result<Ends, NoMemory>
+    ensures { IfOk result (λ r. IsMade work.old work.new
+        (entering (inlined calls.entry.functions.now calls.entry.fuel None) asked frame.now (Some f.now)
+        (length work.old.steps) reach pre measure args) r) }
+{
+    let mut env = args;
+    let allowed = admit(alloc, calls, asked, &mut env, reach, &f.pre, pre, work)?;
+    let new = frame_of(
+        alloc,
+        calls,
+        None,
+        &mut env,
+        allowed.alive,
+        f.measure.as_slice(),
+        work,
+    )?;
+    let entered = descend(work, asked, measure, frame, &new.frame, new.alive)?;
+    value_of(
+        alloc,
+        calls,
+        None,
+        &new.frame,
+        &mut env,
+        entered.alive,
+        &f.body,
+        work,
+    )
+}
+
+// The precondition of a called function.
+#[cycle(compile)]
+fn admit(
+    alloc: Global,
+    calls: Calls<'_>,
+    asked: Option<CheckId>,
+    args: &mut Numbers,
+    reach: u32,
+    pre: &Option<Expr>,
+    check: Option<CheckId>,
+    work: &mut Work,
+) -> Result<Ends, NoMemory>
+    ensures made { IfOk result (λ r. IsMade work.old work.new
+        (admitting asked (inlined calls.entry.functions.now calls.entry.fuel None None) pre.now check
+        (length work.old.steps) args.old reach) r) }
+    ensures kept { IfOk result (λ _. args.new ≡ args.old) }
+{
+    match pre {
+        None => Ok(Ends {
+            out: reach,
+            alive: reach,
+        }),
+        Some(pre) => {
+            let x = value_of(alloc, calls, None, &None, args, reach, pre, work)?;
+            demand(work, asks(asked, check), x.alive, x.out)
+        }
+    }
+}
+
+/// The numbers of the measure values of a frame, where a measure list is written.
+#[cycle(compile)]
+pub(crate) fn frame_of(
+    alloc: Global,
+    calls: Calls<'_>,
+    asked: Option<CheckId>,
+    args: &mut Numbers,
+    reach: u32,
+    measure: &[Expr],
+    work: &mut Work,
+) -> Result<Framed, NoMemory>
+    ensures made { IfOk result (λ r. IsFramed work.old work.new
+        (measuring asked (inlined calls.entry.functions.now calls.entry.fuel asked None) measure.now
+        (length work.old.steps) args.old reach) r) }
+    ensures kept { IfOk result (λ _. args.new ≡ args.old) }
+{
+    if measure.is_empty() {
+        return Ok(Framed {
+            frame: None,
+            alive: reach,
+        });
+    }
+    let xs = values_of(alloc, calls, asked, &None, args, reach, measure, work)?;
+    Ok(Framed {
+        frame: Some(xs.out),
+        alive: xs.alive,
+    })
+}
+
+// The new measure values are below those of the calling frame, where both frames have values and the site a check.
+fn descend(
+    work: &mut Work,
+    asked: Option<CheckId>,
+    check: Option<CheckId>,
+    old: &Option<Numbers>,
+    new: &Option<Numbers>,
+    alive: u32,
+) -> Result<Ends, NoMemory>
+    ensures { IfOk result (λ r. IsMade work.old work.new
+        (descending asked check old.now new.now (length work.old.steps) alive) r) }
+{
+    match (check, old, new) {
+        (Some(c), Some(old), Some(new)) => {
+            let below = lower(work, new.as_slice(), old.as_slice(), alive)?;
+            demand(work, asks(asked, Some(c)), below.alive, below.out)
+        }
+        _ => Ok(Ends { out: alive, alive }),
+    }
+}
+
+// Whether the new measure values are below the old ones.
+fn lower(work: &mut Work, new: &[u32], old: &[u32], alive: u32) -> Result<Ends, NoMemory>
+    ensures { IfOk result (λ r. IsMade work.old work.new (lower new.now old.now (length work.old.steps) alive) r) }
+{
+    let falls = fall(work, new, old, alive)?;
+    shape(work, new, old, falls.out, alive)
+}
+
+// Whether some component goes down, and all before it are equal.
+fn fall(work: &mut Work, new: &[u32], old: &[u32], alive: u32) -> Result<Ends, NoMemory>
+    ensures { IfOk result (λ r. IsMade work.old work.new (falling new.now old.now (length work.old.steps) alive) r) }
+{
+    match (new.split_first(), old.split_first()) {
+        (Some((x, xs)), Some((y, ys))) => {
+            match xs.split_first() {
+                None => one(work, Step::GoesDown(*x, *y), alive),
+                Some(_) => {
+                    let down = emit(work, Step::GoesDown(*x, *y))?;
+                    let same = emit(work, Step::Binary(BinaryOp::Equal, *x, *y))?;
+                    let rest = fall(work, xs, ys, alive)?;
+                    later(work, down, same, rest.out, alive)
+                }
+            }
+        }
+        _ => one(work, Step::Bool(false), alive),
+    }
+}
+
+// The component goes down, or it is the same and a later one does.
+fn later(work: &mut Work, down: u32, same: u32, rest: u32, alive: u32) -> Result<Ends, NoMemory>
+    ensures { IfOk result (λ r. IsMade work.old work.new
+        (plain (steps.Both same rest ∷ steps.Choose down down (length work.old.steps) ∷ [])
+        (suc (length work.old.steps)) alive) r) }
+{
+    let both = emit(work, Step::Both(same, rest))?;
+    one(work, Step::Choose(down, down, both), alive)
+}
+
+// Whether the number is true, and the values of the lists are of one sort at each place.
+fn shape(work: &mut Work, new: &[u32], old: &[u32], test: u32, alive: u32) -> Result<Ends, NoMemory>
+    ensures { IfOk result (λ r. IsMade work.old work.new
+        (shaped new.now old.now (length work.old.steps) test alive) r) }
+{
+    match (new.split_first(), old.split_first()) {
+        (None, None) => Ok(Ends { out: test, alive }),
+        (Some((x, xs)), Some((y, ys))) => {
+            let alike = emit(work, Step::IsAlike(*x, *y))?;
+            let both = emit(work, Step::Both(test, alike))?;
+            shape(work, xs, ys, both, alive)
+        }
+        _ => one(work, Step::Bool(false), alive),
+    }
+}
+
+// The sort of a function's result; that of one that isn't there doesn't matter.
+fn result_at(functions: &[Function], f: FunctionId) -> Sort
+    ensures { result ≡ spec.result_of (slice_get functions.now f.0) }
+{
+    match at(functions, f.0 as usize) {
+        None => Sort::Bool,
+        Some(f) => f.result,
+    }
+}

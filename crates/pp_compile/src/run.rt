@@ -1,0 +1,188 @@
+//! The steps of a run.
+
+ghost use Rattle.std.specs.Prelude.{◌≡◌, ℕ, IfOk, List, [], ◌++◌, length};
+ghost use Rattle.pp_prog.specs.Sorts.{param_sorts};
+ghost use Rattle.pp_steps.specs.Compile.{compile};
+ghost use Rattle.pp_steps.specs.Frames.{allowing, any_of, arguments, finishing, inlined, run_steps, running, starting};
+ghost use Rattle.pp_compile.specs.Written.{AreMade, IsMade, IsRunOf, IsWritten};
+
+use crate::NoMemory;
+use crate::calls::{Calls, frame_of};
+use crate::emit::{demand, emit};
+use crate::exprs::{asks, value_of};
+use crate::work::{Ends, Lists, Run, Work};
+use pp_list::Items;
+use pp_prog::{CheckId, Expr, Function, Param};
+use pp_steps::{Numbers, Step};
+use std::alloc::Global;
+
+/// The steps of the run of a function with this fuel, of which the check is asked. The only error is want of memory,
+/// which is also more than 2^32 - 1 steps.
+pub fn compile_run(
+    alloc: Global,
+    functions: &[Function],
+    f: &Function,
+    check: CheckId,
+    fuel: u32,
+) -> Result<Run, NoMemory>
+    ensures { IfOk result (λ r. IsRunOf (run_steps functions.now f.now check fuel) r) }
+{
+    let mut work = Work {
+        steps: Items::new(alloc),
+        fails: Items::new(alloc),
+    };
+    let mut args = open(alloc, f.params.as_slice(), &mut work)?;
+    let calls = Calls { functions, fuel };
+    run(
+        alloc,
+        calls,
+        Some(check),
+        f,
+        &mut args.out,
+        args.alive,
+        &mut work,
+    )?;
+    let Work { steps, fails } = work;
+    let mut rest = Work {
+        steps,
+        fails: Items::new(alloc),
+    };
+    let found = any_of(&mut rest, fails.as_slice())?;
+    Ok(Run {
+        steps: rest.steps,
+        arguments: args.out,
+        fails: found,
+    })
+}
+
+// The arguments, and a number that is true.
+fn open(alloc: Global, params: &[Param], work: &mut Work) -> Result<Lists, NoMemory>
+    requires { work.old.steps ≡ [] }
+    ensures { IfOk result (λ r. AreMade work.old work.new (arguments (param_sorts params.now)) r) }
+{
+    let mut out = Items::new(alloc);
+    for param in params {
+        let argument = emit(work, Step::Open(param.sort))?;
+        out.push(argument)?;
+    }
+    let alive = emit(work, Step::Bool(true))?;
+    Ok(Lists { out, alive })
+}
+
+// The precondition, and where it is true the rest of the run.
+fn run(
+    alloc: Global,
+    calls: Calls<'_>,
+    asked: Option<CheckId>,
+    f: &Function,
+    args: &mut Numbers,
+    reach: u32,
+    work: &mut Work,
+) -> Result<Ends, NoMemory>
+    ensures made { IfOk result (λ r. IsMade work.old work.new
+        (running (inlined calls.entry.functions.now calls.entry.fuel asked) asked f.now
+        (length work.old.steps) args.old reach) r) }
+    ensures kept { IfOk result (λ _. args.new ≡ args.old) }
+{
+    let allowed = allow(alloc, calls, asked, args, reach, &f.pre, work)?;
+    start(alloc, calls, asked, f, args, allowed.alive, work)
+}
+
+// The precondition of the run itself.
+fn allow(
+    alloc: Global,
+    calls: Calls<'_>,
+    asked: Option<CheckId>,
+    args: &mut Numbers,
+    reach: u32,
+    pre: &Option<Expr>,
+    work: &mut Work,
+) -> Result<Ends, NoMemory>
+    ensures made { IfOk result (λ r. IsMade work.old work.new
+        (allowing asked (inlined calls.entry.functions.now calls.entry.fuel asked None) pre.now
+        (length work.old.steps) args.old reach) r) }
+    ensures kept { IfOk result (λ _. args.new ≡ args.old) }
+{
+    match pre {
+        None => Ok(Ends {
+            out: reach,
+            alive: reach,
+        }),
+        Some(pre) => {
+            let x = value_of(alloc, calls, asked, &None, args, reach, pre, work)?;
+            demand(work, false, x.alive, x.out)
+        }
+    }
+}
+
+// The measure list, the body and the postcondition of the run.
+fn start(
+    alloc: Global,
+    calls: Calls<'_>,
+    asked: Option<CheckId>,
+    f: &Function,
+    args: &mut Numbers,
+    reach: u32,
+    work: &mut Work,
+) -> Result<Ends, NoMemory>
+    ensures made { IfOk result (λ r. IsMade work.old work.new
+        (starting (inlined calls.entry.functions.now calls.entry.fuel asked) asked f.now
+        (length work.old.steps) args.old reach) r) }
+    ensures kept { IfOk result (λ _. args.new ≡ args.old) }
+{
+    let new = frame_of(alloc, calls, asked, args, reach, f.measure.as_slice(), work)?;
+    let x = value_of(
+        alloc, calls, asked, &new.frame, args, new.alive, &f.body, work,
+    )?;
+    args.push(x.out)?;
+    let end = finish(
+        alloc, calls, asked, &new.frame, &f.post, args, x.alive, work,
+    )?;
+    let _ = args.pop();
+    Ok(end)
+}
+
+// The postcondition, of the arguments and the result.
+fn finish(
+    alloc: Global,
+    calls: Calls<'_>,
+    asked: Option<CheckId>,
+    frame: &Option<Numbers>,
+    post: &Option<(CheckId, Expr)>,
+    values: &mut Numbers,
+    reach: u32,
+    work: &mut Work,
+) -> Result<Ends, NoMemory>
+    ensures made { IfOk result (λ r. IsMade work.old work.new
+        (finishing asked (inlined calls.entry.functions.now calls.entry.fuel asked frame.now) post.now
+        (length work.old.steps) values.old reach) r) }
+    ensures kept { IfOk result (λ _. values.new ≡ values.old) }
+{
+    match post {
+        None => Ok(Ends {
+            out: reach,
+            alive: reach,
+        }),
+        Some((check, post)) => {
+            let x = value_of(alloc, calls, asked, frame, values, reach, post, work)?;
+            demand(work, asks(asked, Some(*check)), x.alive, x.out)
+        }
+    }
+}
+
+// Whether one of the numbers is true.
+fn any_of(work: &mut Work, fails: &[u32]) -> Result<u32, NoMemory>
+    ensures written { IfOk result (λ _. IsWritten work.old work.new (any_of fails.now (length work.old.steps) 0)) }
+    ensures number { IfOk result (λ n. n ≡ (any_of fails.now (length work.old.steps) 0).out) }
+{
+    match fails.split_first() {
+        None => emit(work, Step::Bool(false)),
+        Some((first, more)) => match more.split_first() {
+            None => Ok(*first),
+            Some(_) => {
+                let some = any_of(work, more)?;
+                emit(work, Step::Choose(*first, *first, some))
+            }
+        },
+    }
+}

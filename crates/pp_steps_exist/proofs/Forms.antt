@@ -1,0 +1,442 @@
+-- The forms of expressions: their steps look at earlier ones alone.
+use Rattle.std.proofs.Common.{◌≡◌, ℕ, zero, suc, ◌+◌, ◌<◌, ◌≤◌, Bool, true, false, List, [], ◌∷◌, ◌++◌, length, map, Option, Some, None, sym, ap, ◌∙◌, subst, arith, length-append}
+use Rattle.std.specs.Prelude.{pos, slice_index_or}
+use Rattle.pp_prog.specs.declared.expr.BinaryOp.{BinaryOp}
+use Rattle.pp_prog.specs.declared.expr.BinaryOp.TheVariants.{AndAlso, OrElse, Div, Rem, Equal}
+use Rattle.pp_prog.specs.declared.expr.Pattern.{Pattern}
+use Rattle.pp_prog.specs.declared.expr.Pattern.TheFolds.{fold-roll-Pattern, ind-Pattern, map-Pattern}
+use Rattle.pp_prog.specs.declared.expr.Pattern.TheOpen as pattern
+use Rattle.pp_prog.specs.declared.expr.Pattern.TheViews.{roll-Pattern}
+use Rattle.pp_prog.specs.declared.id.CheckId.{CheckId}
+use Rattle.pp_prog.specs.declared.id.CtorId.{CtorId}
+use Rattle.pp_prog.specs.declared.id.FunctionId.{FunctionId}
+use Rattle.pp_steps.specs.declared.step.Step.{Step}
+use Rattle.pp_steps.specs.declared.step.Step.TheVariants as steps
+use Rattle.pp_steps.specs.Compile.{Arm, Compiling, Site, all, all_from, all_of, binary, branches, cases, deciding, matched, number_or, one, operating, quotient, skipping, unless, when}
+use Rattle.pp_steps.specs.Patterns.{Fitting, Matching, equals, fit_fields, fitting, fitting_step}
+use Rattle.pp_steps.specs.Piece.{Piece, after, asks, bind, choice, demand, failing, joined, plain, possible}
+use Rattle.pp_steps.specs.Reads.{AllRead, Below, Reads}
+use Rattle.pp_steps_exist.proofs.Within.{IsWithin, LessMaybe, LessOne, at_most, below_join, below_later, choice_within, demand_within, joined_within, one_within, plain_within, possible_within, read_join, unless_within, up, when_within}
+
+plus_zero : (a : ℕ) → a + 0 ≡ a
+plus_zero a = omega arith
+
+pub below_end : (k n : ℕ) (env : List ℕ) → Below k env → Below (k + n) env
+below_end k n env h = below_later k (k + n) env (at_most k n) h
+
+pub below_more : (k : ℕ) (env : List ℕ) (x : ℕ) → Below k env → x < k → Below k (env ++ x ∷ [])
+below_more k env x h g = below_join k env (x ∷ []) h (g, tt)
+
+pub variable_below : (k : ℕ) (env : List ℕ) (i reach : ℕ) → Below k env → reach < k → slice_index_or env i 0 < k
+variable_below k [] i reach h g = positive reach k g
+  where
+    positive : (a b : ℕ) → a < b → 0 < b
+    positive a b h = omega arith
+variable_below k (n ∷ env) zero reach h g = h.0
+variable_below k (n ∷ env) (suc i) reach h g = variable_below k env i reach h.1 g
+
+up_to : (a b n : ℕ) → a ≤ b → a ≤ b + n
+up_to a b n h = omega arith
+
+module _ (base : ℕ) where
+  -- numbers in scope, from number `base` on
+  abbrev pub Scope : ℕ → List ℕ → Type 0
+  Scope k env = (base ≤ k) × Below k env
+
+  scope_end : (k n : ℕ) (env : List ℕ) → Scope k env → Scope (k + n) env
+  scope_end k n env h = (up_to base k n h.0, below_end k n env h.1)
+
+  scope_more : (k : ℕ) (env : List ℕ) (x : ℕ) → Scope k env → x < k → Scope k (env ++ x ∷ [])
+  scope_more k env x h g = (h.0, below_more k env x h.1 g)
+
+  scope_join : (k : ℕ) (env ns : List ℕ) → Scope k env → Below k ns → Scope k (env ++ ns)
+  scope_join k env ns h g = (h.0, below_join k env ns h.1 g)
+
+  -- in a scope of earlier numbers, reached at an earlier one
+  abbrev pub Stays : Compiling → Type 0
+  Stays m = (k : ℕ) (env : List ℕ) (reach : ℕ) → Scope k env → reach < k → IsWithin LessOne k (m k env reach)
+
+  pub val_stays : (m n : Compiling) → Stays m → Stays n
+      → Stays (λ k env reach. bind k (m k env reach) (λ i x alive. n i (env ++ x ∷ []) alive))
+  val_stays m n hm hn k env reach e r =
+      let x = m k env reach in
+      let w = hm k env reach e r in
+      joined_within k x (n (after k x) (env ++ x.out ∷ []) x.alive) w
+      (hn (after k x) (env ++ x.out ∷ []) x.alive
+      (scope_more (after k x) env x.out (scope_end k (length x.steps) env e) w.out) w.alive)
+
+  -- a step of the outcome
+  pub map_stays : (m : Compiling) (s : ℕ → Step) → Stays m → ((k a : ℕ) → a < k → Reads k (s a))
+      → Stays (λ k env reach. bind k (m k env reach) (λ n x alive. one (s x) n alive))
+  map_stays m s hm r k env reach e g =
+      let x = m k env reach in
+      let w = hm k env reach e g in
+      joined_within k x (one (s x.out) (after k x) x.alive) w
+      (one_within (s x.out) (after k x) x.alive (r (after k x) x.out w.out) w.alive)
+
+  -- ---- operators
+
+  suc_up : (a k : ℕ) → a < k → a < suc k
+  suc_up a k h = omega arith
+
+  suc_self : (k : ℕ) → k < suc k
+  suc_self k = omega arith
+
+  two_end : (k : ℕ) → suc (suc k) < k + 3
+  two_end k = omega arith
+
+  quotient_within : (asked : Option CheckId) (op : BinaryOp) (check : Option CheckId) (k alive x y : ℕ) → alive < k
+      → x < k → y < k → IsWithin LessOne k (quotient asked op check k alive x y)
+  quotient_within asked op check k alive x y a p q =
+      let z : Piece ℕ = plain (steps.Int (pos 0) ∷ steps.Binary Equal y k ∷ steps.Not (suc k) ∷ [])
+      (suc (suc k)) alive in
+      let n = after k z in
+      let d = demand (asks asked check) n alive (suc (suc k)) in
+      let wz = plain_within {R = LessOne} k z.steps (suc (suc k)) alive
+      (tt, ((suc_up y k q, suc_self k), (suc_self (suc k), tt))) (two_end k) a in
+      let wd = demand_within (asks asked check) n alive (suc (suc k)) (up alive k 3 a) (two_end k) in
+      joined_within k z (joined d (one (steps.Binary op x y) (after n d) d.alive)) wz
+      (joined_within n d (one (steps.Binary op x y) (after n d) d.alive) wd
+      (one_within (steps.Binary op x y) (after n d) d.alive
+      (up x n (length d.steps) (up x k 3 p), up y n (length d.steps) (up y k 3 q)) wd.alive))
+
+  operating_within : (asked : Option CheckId) (op : BinaryOp) (check : Option CheckId) (k alive x y : ℕ) → alive < k
+      → x < k → y < k → IsWithin LessOne k (operating asked op check k alive x y)
+  operating_within asked Div check k alive x y a p q = quotient_within asked Div check k alive x y a p q
+  operating_within asked Rem check k alive x y a p q = quotient_within asked Rem check k alive x y a p q
+  operating_within asked op check k alive x y a p q = one_within (steps.Binary op x y) k alive (p, q) a
+
+  skip_within : (b : Compiling) → Stays b → (k : ℕ) (env : List ℕ) (taken x alive : ℕ) → Scope k env → taken < k
+      → x < k → alive < k → IsWithin LessOne k (skipping b k env taken x alive)
+  skip_within b hb k env taken x alive e t o a =
+      let y = b k env taken in
+      let z : Piece (Option ℕ) = plain [] (Some x) alive in
+      let up_x : x < after (after k y) z = up x (after k y) 0 (up x k (length y.steps) o) in
+      subst (λ (n : ℕ). IsWithin LessOne k (choice n taken y z)) (plus_zero (after k y))
+      (choice_within k taken y z t (hb k env taken e t)
+      (plain_within {R = LessMaybe} (after k y) [] (Some x) alive tt up_x (up alive k (length y.steps) a)))
+
+  pub binary_stays : (asked : Option CheckId) (op : BinaryOp) (check : Option CheckId) (a b : Compiling) → Stays a
+      → Stays b → Stays (binary asked op a b check)
+  binary_stays asked AndAlso check a b ha hb k env reach e r =
+      let x = a k env reach in
+      let n = after k x in
+      let w = when n x.alive x.out in
+      let hx = ha k env reach e r in
+      let hw = when_within n x.alive x.out hx.alive hx.out in
+      joined_within k x (joined w (skipping b (after n w) env n x.out x.alive)) hx
+      (joined_within n w (skipping b (after n w) env n x.out x.alive) hw
+      (skip_within b hb (after n w) env n x.out x.alive
+      (scope_end n 1 env (scope_end k (length x.steps) env e)) hw.out (up x.out n 1 hx.out) (up x.alive n 1 hx.alive)))
+  binary_stays asked OrElse check a b ha hb k env reach e r =
+      let x = a k env reach in
+      let n = after k x in
+      let w = unless n x.alive x.out in
+      let hx = ha k env reach e r in
+      let hw = unless_within n x.alive x.out hx.alive hx.out in
+      joined_within k x (joined w (skipping b (after n w) env (suc n) x.out x.alive)) hx
+      (joined_within n w (skipping b (after n w) env (suc n) x.out x.alive) hw
+      (skip_within b hb (after n w) env (suc n) x.out x.alive
+      (scope_end n 2 env (scope_end k (length x.steps) env e)) hw.out (up x.out n 2 hx.out) (up x.alive n 2 hx.alive)))
+  binary_stays asked op check a b ha hb k env reach e r =
+      let x = a k env reach in
+      let n = after k x in
+      let y = b n env x.alive in
+      let hx = ha k env reach e r in
+      let hy = hb n env x.alive (scope_end k (length x.steps) env e) hx.alive in
+      joined_within k x (joined y (operating asked op check (after n y) y.alive x.out y.out)) hx
+      (joined_within n y (operating asked op check (after n y) y.alive x.out y.out) hy
+      (operating_within asked op check (after n y) y.alive x.out y.out hy.alive
+      (up x.out n (length y.steps) hx.out) hy.out))
+
+  -- ---- conditions
+
+  branches_within : (a b : Compiling) → Stays a → Stays b → (k : ℕ) (env : List ℕ) (taken missed : ℕ) → Scope k env
+      → taken < k → missed < k → IsWithin LessOne k (branches a b k env taken missed)
+  branches_within a b ha hb k env taken missed e t m =
+      let x = a k env taken in
+      let y = b (after k x) env missed in
+      choice_within k taken x (possible y) t (ha k env taken e t)
+      (possible_within (after k x) y
+      (hb (after k x) env missed (scope_end k (length x.steps) env e) (up missed k (length x.steps) m)))
+
+  pub if_stays : (c a b : Compiling) → Stays c → Stays a → Stays b
+      → Stays (λ k env reach. bind k (c k env reach)
+      (λ n x alive. bind n (when n alive x)
+      (λ m taken _. bind m (unless m alive x) (λ l missed _. branches a b l env taken missed))))
+  if_stays c a b hc ha hb k env reach e r =
+      let x = c k env reach in
+      let n = after k x in
+      let w = when n x.alive x.out in
+      let m = after n w in
+      let u = unless m x.alive x.out in
+      let l = after m u in
+      let hx = hc k env reach e r in
+      let hw = when_within n x.alive x.out hx.alive hx.out in
+      let hu = unless_within m x.alive x.out (up x.alive n 1 hx.alive) (up x.out n 1 hx.out) in
+      joined_within k x (joined w (joined u (branches a b l env n (suc m)))) hx
+      (joined_within n w (joined u (branches a b l env n (suc m))) hw
+      (joined_within m u (branches a b l env n (suc m)) hu
+      (branches_within a b ha hb l env n (suc m)
+      (scope_end m 2 env (scope_end n 1 env (scope_end k (length x.steps) env e))) (up n m 2 hw.out) hu.out)))
+
+  pub assert_stays : (asked check : Option CheckId) (c rest : Compiling) → Stays c → Stays rest
+      → Stays (λ k env reach. bind k (c k env reach)
+      (λ n x alive. bind n (demand (asks asked check) n alive x) (λ m _ going. rest m env going)))
+  assert_stays asked check c rest hc hr k env reach e r =
+      let x = c k env reach in
+      let n = after k x in
+      let d = demand (asks asked check) n x.alive x.out in
+      let hx = hc k env reach e r in
+      let hd = demand_within (asks asked check) n x.alive x.out hx.alive hx.out in
+      joined_within k x (joined d (rest (after n d) env d.alive)) hx
+      (joined_within n d (rest (after n d) env d.alive) hd
+      (hr (after n d) env d.alive (scope_end n (length d.steps) env (scope_end k (length x.steps) env e)) hd.alive))
+
+  -- ---- lists
+
+  abbrev pub AllStay : List Compiling → Type 0
+  AllStay [] = Unit {0}
+  AllStay (m ∷ ms) = Stays m × AllStay ms
+
+  pub all_within : (ms : List Compiling) → AllStay ms → (done : List ℕ) (k : ℕ) (env : List ℕ) (reach : ℕ)
+      → Below k done → Scope k env → reach < k → IsWithin Below k (all_from done ms k env reach)
+  all_within [] h done k env reach d e r =
+      plain_within {R = Below} k [] done reach tt (subst (λ n. Below n done) (sym (plus_zero k)) d) r
+  all_within (m ∷ ms) h done k env reach d e r =
+      let x = m k env reach in
+      let w = h.0 k env reach e r in
+      joined_within k x (all_from (done ++ x.out ∷ []) ms (after k x) env x.alive) w
+      (all_within ms h.1 (done ++ x.out ∷ []) (after k x) env x.alive
+      (below_more (after k x) done x.out (below_end k (length x.steps) done d) w.out)
+      (scope_end k (length x.steps) env e) w.alive)
+
+  -- the steps of a call look at earlier ones
+  abbrev pub SiteStays : Site → Type 0
+  SiteStays site = (k reach : ℕ) (g : FunctionId) (pre down : Option CheckId) (args : List ℕ) → base ≤ k → reach < k
+      → Below k args → IsWithin LessOne k (site k reach g pre down args)
+
+  pub construct_stays : (ms : List Compiling) → AllStay ms → (c : CtorId)
+      → Stays (λ k env reach. bind k (all ms k env reach) (λ n xs alive. one (steps.Construct c xs) n alive))
+  construct_stays ms h c k env reach e r =
+      let x = all ms k env reach in
+      let w = all_within ms h [] k env reach tt e r in
+      joined_within k x (one (steps.Construct c x.out) (after k x) x.alive) w
+      (one_within (steps.Construct c x.out) (after k x) x.alive w.out w.alive)
+
+  pub call_stays : (ms : List Compiling) → AllStay ms → (site : Site) → SiteStays site
+      → (g : FunctionId) (pre down : Option CheckId)
+      → Stays (λ k env reach. bind k (all ms k env reach) (λ n xs alive. site n alive g pre down xs))
+  call_stays ms h site hs g pre down k env reach e r =
+      let x = all ms k env reach in
+      let w = all_within ms h [] k env reach tt e r in
+      joined_within k x (site (after k x) x.alive g pre down x.out) w
+      (hs (after k x) x.alive g pre down x.out (up_to base k (length x.steps) e.0) w.alive w.out)
+
+  -- ---- patterns
+
+  -- the steps look at earlier ones, and the tests and the bound numbers are those of steps that stand
+  pub record IsFittingWithin (k : ℕ) (x : Fitting) : Type 0 where
+    pub reads : AllRead k x.steps
+    pub tests : Below (k + length x.steps) x.tests
+    pub bound : Below (k + length x.steps) x.bound
+
+  abbrev pub FitsWithin : Pattern → Type 0
+  FitsWithin p = (k t : ℕ) → t < k → IsFittingWithin k (fitting p k t)
+
+  equals_within : (s : Step) (k t : ℕ) → Reads k s → t < k → IsFittingWithin k (equals s k t)
+  equals_within s k t r h =
+      record { reads = (r, ((suc_self k, suc_up t k h), tt)); tests = (end_two k, tt); bound = tt }
+    where
+      end_two : (k : ℕ) → suc k < k + 2
+      end_two k = omega arith
+
+  abbrev P : Type 0
+  P = (p : Pattern) × FitsWithin p
+
+  abbrev inner_of : List P → List Matching
+  inner_of ps = map fitting (map (λ y. y.0) ps)
+
+  assoc : (a b c : ℕ) → suc a + b + c ≡ a + suc (b + c)
+  assoc a b c = omega arith
+
+  le_sum : (a b c : ℕ) → suc a + b ≤ a + suc (b + c)
+  le_sum a b c = omega arith
+
+  fields_within : (c : CtorId) (ps : List P) (j k t : ℕ) → t < k → IsFittingWithin k (fit_fields c j (inner_of ps) k t)
+  fields_within c [] j k t h = record { reads = tt; tests = tt; bound = tt }
+  fields_within c (p ∷ ps) j k t h =
+      let x = fitting p.0 (suc k) k in
+      let n = suc k + length x.steps in
+      let y = fit_fields c (suc j) (inner_of ps) n t in
+      let hx = p.1 (suc k) k (suc_self k) in
+      let hy = fields_within c ps (suc j) n t (up t (suc k) (length x.steps) (suc_up t k h)) in
+      let e : n + length y.steps ≡ k + suc (length (x.steps ++ y.steps)) = assoc k (length x.steps) (length y.steps)
+      ∙ ap (λ m. k + suc m) (sym (length-append x.steps y.steps)) in
+      let le = at_most n (length y.steps) in
+      record {
+        reads = (h, read_join (suc k) x.steps y.steps hx.reads hy.reads);
+        tests = subst (λ m. Below m (x.tests ++ y.tests)) e
+            (below_join (n + length y.steps) x.tests y.tests
+            (below_later n (n + length y.steps) x.tests le hx.tests) hy.tests);
+        bound = subst (λ m. Below m (x.bound ++ y.bound)) e
+            (below_join (n + length y.steps) x.bound y.bound
+            (below_later n (n + length y.steps) x.bound le hx.bound) hy.bound);
+      }
+
+  abbrev under : pattern.Pattern-F P → pattern.Pattern-F Pattern
+  under y = map-Pattern P Pattern (λ z. z.0) y
+
+  pattern_level : (y : pattern.Pattern-F P) (k t : ℕ) → t < k
+      → IsFittingWithin k (fitting_step (map-Pattern Pattern Matching fitting (under y)) k t)
+  pattern_level pattern.Any k t h = record { reads = tt; tests = tt; bound = tt }
+  pattern_level (pattern.Bind inner) k t h =
+      let w = inner.1 k t h in
+      record { reads = w.reads; tests = w.tests; bound = (up t k (length (fitting inner.0 k t).steps) h, w.bound) }
+  pattern_level (pattern.Int n) k t h = equals_within (steps.Int n) k t tt h
+  pattern_level (pattern.Bool b) k t h = equals_within (steps.Bool b) k t tt h
+  pattern_level (pattern.Ctor c ps) k t h =
+      let x = fit_fields c 0 (inner_of ps) (suc k) t in
+      let w = fields_within c ps 0 (suc k) t (suc_up t k h) in
+      let e = plus_suc k (length x.steps) in
+      record {
+        reads = (h, w.reads);
+        tests = (first k (length x.steps), subst (λ m. Below m x.tests) e w.tests);
+        bound = subst (λ m. Below m x.bound) e w.bound;
+      }
+    where
+      plus_suc : (a b : ℕ) → suc a + b ≡ a + suc b
+      plus_suc a b = omega arith
+
+      first : (a b : ℕ) → a < a + suc b
+      first a b = omega arith
+
+  pattern_at : (y : pattern.Pattern-F P) → FitsWithin (roll-Pattern (under y))
+  pattern_at y = subst (λ (f : Matching). (k t : ℕ) → t < k → IsFittingWithin k (f k t))
+      (sym (fold-roll-Pattern Matching fitting_step (under y))) (pattern_level y)
+
+  pub pattern_within : (p : Pattern) → FitsWithin p
+  pattern_within = ind-Pattern FitsWithin (λ x y is. subst (λ z. FitsWithin (roll-Pattern z)) is (pattern_at y))
+
+  -- ---- matches
+
+  all_of_within : (ts : List ℕ) (k alive : ℕ) → Below k ts → alive < k → IsWithin LessOne k (all_of k ts alive)
+  all_of_within [] k alive h a = plain_within {R = LessOne} k [] alive alive tt (up alive k 0 a) a
+  all_of_within (t ∷ ts) k alive h a =
+      let w = when k alive t in
+      let hw = when_within k alive t a h.0 in
+      joined_within k w (all_of (after k w) ts k) hw (all_of_within ts (after k w) k (below_end k 1 ts h.1) hw.out)
+
+  abbrev LessBoth : ℕ → ℕ × ℕ → Type 0
+  LessBoth k p = (p.0 < k) × (p.1 < k)
+
+  abbrev pub GuardStays : Option Compiling → Type 0
+  GuardStays None = Unit {0}
+  GuardStays (Some g) = Stays g
+
+  deciding_within : (o : Option Compiling) → GuardStays o → (k : ℕ) (env : List ℕ) (reach fits : ℕ) → Scope k env
+      → reach < k → fits < k → IsWithin LessBoth k (deciding o k env reach fits)
+  deciding_within None h k env reach fits e r f =
+      let u = unless k reach fits in
+      let hu = unless_within k reach fits r f in
+      joined_within k u (plain [] (fits, suc k) reach) hu
+      (plain_within {R = LessBoth} (after k u) [] (fits, suc k) reach tt
+      (up fits (after k u) 0 (up fits k 2 f), up (suc k) (after k u) 0 hu.out) (up reach k 2 r))
+  deciding_within (Some g) h k env reach fits e r f =
+      let x = g k env fits in
+      let n = after k x in
+      let w = when n x.alive x.out in
+      let m = after n w in
+      let u = unless m x.alive x.out in
+      let l = after m u in
+      let z : Piece (ℕ × ℕ) = plain (steps.Choose fits (suc m) reach ∷ []) (n, l) reach in
+      let hx = h k env fits e f in
+      let hw = when_within n x.alive x.out hx.alive hx.out in
+      let hu = unless_within m x.alive x.out (up x.alive n 1 hx.alive) (up x.out n 1 hx.out) in
+      let far = λ (a : ℕ) (q : a < k). up a m 2 (up a n 1 (up a k (length x.steps) q)) in
+      joined_within k x (joined w (joined u z)) hx
+      (joined_within n w (joined u z) hw
+      (joined_within m u z hu
+      (plain_within {R = LessBoth} l z.steps (n, l) reach ((far fits f, hu.out, far reach r), tt)
+      (up n l 1 (up n m 2 hw.out), end_one l) (far reach r))))
+    where
+      end_one : (k : ℕ) → k < k + 1
+      end_one k = omega arith
+
+  pub record ArmStays (x : Arm) : Type 0 where
+    pub guard : GuardStays x.guard
+    pub body : Stays x.body
+
+  abbrev pub AllArms : List Arm → Type 0
+  AllArms [] = Unit {0}
+  AllArms (x ∷ xs) = ArmStays x × AllArms xs
+
+  module _ (asked : Option CheckId) where
+    failing_within : (b : Bool) (k reach : ℕ) → reach < k → Below (k + 1) (failing b reach)
+    failing_within true k reach r = (up reach k 1 r, tt)
+    failing_within false k reach r = tt
+
+    cases_within : (xs : List Arm) → AllArms xs → (check : Option CheckId) (t k : ℕ) (env : List ℕ) (reach : ℕ)
+        → t < k → Scope k env → reach < k
+        → IsWithin LessMaybe k (cases asked xs check t k env reach)
+    cases_within [] h check t k env reach ht e r = record {
+      reads =
+          (tt, tt);
+      out = tt;
+      alive = end_one k;
+      fails = failing_within (asks asked check) k reach r;
+    }
+      where
+        end_one : (k : ℕ) → k < k + 1
+        end_one k = omega arith
+    cases_within (x ∷ xs) h check t k env reach ht e r =
+        let f = fitting x.pattern k t in
+        let wf = pattern_within x.pattern k t ht in
+        let inner = env ++ f.bound in
+        let p : Piece ℕ = plain f.steps t reach in
+        let kt = after k p in
+        let y = all_of kt f.tests reach in
+        let kg = after kt y in
+        let g = deciding x.guard kg inner reach y.out in
+        let l = after kg g in
+        let b = x.body l inner g.out.0 in
+        let rest = cases asked xs check t (after l b) env g.out.1 in
+        let c = choice (after (after l b) rest) g.out.0 b rest in
+        let hp = plain_within {R = LessOne} k f.steps t reach wf.reads (up t k (length f.steps) ht) r in
+        let rt = up reach k (length f.steps) r in
+        let hy = all_of_within f.tests kt reach wf.tests rt in
+        let et = scope_end k (length f.steps) env e in
+        let it = scope_join kt env f.bound et wf.bound in
+        let ig = scope_end kt (length y.steps) inner it in
+        let hg = deciding_within x.guard h.0.guard kg inner reach y.out ig (up reach kt (length y.steps) rt) hy.out in
+        let il = scope_end kg (length g.steps) inner ig in
+        let hb = h.0.body l inner g.out.0 il hg.out.0 in
+        let el = scope_end kg (length g.steps) env (scope_end kt (length y.steps) env et) in
+        let tl = up t kg (length g.steps) (up t kt (length y.steps) (up t k (length f.steps) ht)) in
+        let hr = cases_within xs h.1 check t (after l b) env g.out.1 (up t l (length b.steps) tl)
+        (scope_end l (length b.steps) env el) (up g.out.1 l (length b.steps) hg.out.1) in
+        possible_within k (joined p (joined y (joined g c)))
+        (joined_within k p (joined y (joined g c)) hp
+        (joined_within kt y (joined g c) hy
+        (joined_within kg g c hg (choice_within l g.out.0 b rest hg.out.0 hb hr))))
+
+    number_below : (k t : ℕ) (o : Option ℕ) → t < k → LessMaybe k o → number_or t o < k
+    number_below k t None h g = h
+    number_below k t (Some n) h g = g
+
+    pub match_stays : (m : Compiling) → Stays m → (xs : List Arm) → AllArms xs → (check : Option CheckId)
+        → Stays (λ k env reach. bind k (m k env reach) (λ n t alive. matched t (cases asked xs check t n env alive)))
+    match_stays m hm xs h check k env reach e r =
+        let x = m k env reach in
+        let hx = hm k env reach e r in
+        let y = cases asked xs check x.out (after k x) env x.alive in
+        let hy = cases_within xs h check x.out (after k x) env x.alive hx.out
+        (scope_end k (length x.steps) env e) hx.alive in
+        joined_within k x (matched x.out y) hx
+        (record {
+          reads = hy.reads;
+          out = number_below (after (after k x) y) x.out y.out
+              (up x.out (after k x) (length y.steps) hx.out) hy.out;
+          alive = hy.alive;
+          fails = hy.fails;
+        })

@@ -1,0 +1,5 @@
+mod Within
+mod Forms
+mod Exprs
+mod Solve
+mod Laws
