@@ -33,7 +33,7 @@ run or_wrong.scala
 check 'an invalid function' 1 \
     "$(printf 'or: invalid, postcondition at 1:2:63, a = true, b = false\n0 valid, 1 invalid, 0 open, 0 depending')" ''
 run refused.scala
-check 'a refused source' 3 '' 'refused: other form'
+check 'a refused source' 3 '' 'refused: syntax at 1:1:11'
 run
 check 'no words' 4 '' 'words refused'
 run --help
@@ -54,6 +54,40 @@ fi
 head -c 262145 /dev/zero | tr '\0' ' ' > long.scala
 run long.scala
 check 'a file that is too long' 3 '' 'refused: too long source 1'
+
+cat > edge.scala <<'SOURCE'
+object A {
+  def edge(): Int = Int.MinValue / -1 + -7 % 3
+  def e[A](): Int = 1
+}
+SOURCE
+run --mode run --function edge edge.scala
+check 'a run' 0 'edge = 2147483647' ''
+run --mode run '--function=e[Int]' edge.scala
+check 'a run of an instance' 0 'e[Int] = 1' ''
+run --mode run --function absent edge.scala
+check 'a run of no function' 4 '' 'words refused'
+printf 'object B {\n  sealed abstract class T\n  case class C(n: Int) extends T\n}\n' > types.scala
+printf 'object D {\n  import B._\n  def c(): T = C(7)\n}\n' > uses.scala
+run --mode run --function c uses.scala types.scala
+check 'two sources' 0 'c = C(7)' ''
+run --mode run --function c uses.scala absent.scala
+check 'a missing second file' 5 '' 'read fault: absent.scala'
+cp edge.scala ./-x
+run --mode=run --function=edge -- -x
+check 'a file named as an option' 0 'edge = 2147483647' ''
+sed 's/$/\r/' edge.scala > crlf.scala
+run --mode run --function edge crlf.scala
+check 'carriage returns' 0 'edge = 2147483647' ''
+sixteen=()
+for n in 01 02 03 04 05 06 07 08 09 10 11 12 13 14 15 16; do
+    printf 'object O%s {\n  def f%s(): Int = %s\n}\n' "$n" "$n" "$((10#$n))" > "many$n.scala"
+    sixteen+=("many$n.scala")
+done
+run --mode run --function f16 "${sixteen[@]}"
+check 'sixteen sources' 0 'f16 = 16' ''
+run --mode run --function f16 "${sixteen[@]}" edge.scala
+check 'seventeen sources' 4 '' 'words refused'
 
 : > out
 if [ -w /dev/full ]; then

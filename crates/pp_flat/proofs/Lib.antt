@@ -1,3 +1,7 @@
+pub mod Free
+pub mod Each
 pub mod Truths
+pub mod Alike
+pub mod Same
 pub mod Ends
-pub mod Lists
+pub mod Taken

@@ -1,36 +1,45 @@
 -- What the steps of the search for failing arguments say of one another. The verdict's own meaning is in `Verdicts`.
-use Rattle.std.specs.Prelude.{◌≡◌, ◌⊎◌, ◌+◌, ◌++◌, ℕ, Bool, List, Option, None, Some, length, map, slice_get}
+use Rattle.std.specs.Prelude.{◌≡◌, ◌≤◌, ◌++◌, ℕ, Bool, List, Option, None, Some, length, map, slice_get}
 use Rattle.pp_prog.specs.declared.expr.Function.{Function}
 use Rattle.pp_prog.specs.declared.id.CheckId.{CheckId}
-use Rattle.pp_prog.specs.declared.types.Ctor.{Ctor}
+use Rattle.pp_prog.specs.declared.program.Program.{Program}
 use Rattle.pp_prog.specs.declared.value.Value.{Value}
 use Rattle.pp_prog.specs.declared.value.Value.TheVariants.{Bool as Truth}
 use Rattle.pp_eval.specs.declared.outcome.Outcome.{Outcome}
-use Rattle.pp_eval.specs.declared.outcome.Outcome.TheVariants.{Done, Fails, Outside}
+use Rattle.pp_eval.specs.declared.outcome.Outcome.TheVariants.{Fails}
 use Rattle.pp_eval.specs.Runs.{run_at}
+use Rattle.pp_flat.specs.declared.verdict.Verdict.{Verdict}
+use Rattle.pp_flat.specs.declared.verdict.Verdict.TheVariants.{Invalid, Valid}
 
 -- truth values as arguments
 abbrev pub truths : List Bool → List Value
 truths = map Truth
 
--- the run of the function with this number on truth values
-abbrev pub run_on : List Ctor → List Function → ℕ → List Bool → Outcome
-run_on ctors functions f bits = run_at ctors functions (slice_get functions f) (truths bits) 0
+-- how many parameters the function has
+abbrev pub arity : Option Function → ℕ
+arity None = 0
+arity (Some f) = length f.params
 
--- the run isn't allowed, or meets the contract
-abbrev pub IsFine : Outcome → Type 0
-IsFine o = (o ≡ Outside) ⊎ ((v : Value) × (o ≡ Done v))
+-- the run of function number i on truth values
+abbrev pub run_on : Program → ℕ → List Bool → Outcome
+run_on p i bits = run_at p.types.ctors p.functions (slice_get p.functions i) (truths bits) 0
 
--- the check that a run fails, if it fails one
-abbrev pub IsFailure : Option CheckId → Outcome → Type 0
-IsFailure None o = IsFine o
-IsFailure (Some c) o = o ≡ Fails c
+-- the verdict names this check or an earlier one
+abbrev pub IsAsEarly : Verdict → CheckId → Type 0
+IsAsEarly Valid d = ⊥
+IsAsEarly (Invalid c args) d = c.0 ≤ d.0
 
--- each run on truth values that go on with so many more is fine
-abbrev pub AreFine : List Ctor → List Function → ℕ → List Bool → ℕ → Type 0
-AreFine ctors functions f bits left = (rest : List Bool) → length rest ≡ left → IsFine (run_on ctors functions f (bits ++ rest))
+-- the verdict's arguments are truth values, one a parameter, and fail its check
+abbrev pub IsWitnessed : Program → ℕ → Verdict → Type 0
+IsWitnessed p i Valid = Unit {0}
+IsWitnessed p i (Invalid c args) =
+    (bits : List Bool) × (args ≡ truths bits) × (length bits ≡ arity (slice_get p.functions i))
+    × (run_on p i bits ≡ Fails c)
 
--- none fails a check among the argument lists that go on from the old truth values, which stay; or the new ones fail it
-abbrev pub IsRefutation : List Ctor → List Function → ℕ → List Bool → List Bool → ℕ → Option CheckId → Type 0
-IsRefutation ctors functions f old new left None = AreFine ctors functions f old left × (new ≡ old)
-IsRefutation ctors functions f old new left (Some c) = (length new ≡ length old + left) × (run_on ctors functions f new ≡ Fails c)
+-- the runs on the argument lists that go on from these truth values with so many more were taken into the verdict: it
+-- is witnessed, as early as the old one was, and as early as each check that one of the runs fails
+pub record AreTaken (p : Program) (i : ℕ) (bits : List Bool) (left : ℕ) (old new : Verdict) : Type 0 where
+  pub witnessed : IsWitnessed p i new
+  pub kept : (d : CheckId) → IsAsEarly old d → IsAsEarly new d
+  pub early : (rest : List Bool) → length rest ≡ left → (d : CheckId) → run_on p i (bits ++ rest) ≡ Fails d
+      → IsAsEarly new d

@@ -1,4 +1,4 @@
-pub mod Arising
 pub mod Showing
-pub mod Cases
-pub mod Rows
+pub mod Ending
+pub mod Held
+pub mod Ranges

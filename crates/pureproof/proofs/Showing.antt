@@ -4,11 +4,11 @@ use Rattle.std.specs.Io.KnownBytes.{Appends}
 use Rattle.pp_seam.specs.Faults.{Rose}
 use Rattle.pp_seam.specs.Pieces.{AppendsFront}
 use Rattle.pp_print.specs.Refusals.{write_fault_text}
-use Rattle.pureproof.specs.Dues.{refusal, report}
+use Rattle.pp_modes.specs.Responses.{refusal, report}
 use Rattle.pureproof.specs.Shown.{Shows, Took, TookLines, both_cut, cut}
-use Rattle.pureproof.specs.Words.{Text}
-use Rattle.pureproof.specs.declared.status.Status.{Status}
-use Rattle.pureproof.specs.declared.status.Status.TheVariants as status
+use Rattle.pureproof.specs.Fetched.{Text}
+use Rattle.pp_modes.specs.declared.status.Status.{Status}
+use Rattle.pp_modes.specs.declared.status.Status.TheVariants as status
 
 pub after_fault : {T F : Type 0} (s : Status) (lines : List Text) (out err : Took) (r : Result T F) (piece : Text) → TookLines out lines → piece ≡ write_fault_text
     → OnOk r (Appends err.before err.after piece) → OnErr r (AppendsFront err.before err.after piece) → OnErr r (Rose err.faults err.faults_after) → OnOk r (err.faults_after ≡ err.faults)

@@ -1,7 +1,4 @@
-pub mod Words
-pub mod Codes
-pub mod Report
+pub mod Fetched
 pub mod Dues
 pub mod Shown
-pub mod Seen
-pub mod Causes
+pub mod Ends

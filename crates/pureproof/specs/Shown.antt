@@ -6,10 +6,10 @@ use Rattle.pp_seam.specs.Faults.{Rose}
 use Rattle.pp_seam.specs.Pieces.{AppendsFront}
 use Rattle.pp_print.specs.Puts.{IsCut}
 use Rattle.pp_print.specs.Refusals.{write_fault_text}
-use Rattle.pureproof.specs.Dues.{Due, refusal, report}
-use Rattle.pureproof.specs.Words.{Text}
-use Rattle.pureproof.specs.declared.status.Status.{Status}
-use Rattle.pureproof.specs.declared.status.Status.TheVariants as status
+use Rattle.pp_modes.specs.Responses.{Response, refusal, report}
+use Rattle.pureproof.specs.Fetched.{Text}
+use Rattle.pp_modes.specs.declared.status.Status.{Status}
+use Rattle.pp_modes.specs.declared.status.Status.TheVariants as status
 
 -- a sink before and after: the bytes that it took, where they are told, and how often it failed
 pub record Took : Type 0 where
@@ -44,7 +44,7 @@ pub record TookLines (took : Took) (lines : List Text) : Type 0 where
 
 -- the lines of a report are put on `out`, and the line of a refusal on `err`; after a fault on `out` nothing more is put
 -- there, and `err` gets the line of that fault
-pub data Shows (out err : Took) : Due → Status → Type 0 where
+pub data Shows (out err : Took) : Response → Status → Type 0 where
   printed : (s : Status) (lines : List Text) → TookAll out (concat lines) → IsStill err → Shows out err (report s lines) s
   cut : (s : Status) (lines : List Text) → TookLines out lines → TookAll err write_fault_text → Shows out err (report s lines) status.WriteFault
   both_cut : (s : Status) (lines : List Text) → TookLines out lines → TookFront err write_fault_text → Shows out err (report s lines) status.WriteFault

@@ -1,25 +1,23 @@
-//! Checks the contracts of a source of Pure Scala, and prints a verdict for its function.
+//! Checks the contracts in sources of Pure Scala: verifies functions, lists their checks, or runs one.
 //!
 //! `pureproof` in `top` is all that the program does, over a shelf of sources and two sinks; `main` gives it the files and
-//! the standard streams. `words` reads the command line, `prepare` says what is due, `show` puts it. In `specs/`, `Words`
-//! says what a command line is, `Dues` what is due and why, `Report` what a report says, `Shown` what is left of it where
-//! a put fails, and `Causes` when the program ends with which status.
+//! the standard streams. `fetching` fetches the sources, `responding` says what is due, `show` puts it. In `specs/`,
+//! `Fetched` says what shelves tell, `Dues` what is due and why, `Shown` what is left of it where a put fails, and `Ends`
+//! when the program ends with which status. What is answered to which words and sources stands in `pp_answers`.
 #![tactic(auto)]
 
 ghost use Rattle.std.specs.Prelude.{◌≡◌, IfOk, map, string_bytes};
-ghost use Rattle.pureproof.specs.Words.{texts};
+ghost use Rattle.pp_words.specs.Told.{texts};
 
-mod prepare;
+mod fetching;
+mod responding;
 mod show;
-mod status;
 mod top;
-mod words;
 
+use pp_answers::{NoMemory, Response, Status};
 use pp_print::{memory_line, words_line};
 use pp_seam::{FileShelf, StdSink};
-use pp_text::NoMemory;
-use show::show_refusal;
-pub use status::Status;
+use show::put_refusal;
 use std::alloc::Global;
 use std::io::ErrorKind;
 use std::process::ExitCode;
@@ -51,13 +49,13 @@ fn started(rt: &HostRuntime) -> Status {
     let words = match words_of(rt) {
         Ok(words) => words,
         Err(error) if error.kind() == ErrorKind::OutOfMemory => {
-            return show_refusal(Status::Memory, memory_line(), &mut err);
+            return put_refusal(Status::Memory, memory_line(), &mut err);
         }
-        Err(_) => return show_refusal(Status::Words, words_line(), &mut err),
+        Err(_) => return put_refusal(Status::Words, words_line(), &mut err),
     };
     let alloc = rt.alloc();
     let Ok(words) = slices(alloc, &words) else {
-        return show_refusal(Status::Memory, memory_line(), &mut err);
+        return put_refusal(Status::Memory, memory_line(), &mut err);
     };
     let mut shelf = FileShelf::new(alloc, rt);
     let mut out = StdSink::new(rt.stdout());

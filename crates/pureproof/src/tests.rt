@@ -1,4 +1,5 @@
-// Whole runs in memory and on files, and what is shown where something outside gives out.
+// Whole runs in memory and on files, and what is shown where something outside gives out. What is answered to which sources
+// is tried by the program `pp_program_cases`.
 
 use super::*;
 use pp_seam::{Bytes, Shelves};
@@ -7,19 +8,14 @@ use std::fs;
 use std::process::Abort;
 use std::test::Fail;
 
-const OR: &str =
-    "object A {\n  def or(a: Boolean, b: Boolean): Boolean = { require(a); a || b } ensuring (res => res)\n}\n";
+const EDGE: &str = "object A {\n  def edge(): Int = Int.MinValue / -1 + -7 % 3\n}\n";
 
-const SECOND: &str =
-    "object A {\n  def or(a: Boolean, b: Boolean): Boolean = { require(a); b } ensuring (res => res)\n}\n";
-
-const TEN: &str =
-    "object A {\n  def f(a: Boolean, b: Boolean, c: Boolean, d: Boolean, e: Boolean, f: Boolean, g: Boolean, h: Boolean, i: Boolean, j: Boolean): Boolean = { require(j); a || b || c || d || e || f || g || h || i || j } ensuring (res => res)\n}\n";
-
-// What a run on the file `a.scala` with these bytes ends with: the status, and what `out` and `err` took.
+// What a run on the files `a.scala`, which has these bytes, and `b.scala`, which has none, ends with: the status, and what
+// `out` and `err` took.
 #[derive(Clone, Copy)]
 struct Row<'a> {
-    bytes: &'a [u8],
+    words: &'a [&'a str],
+    source: &'a str,
     status: Status,
     out: &'a str,
     err: &'a str,
@@ -27,10 +23,11 @@ struct Row<'a> {
 
 fn run_row(alloc: Global, rt: &impl Abort, row: &Row) -> Result<(), Fail> {
     let mut shelf = Shelves::new(alloc);
-    shelf.add("a.scala", row.bytes)?;
+    shelf.add("a.scala", row.source.as_bytes())?;
+    shelf.add("b.scala", "".as_bytes())?;
     let mut out = Bytes::with_room(alloc, 1000)?;
     let mut err = Bytes::with_room(alloc, 1000)?;
-    let status = pureproof(alloc, &["a.scala"], &mut shelf, &mut out, &mut err);
+    let status = pureproof(alloc, row.words, &mut shelf, &mut out, &mut err);
     assert_eq!(rt; status, row.status);
     assert_eq!(rt; out.taken(), row.out.as_bytes());
     assert_eq!(rt; err.taken(), row.err.as_bytes());
@@ -38,51 +35,42 @@ fn run_row(alloc: Global, rt: &impl Abort, row: &Row) -> Result<(), Fail> {
 }
 
 #[test]
-fn sources_get_their_lines(rt: HostRuntime) -> Result<(), Fail> {
-    let too_many = vec![in rt.alloc(); b' '; 262_145]?;
-    let most = vec![in rt.alloc(); b' '; 262_144]?;
+fn each_mode_answers(rt: HostRuntime) -> Result<(), Fail> {
     let rows = [
         Row {
-            bytes: OR.as_bytes(),
+            words: &["--mode", "run", "a.scala", "--function=edge"],
+            source: EDGE,
             status: Status::AllValid,
-            out: "or: valid, 1 checks\n1 valid, 0 invalid, 0 open, 0 depending\n",
+            out: "edge = 2147483647\n",
             err: "",
         },
         Row {
-            bytes: SECOND.as_bytes(),
+            words: &["a.scala"],
+            source: "object A {\n  def f(x: Boolean): Boolean = { x }.holds\n}\n",
             status: Status::SomeInvalid,
-            out: "or: invalid, postcondition at 1:2:63, a = true, b = false\n0 valid, 1 invalid, 0 open, 0 depending\n",
+            out: "f: invalid, postcondition at 1:2:38, x = false\n0 valid, 1 invalid, 0 open, 0 depending\n",
             err: "",
         },
         Row {
-            bytes: TEN.as_bytes(),
-            status: Status::AllValid,
-            out: "f: valid, 1 checks\n1 valid, 0 invalid, 0 open, 0 depending\n",
-            err: "",
-        },
-        Row {
-            bytes: b"object A {",
+            words: &["a.scala", "b.scala"],
+            source: EDGE,
             status: Status::Refused,
             out: "",
-            err: "refused: other form\n",
+            err: "refused: syntax at 2:1:1\n",
         },
         Row {
-            bytes: b"object A {\xff",
-            status: Status::Refused,
+            words: &["a.scala", "c.scala"],
+            source: EDGE,
+            status: Status::ReadFault,
             out: "",
-            err: "refused: not utf-8 at byte 10 of source 1\n",
+            err: "read fault: c.scala\n",
         },
         Row {
-            bytes: &too_many,
-            status: Status::Refused,
+            words: &["--mode", "run", "a.scala"],
+            source: EDGE,
+            status: Status::Words,
             out: "",
-            err: "refused: too long source 1\n",
-        },
-        Row {
-            bytes: &most,
-            status: Status::Refused,
-            out: "",
-            err: "refused: other form\n",
+            err: "words refused\n",
         },
     ];
     for row in &rows {
@@ -92,111 +80,30 @@ fn sources_get_their_lines(rt: HostRuntime) -> Result<(), Fail> {
 }
 
 #[test]
-fn other_words_are_refused(rt: HostRuntime) -> Result<(), Fail> {
-    let alloc = rt.alloc();
-    let lines: [&[&str]; 5] = [
-        &[],
-        &["-"],
-        &["--mode"],
-        &["a.scala", "a.scala"],
-        &["-a", "a.scala"],
-    ];
-    for words in lines {
-        let mut shelf = Shelves::new(alloc);
-        shelf.add("a.scala", OR.as_bytes())?;
-        let mut out = Bytes::with_room(alloc, 1000)?;
-        let mut err = Bytes::with_room(alloc, 1000)?;
-        let status = pureproof(alloc, words, &mut shelf, &mut out, &mut err);
-        assert_eq!(rt; status, Status::Words);
-        assert_eq!(rt; out.taken(), "".as_bytes());
-        assert_eq!(rt; err.taken(), "words refused\n".as_bytes());
-    }
-    Ok(())
-}
-
-#[test]
 fn a_put_fails(rt: HostRuntime) -> Result<(), Fail> {
     let alloc = rt.alloc();
     let mut shelf = Shelves::new(alloc);
-    shelf.add("a.scala", OR.as_bytes())?;
+    shelf.add("a.scala", "object A {\n}\n".as_bytes())?;
     let mut out = Bytes::with_room(alloc, 1000)?;
-    out.fail_at(2, 5);
+    out.fail_at(1, 5);
     let mut err = Bytes::with_room(alloc, 1000)?;
     let status = pureproof(alloc, &["a.scala"], &mut shelf, &mut out, &mut err);
     assert_eq!(rt; status, Status::WriteFault);
-    assert_eq!(rt; out.taken(), "or: valid, 1 checks\n1 val".as_bytes());
+    assert_eq!(rt; out.taken(), "0 val".as_bytes());
     assert_eq!(rt; err.taken(), "write fault\n".as_bytes());
-    Ok(())
-}
-
-#[test]
-fn both_sinks_fail(rt: HostRuntime) -> Result<(), Fail> {
-    let alloc = rt.alloc();
-    let mut shelf = Shelves::new(alloc);
-    shelf.add("a.scala", OR.as_bytes())?;
-    let mut out = Bytes::with_room(alloc, 0)?;
-    let mut err = Bytes::with_room(alloc, 1000)?;
-    err.fail_at(1, 3);
-    let status = pureproof(alloc, &["a.scala"], &mut shelf, &mut out, &mut err);
-    assert_eq!(rt; status, Status::WriteFault);
-    assert_eq!(rt; out.taken(), "".as_bytes());
-    assert_eq!(rt; err.taken(), "wri".as_bytes());
-    Ok(())
-}
-
-#[test]
-fn a_fetch_fails(rt: HostRuntime) -> Result<(), Fail> {
-    let alloc = rt.alloc();
-    let mut shelf = Shelves::new(alloc);
-    shelf.add("a.scala", OR.as_bytes())?;
-    shelf.fail_at(1)?;
-    let mut out = Bytes::with_room(alloc, 1000)?;
-    let mut err = Bytes::with_room(alloc, 1000)?;
-    let status = pureproof(alloc, &["a.scala"], &mut shelf, &mut out, &mut err);
-    assert_eq!(rt; status, Status::ReadFault);
-    assert_eq!(rt; out.taken(), "".as_bytes());
-    assert_eq!(rt; err.taken(), "read fault: a.scala\n".as_bytes());
     Ok(())
 }
 
 #[test]
 fn files_are_read(rt: HostRuntime) -> Result<(), Fail> {
     let alloc = rt.alloc();
-    fs::write(&rt, "or.scala", OR)?;
-    fs::create_dir(&rt, "folder")?;
-    let rows = [
-        ("or.scala", Status::AllValid, ""),
-        (
-            "missing.scala",
-            Status::ReadFault,
-            "read fault: missing.scala\n",
-        ),
-        ("folder", Status::ReadFault, "read fault: folder\n"),
-    ];
-    for (path, expected, line) in rows {
-        let mut shelf = FileShelf::new(alloc, &rt);
-        let mut out = Bytes::with_room(alloc, 1000)?;
-        let mut err = Bytes::with_room(alloc, 1000)?;
-        let status = pureproof(alloc, &[path], &mut shelf, &mut out, &mut err);
-        assert_eq!(rt; status, expected);
-        assert_eq!(rt; err.taken(), line.as_bytes());
-    }
-    Ok(())
-}
-
-#[test]
-fn each_status_has_its_code(rt: HostRuntime) -> Result<(), Fail> {
-    let codes = [
-        (Status::AllValid, 0u8),
-        (Status::SomeInvalid, 1),
-        (Status::Refused, 3),
-        (Status::Words, 4),
-        (Status::ReadFault, 5),
-        (Status::WriteFault, 6),
-        (Status::Memory, 7),
-    ];
-    for (status, code) in codes {
-        assert_eq!(rt; status.code(), code);
-    }
+    fs::write(&rt, "a.scala", EDGE)?;
+    let words = ["--mode", "list", "a.scala"];
+    let mut shelf = FileShelf::new(alloc, &rt);
+    let mut out = Bytes::with_room(alloc, 1000)?;
+    let mut err = Bytes::with_room(alloc, 1000)?;
+    let status = pureproof(alloc, &words, &mut shelf, &mut out, &mut err);
+    assert_eq!(rt; status, Status::AllValid);
+    assert_eq!(rt; err.taken(), "".as_bytes());
     Ok(())
 }

@@ -1,5 +1,5 @@
 use Rattle.std.proofs.Common.{◌≡◌, map, string_bytes, take}
-use Rattle.pureproof.specs.Words.{texts}
+use Rattle.pp_words.specs.Told.{texts}
 use Rattle.pureproof.proofs.slices.Given as goal
 
 abbrev pub invariant-loop-word : goal.invariant-loop-word

@@ -1,25 +1,19 @@
-use Rattle.std.proofs.Common.{◌∙◌, ◌+◌, ap, arith, subst, sym, length}
-use Rattle.std.specs.Prelude.{slice_get}
-use Rattle.pp_flat.proofs.Lists.{bad_from_failure, good_from_fine, none_found, some_found}
-use Rattle.pp_flat.specs.Searching.{AreFine, truths}
-use Rattle.pp_flat.specs.Verdicts.{arity}
+use Rattle.std.proofs.Common.{◌≡◌, ◌∙◌, Some, length, ap, subst, sym}
+use Rattle.pp_prog.specs.declared.expr.Function.{Function}
+use Rattle.pp_flat.specs.Searching.{AreTaken}
+use Rattle.pp_flat.specs.declared.verdict.Verdict.TheVariants.{Valid}
+use Rattle.pp_flat.proofs.Taken.{verdict_is}
 use Rattle.pp_flat.proofs.search.verdict_of.Goals as goal
 
-pub returns-in-None : goal.returns-in-None
-returns-in-None c =
-    let p = c.args.program.now in
-    let i = c.args.f.0 in
-    let count = c.len-count.ensures ∙ sym (ap arity c.function.ensures) in
-    let none = none_found p.types.ctors p.functions i c.new-bits.result c.refute.new.bits c.len-count.result c.in_ok-refute.field-0 c.in_ok-refute.ensures c.in-None.is in
-    good_from_fine p.types.ctors p.functions p.checks i c.requires.boolean c.requires.function
-    (subst (λ bits. AreFine p.types.ctors p.functions i bits (arity (slice_get p.functions i))) c.new-bits.ensures (subst (AreFine p.types.ctors p.functions i c.new-bits.result) count none.0))
-
 pub returns : goal.returns
-returns c =
+returns c = λ g here.
     let p = c.args.program.now in
     let i = c.args.f.0 in
-    let count = c.len-count.ensures ∙ sym (ap arity c.function.ensures) in
-    let some = some_found p.types.ctors p.functions i c.new-bits.result c.refute.new.bits c.len-count.result c.in_ok-refute.field-0 c.in-Some.check c.in_ok-refute.ensures c.in-Some.is in
-    let long = some.0 ∙ ap (λ bits. length bits + c.len-count.result) c.new-bits.ensures in
-    bad_from_failure p.types.ctors p.functions p.checks i c.requires.boolean c.requires.function c.lasts_with_fuel.ensures c.refute.new.bits c.in-Some.check _
-    (omega (arith, long, count)) some.1 (c.in_ok-arguments-in-Some.ensures ∙ ap truths c.as_slice.ensures)
+    let v = c.take_runs.new.verdict in
+    let one : Some c.function.result.now ≡ Some g = sym c.function.ensures ∙ here in
+    let same : c.function.result.now ≡ g = cc in
+    let count = c.len-count.ensures ∙ ap (λ (f : Function). length f.params) same in
+    verdict_is p i g here (c.requires.flat i g here)
+    c.deep_by_fuel_alone.ensures c.can_answer_sorted.ensures c.fail_listed_checks.ensures v
+    (subst (λ bits. AreTaken p i bits (length g.params) Valid v) c.new-bits.ensures
+    (subst (λ n. AreTaken p i c.new-bits.result n Valid v) count c.in_ok-take_runs.ensures.taken))

@@ -1,0 +1,4 @@
+pub mod Once
+pub mod Excluded
+pub mod Statuses
+pub mod Meaning

@@ -1,0 +1,5 @@
+use Rattle.pp_answers.proofs.Meaning.{invalid_means_failed}
+use Rattle.pp_answers.proofs.laws.invalid_means_failed.Goals as goal
+
+pub returns : goal.returns
+returns c = invalid_means_failed

@@ -1,0 +1,17 @@
+pub mod Apart
+pub mod DefInts
+pub mod EachToken
+pub mod Fit
+pub mod Ints
+pub mod Listed
+pub mod Marks
+pub mod Numbers
+pub mod Offsets
+pub mod OneAt
+pub mod Ordinary
+pub mod Strict
+pub mod WeighBodies
+pub mod WeighExprs
+pub mod WeighTypes
+pub mod WeighUnits
+pub mod Weights

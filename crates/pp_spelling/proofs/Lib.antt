@@ -1,9 +1,0 @@
-pub mod Pieces
-pub mod Words
-pub mod Spelled
-pub mod Found
-pub mod Unique
-pub mod Variables
-pub mod Valid
-pub mod Places
-pub mod Verdicts

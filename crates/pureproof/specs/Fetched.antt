@@ -1,0 +1,44 @@
+-- What is fetched of a shelf. Source: own.
+use Rattle.std.specs.Prelude.{◌≡◌, ◌<◌, ◌+◌, ℕ, List, [], ◌∷◌, ◌++◌, Option, Some, IfSome, length, slice_get, take}
+use Rattle.pp_text.specs.Limits.{most_bytes}
+
+-- the bytes of a text
+abbrev pub Text : Type 0
+Text = List ℕ
+
+-- what a shelf tells before and after: the bytes of a path, the paths whose fetch failed, and the bytes that a fetch
+-- read which found too many
+pub record Shelf : Type 0 where
+  pub held : Text → Option Text
+  pub failed : List Text
+  pub failed_after : List Text
+  pub seen_after : Text
+
+abbrev pub told : {S : Type 0} → (S → Text → Option Text) → (S → List Text) → (S → Text) → S → S → Shelf
+told held failed seen old new = record { held = held old; failed = failed old; failed_after = failed new; seen_after = seen new }
+
+-- these are the bytes of a path, where they are told
+abbrev pub IsHeld : Option Text → Text → Type 0
+IsHeld held bytes = IfSome held (λ told. bytes ≡ told)
+
+-- the sources are the bytes of the paths, where these are told
+pub data AreHeld (held : Text → Option Text) : List Text → List Text → Type 0 where
+  no_paths : AreHeld held [] []
+  one_path : {path bytes : Text} {paths sources : List Text} → IsHeld (held path) bytes
+      → AreHeld held paths sources → AreHeld held (path ∷ paths) (bytes ∷ sources)
+
+-- the shelf's fetch of a file fails: those before it are fetched, and it stands once more among the failed ones
+pub record FailsAt (shelf : Shelf) (files sources : List Text) : Type 0 where
+  pub path : Text
+  pub before : AreHeld shelf.held (take (length sources) files) sources
+  pub here : slice_get files (length sources) ≡ Some path
+  pub grew : shelf.failed_after ≡ shelf.failed ++ path ∷ []
+
+-- a file has more bytes than a source may have, and those before it are fetched
+pub record IsTooLongAt (shelf : Shelf) (files sources : List Text) : Type 0 where
+  pub path : Text
+  pub before : AreHeld shelf.held (take (length sources) files) sources
+  pub here : slice_get files (length sources) ≡ Some path
+  pub calm : shelf.failed_after ≡ shelf.failed
+  pub seen : length shelf.seen_after ≡ most_bytes + 1
+  pub long : IfSome (shelf.held path) (λ bytes. most_bytes < length bytes)

@@ -1,0 +1,113 @@
+#!/usr/bin/env bash
+# Tries the examples of docs/LANGUAGE.md: `check_language.sh [PROGRAM]`, where PROGRAM is the built program. In the page
+#   ```scala name=FILE   holds the source FILE,
+#   ```sh                holds a command a line, in which `pureproof` is the program,
+#   ```text status=N     holds what these commands print, on standard output where N is 0 to 2 and else on standard error,
+#                        and the status with which the command ends, or one for each, as `status=0,3`; the other stream
+#                        stays empty.
+# Where no command stands between a source and what is printed, it is `pureproof FILE`. Other blocks are passed over.
+# Ends with the number of blocks of text that passed and failed.
+set -u
+root=$(cd "$(dirname "${BASH_SOURCE[0]}")/.." && pwd)
+page=$root/docs/LANGUAGE.md
+program=$(readlink -f "${1:-$root/crates/pureproof/out/pureproof}")
+if [ ! -x "$program" ]; then
+    echo "check_language: no program at ${1:-crates/pureproof/out/pureproof}" >&2
+    exit 2
+fi
+scratch=$(mktemp -d)
+trap 'rm -rf "$scratch"' EXIT
+mkdir "$scratch/bin" "$scratch/folder"
+ln -s "$program" "$scratch/bin/pureproof"
+cd "$scratch/folder" || exit 2
+export PATH=$scratch/bin:$PATH
+: > "$scratch/commands"
+passed=0
+failed=0
+
+fail() {
+    failed=$((failed + 1))
+    printf 'check_language: line %s: %s\n' "$number" "$1"
+}
+
+# try STATUSES: runs the last commands and compares them with the last block of text
+try() {
+    local command statuses=
+    : > "$scratch/out"
+    : > "$scratch/err"
+    while IFS= read -r command; do
+        bash -c "$command" >> "$scratch/out" 2>> "$scratch/err" < /dev/null
+        statuses=$statuses,$?
+    done < "$scratch/commands"
+    statuses=${statuses#,}
+    case $1 in
+        *[012]) shown=$scratch/out empty=$scratch/err ;;
+        *) shown=$scratch/err empty=$scratch/out ;;
+    esac
+    if [ "$statuses" = "$1" ] && cmp -s "$scratch/text" "$shown" && [ ! -s "$empty" ]; then
+        passed=$((passed + 1))
+    else
+        fail "wanted status $1, got $statuses"
+        sed 's/^/  command: /' "$scratch/commands"
+        sed 's/^/  wanted:  /' "$scratch/text"
+        sed 's/^/  out:     /' "$scratch/out"
+        sed 's/^/  err:     /' "$scratch/err"
+    fi
+}
+
+number=0
+inside=no
+names=' '
+while IFS= read -r line || [ -n "$line" ]; do
+    number=$((number + 1))
+    if [ "$inside" = no ]; then
+        case $line in
+            '```scala name='*)
+                name=${line#'```scala name='}
+                case $name in
+                    '' | *[!A-Za-z0-9_.]*)
+                        fail "no name of a file: $name"
+                        name=unnamed
+                        ;;
+                esac
+                case $names in
+                    *" $name "*) fail "a second source of the name $name" ;;
+                esac
+                names="$names$name "
+                inside=scala
+                : > "$name"
+                printf 'pureproof %s\n' "$name" > "$scratch/commands"
+                ;;
+            '```sh')
+                inside=sh
+                : > "$scratch/commands"
+                ;;
+            '```text status='*)
+                wanted=${line#'```text status='}
+                inside=text
+                : > "$scratch/text"
+                ;;
+            '```'*) inside=other ;;
+        esac
+    elif [ "$line" = '```' ]; then
+        if [ "$inside" = text ]; then
+            try "$wanted"
+        fi
+        inside=no
+    else
+        case $inside in
+            scala) printf '%s\n' "$line" >> "$name" ;;
+            sh) printf '%s\n' "$line" >> "$scratch/commands" ;;
+            text) printf '%s\n' "$line" >> "$scratch/text" ;;
+        esac
+    fi
+done < "$page"
+if [ "$inside" != no ]; then
+    fail 'a block that nothing ends'
+fi
+if [ "$passed" -eq 0 ]; then
+    fail 'no example was tried'
+fi
+
+printf '%s passed, %s failed\n' "$passed" "$failed"
+[ "$failed" -eq 0 ]
