@@ -52,11 +52,11 @@ fn each_mode_answers(rt: HostRuntime) -> Result<(), Fail> {
             err: "",
         },
         Row {
-            words: &["a.scala", "b.scala"],
-            source: EDGE,
+            words: &["b.scala", "a.scala"],
+            source: "object A {",
             status: Status::Refused,
             out: "",
-            err: "refused: syntax at 2:1:1\n",
+            err: "refused: syntax at 2:1:11\n",
         },
         Row {
             words: &["a.scala", "c.scala"],
