@@ -1,4 +1,4 @@
-// Lines and columns.
+//! Lines and columns.
 
 ghost use Rattle.std.specs.Prelude.{◌≡◌, ◌≤◌, ◌<◌, ◌+◌, ◌^◌, length, IfOk};
 ghost use Rattle.pp_text.specs.Limits.{most_bytes};

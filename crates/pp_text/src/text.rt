@@ -1,4 +1,4 @@
-// The text of a source.
+//! The text of a source.
 
 ghost use Rattle.std.specs.Prelude.{◌≡◌, ◌≤◌, length, IfOk, IfErr};
 ghost use Rattle.std.specs.Str.{IsUtf8, IsCharBoundary};

@@ -1,3 +1,5 @@
+//! What follows from decisions, which clause is false, and a clause that is added later.
+
 use crate::Watch;
 use pp_clause::{Clause, Clauses, Lit};
 use pp_trail::{Step, greatest_var, raised};

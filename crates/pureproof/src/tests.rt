@@ -1,5 +1,5 @@
-// Whole runs in memory and on files, and what is shown where something outside gives out. What is answered to which sources
-// is tried by the program `pp_program_cases`.
+//! Whole runs in memory and on files, and what is shown where something outside gives out. What is answered to which sources
+//! is tried by the program `pp_program_cases`.
 
 use super::*;
 use pp_seam::{Bytes, Shelves};
