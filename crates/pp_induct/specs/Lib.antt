@@ -1,2 +1,3 @@
 pub mod Supported
 pub mod Verdicts
+pub mod Reports

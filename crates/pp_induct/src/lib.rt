@@ -7,10 +7,12 @@
 
 mod concluding;
 mod ends;
+mod limits;
 mod verdict;
 
 pub use concluding::conclude;
 pub use ends::{CheckEnd, Ends, Why};
+pub use limits::Limits;
 pub use std::alloc::AllocError as NoMemory;
 pub use verdict::{Report, Verdict, Verdicts};
 

@@ -1,25 +1,20 @@
 -- When a check is settled, and why that makes functions good. Source: own; the idea of measure induction is that of
 -- System FR (Hamza, Voirol, Kuncak, OOPSLA 2019).
 use Rattle.std.specs.Prelude.{◌≡◌, ◌≢◌, ◌⊎◌, ◌<◌, ◌≤◌, ℕ, List, Some, length, slice_get}
-use Rattle.std.specs.List.{All}
 use Rattle.pp_prog.specs.declared.expr.Function.{Function}
 use Rattle.pp_prog.specs.declared.id.CheckId.{CheckId}
 use Rattle.pp_prog.specs.declared.program.Program.{Program}
 use Rattle.pp_prog.specs.declared.value.Value.{Value}
 use Rattle.pp_prog.specs.Cone.{InCone}
-use Rattle.pp_prog.specs.Values.{height}
 use Rattle.pp_eval.specs.declared.outcome.Outcome.TheVariants.{Fails}
 use Rattle.pp_eval.specs.Runs.{IsGood, run}
+use Rattle.pp_sound.specs.Counterexample.{AreLow}
 use Rattle.pp_sound.specs.Sound.{IsCalled, IsCheckOf}
 use Rattle.pp_checks.specs.declared.tables.Plan.{Plan}
 use Rattle.pp_checks.specs.Closed.{Closed}
 use Rattle.pp_checks.specs.Plan.{IsPlanOf}
 use Rattle.pp_guess_runs.specs.Answers.{Answering, IsAnswering}
 use Rattle.pp_guess_runs.specs.Guess.{fails, guess}
-
--- each of the values has at most the height d
-abbrev pub AreLow : ℕ → List Value → Type 0
-AreLow d args = All (λ v. height v ≤ d) args
 
 module _ (p : Program) (i : ℕ) (c : CheckId) where
   -- no guess run of round n of function number i fails the check, whatever answers its calls

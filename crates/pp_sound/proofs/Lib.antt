@@ -13,3 +13,4 @@ pub mod Calls
 pub mod Runs
 pub mod Laws
 pub mod Answered
+pub mod Owners

@@ -4,3 +4,6 @@ pub mod Patterns
 pub mod Compile
 pub mod Frames
 pub mod Reads
+pub mod Sorted
+pub mod Known
+pub mod Gates

@@ -16,10 +16,10 @@ use Rattle.pp_steps.specs.Meaning.{Missing, Values}
 use Rattle.pp_steps.specs.Piece.{Piece, after}
 use Rattle.pp_steps.specs.Reads.{AllRead, Below}
 use Rattle.pp_steps_run.specs.Told.{AreValues}
-use Rattle.pp_steps_exist.specs.Laws.{RunsExist, RunsRead}
+use Rattle.pp_steps_exist.specs.Laws.{RunsAsk, RunsExist, RunsRead}
 use Rattle.pp_steps_exist.proofs.Exprs.{any_within, inlined_stays, running_within}
 use Rattle.pp_steps_exist.proofs.Solve.{AllOpen, solved, solved_obeys}
-use Rattle.pp_steps_exist.proofs.Within.{at_most, below_later, read_join, up}
+use Rattle.pp_steps_exist.proofs.Within.{IsWithin, LessOne, at_most, below_later, read_join, up}
 
 -- ---- the arguments
 
@@ -88,17 +88,33 @@ module _ (functions : List Function) (f : Function) (check : CheckId) (fuel : �
   abbrev F : Piece ℕ
   F = any_of R.fails (after n R) B.alive
 
+  run_within : IsWithin LessOne n R
+  run_within = running_within (inlined functions fuel) (inlined_stays functions fuel) (Some check) f n B.out B.alive
+      (arguments_below (param_sorts f.params)) (reach_below (param_sorts f.params))
+
+  found_within : IsWithin LessOne (after n R) F
+  found_within = any_within R.fails (after n R) B.alive run_within.fails
+      (up B.alive n (length R.steps) (reach_below (param_sorts f.params)))
+
   pub run_reads : AllRead 0 (run_steps functions f check fuel).steps
-  run_reads =
-      let w = running_within (inlined functions fuel) (inlined_stays functions fuel) (Some check) f n B.out B.alive
-      (arguments_below (param_sorts f.params)) (reach_below (param_sorts f.params)) in
-      let g = any_within R.fails (after n R) B.alive w.fails
-      (up B.alive n (length R.steps) (reach_below (param_sorts f.params))) in
-      read_join 0 B.steps (R.steps ++ F.steps) (arguments_read (param_sorts f.params))
-      (read_join n R.steps F.steps w.reads g.reads)
+  run_reads = read_join 0 B.steps (R.steps ++ F.steps) (arguments_read (param_sorts f.params))
+      (read_join n R.steps F.steps run_within.reads found_within.reads)
+
+  ends_together : length (B.steps ++ (R.steps ++ F.steps)) ≡ after (after n R) F
+  ends_together = length-append B.steps (R.steps ++ F.steps) ∙ ap (λ k. length B.steps + k) (length-append R.steps F.steps)
+      ∙ sums (length B.steps) (length R.steps) (length F.steps)
+    where
+      sums : (a b c : ℕ) → a + (b + c) ≡ ((0 + a) + b) + c
+      sums a b c = omega arith
+
+  pub run_asks : (run_steps functions f check fuel).fails < length (run_steps functions f check fuel).steps
+  run_asks = subst (λ k. F.out < k) (sym ends_together) found_within.out
 
 pub runs_read : RunsRead
 runs_read functions f check fuel = run_reads functions f check fuel
+
+pub runs_ask : RunsAsk
+runs_ask functions f check fuel = run_asks functions f check fuel
 
 -- ---- the values
 

@@ -2,4 +2,4 @@ mod Within
 mod Forms
 mod Exprs
 mod Solve
-mod Laws
+pub mod Laws

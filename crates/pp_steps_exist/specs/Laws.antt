@@ -1,5 +1,5 @@
 -- Each run has values that obey its steps. Source: own.
-use Rattle.std.specs.Prelude.{ℕ, List}
+use Rattle.std.specs.Prelude.{ℕ, ◌<◌, List, length}
 use Rattle.pp_prog.specs.declared.expr.Function.{Function}
 use Rattle.pp_prog.specs.declared.id.CheckId.{CheckId}
 use Rattle.pp_prog.specs.declared.program.Program.{Program}
@@ -19,3 +19,9 @@ RunsExist =
 -- each step of a run looks at earlier steps alone
 abbrev pub RunsRead : Type 0
 RunsRead = (functions : List Function) (f : Function) (check : CheckId) (fuel : ℕ) → AllRead 0 (run_steps functions f check fuel).steps
+
+-- the number that tells whether the check fails is that of a step
+abbrev pub RunsAsk : Type 0
+RunsAsk =
+    (functions : List Function) (f : Function) (check : CheckId) (fuel : ℕ)
+    → (run_steps functions f check fuel).fails < length (run_steps functions f check fuel).steps

@@ -1,4 +1,4 @@
-mod Pieces
+pub mod Pieces
 mod Choices
 mod Lasting
 mod Operators

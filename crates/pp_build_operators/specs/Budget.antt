@@ -1,0 +1,58 @@
+-- The gates of operators on symbols: those of a step whose operands have the symbols' heights, the left one with the
+-- symbol's sort. Source: own.
+use Rattle.std.specs.Prelude.{ℕ, min, Bool, true, false}
+use Rattle.pp_prog.specs.declared.expr.BinaryOp.{BinaryOp}
+use Rattle.pp_prog.specs.declared.expr.BinaryOp.TheVariants.{Mul, Div, Rem, Equal, Differ, Less, AtMost, More}
+use Rattle.pp_prog.specs.declared.expr.BinaryOp.TheVariants.{AtLeast, And, Or, Xor, Shl, Shr, Ushr}
+use Rattle.pp_prog.specs.declared.sort.Sort.{Sort}
+use Rattle.pp_prog.specs.declared.sort.Sort.TheVariants as sort
+use Rattle.pp_prog.specs.declared.types.TypeTable.{TypeTable}
+use Rattle.pp_domain.specs.declared.symbol.Symbol.{Symbol}
+use Rattle.pp_domain.specs.declared.symbol.Symbol.TheVariants as symbol
+use Rattle.pp_domain.specs.Sense.{Sense}
+use Rattle.pp_domain.specs.Symbols.{symbol_height}
+use Rattle.pp_steps.specs.Gates.{binary_gates, descent_gates}
+
+-- whether the operator compares two values of any sort
+abbrev pub is_equality : BinaryOp → Bool
+is_equality Equal = true
+is_equality Differ = true
+is_equality op = false
+
+-- whether the operator compares two numbers by their order
+abbrev pub is_order : BinaryOp → Bool
+is_order Less = true
+is_order AtMost = true
+is_order More = true
+is_order AtLeast = true
+is_order op = false
+
+-- the gates of an operator that makes a number of two numbers
+abbrev pub number_gates : BinaryOp → ℕ
+number_gates Mul = 8192
+number_gates Div = 16384
+number_gates Rem = 16384
+number_gates And = 64
+number_gates Or = 64
+number_gates Xor = 64
+number_gates Shl = 512
+number_gates Shr = 512
+number_gates Ushr = 512
+number_gates op = 256
+
+module _ {D T : Type 0} (m : Sense D T) (types : TypeTable) where
+  -- the sort of a symbol, which its form tells
+  abbrev pub symbol_sort : D → Symbol T → Sort
+  symbol_sort d (symbol.Word w) = sort.Int
+  symbol_sort d (symbol.Bit l) = sort.Bool
+  symbol_sort d (symbol.Tree t) = sort.Tree (m.data_of d t)
+
+  -- an operator on two symbols
+  abbrev pub operator_gates : BinaryOp → D → Symbol T → Symbol T → ℕ
+  operator_gates op d left right =
+      binary_gates types op (min (symbol_height m d left) (symbol_height m d right)) (symbol_sort d left)
+
+  -- whether a component of a measure goes down from the old symbol to the new one
+  abbrev pub goes_down_gates : D → Symbol T → Symbol T → ℕ
+  goes_down_gates d new old =
+      descent_gates types (symbol_height m d new) (symbol_height m d old) (symbol_sort d new)

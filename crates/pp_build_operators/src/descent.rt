@@ -1,0 +1,63 @@
+//! When a component of a measure goes down.
+
+ghost use Rattle.std.specs.Prelude.{◌≡◌, ℕ, Bool, ◌+◌, ◌^◌, ◌≤◌, true, All, length, pos, int_le, int_lt, ◌&&◌, IfOk};
+ghost use Rattle.std.specs.Int.{w32};
+ghost use Rattle.pp_gate.specs.Circuit.{IsOf, StandsFor};
+ghost use Rattle.pp_gate.specs.Growth.{AddsGates};
+ghost use Rattle.pp_wordgate.specs.Meaning.{word_of};
+ghost use Rattle.pp_domain.specs.AnySort.{AreOfOneSort};
+ghost use Rattle.pp_domain.specs.Moves.{Moves};
+ghost use Rattle.pp_build_operators.specs.Budget.{goes_down_gates};
+ghost use Rattle.pp_build_operators.specs.Operated.{IsDescent};
+
+use pp_clause::{Lit, NoMemory};
+use pp_domain::{Domain, Symbol};
+use pp_gate::{Circuit, Word};
+use pp_prog::TypeTable;
+
+/// Whether a component of a measure goes down from the old symbol to the new one, of one sort.
+pub fn goes_down<D: Domain>(
+    domain: &mut D,
+    circuit: &mut Circuit,
+    table: &TypeTable,
+    new: &Symbol<D::Tree>,
+    old: &Symbol<D::Tree>,
+) -> Result<Symbol<D::Tree>, NoMemory>
+    requires exact { D.sense.exact ≡ true }
+    requires fits { D.sense.Fits table.now domain.old circuit.old }
+    requires sorted { AreOfOneSort D.sense table.now domain.old circuit.old new.now old.now }
+    requires room { length circuit.old + goes_down_gates D.sense table.now domain.old new.now old.now ≤ 2 ^ 30 }
+    ensures moves { Moves D.sense table.now domain.old circuit.old domain.new circuit.new
+        (goes_down_gates D.sense table.now domain.old new.now old.now) }
+    ensures answer { IfOk result (λ r. IsDescent D.sense table.now domain.old circuit.old domain.new circuit.new
+        new.now old.now r) }
+{
+    match (new, old) {
+        (Symbol::Word(a), Symbol::Word(b)) => {
+            let down = number_goes_down(circuit, *a, *b)?;
+            Ok(Symbol::Bit(down))
+        }
+        (Symbol::Tree(t), Symbol::Tree(u)) => {
+            let down = domain.below(circuit, table, t, u)?;
+            Ok(Symbol::Bit(down))
+        }
+        (Symbol::Bit(_), Symbol::Bit(_)) => Ok(Symbol::Bit(circuit.truth().negated())),
+        _ => Ok(*new),
+    }
+}
+
+/// Whether a number goes down: the new one isn't negative, and less than the old one.
+fn number_goes_down(circuit: &mut Circuit, new: Word, old: Word) -> Result<Lit, NoMemory>
+    requires room { length circuit.old + 1024 ≤ 2 ^ 30 }
+    requires first { All (IsOf circuit.old) new }
+    requires second { All (IsOf circuit.old) old }
+    ensures adds { AddsGates circuit.old circuit.new 1024 }
+    ensures stands { IfOk result (λ r. StandsFor circuit.new r (λ s.
+        int_le (pos 0) (word_of w32 s new) && int_lt (word_of w32 s new) (word_of w32 s old))) }
+{
+    let zero = pp_wordgate::constant(circuit, 0)?;
+    let negative = pp_wordgate::less(circuit, new, zero)?;
+    let less = pp_wordgate::less(circuit, new, old)?;
+    let down = circuit.and(negative.negated(), less)?;
+    Ok(down)
+}

@@ -1,0 +1,31 @@
+-- The evidence of a search that has spent its lemmas. Source: own.
+use Rattle.std.specs.Prelude.{◌≡◌, ◌↔◌, ◌≤◌, ℕ, Bool, true, List, All}
+use Rattle.std.specs.List.{list_all}
+use Rattle.pp_prog.specs.declared.id.CheckId.{CheckId}
+use Rattle.pp_prog.specs.declared.program.Program.{Program}
+use Rattle.pp_prog.specs.declared.value.Value.{Value}
+use Rattle.pp_clause.specs.declared.spent.Spent.{Spent}
+use Rattle.pp_clause.specs.Clause.{clauses_value}
+use Rattle.pp_clause.specs.Literal.{Literal, lit_value}
+use Rattle.pp_clause.specs.New.{IsSpentLog}
+use Rattle.pp_estimate.specs.Estimates.{estimate}
+use Rattle.pp_sound.specs.Counterexample.{IsCounterexample}
+
+-- the literal's variable is one of the first n
+abbrev pub IsAmong : ℕ → Literal → Type 0
+IsAmong n l = l.var ≤ n
+
+-- some assignment makes the clauses and the assumptions true
+pub record Satisfiable (cs : List (List Literal)) (assumed : List Literal) : Type 0 where
+  pub assignment : ℕ → Bool
+  pub clauses : clauses_value assignment cs ≡ true
+  pub assumptions : list_all (lit_value assignment) assumed ≡ true
+
+-- A log of so many lemmas, each of them new, over clauses that can be made true together with the assumptions exactly
+-- where some arguments up to the depth fail the check of function number i with this fuel. They have at most as many
+-- variables as the estimate of the round says.
+pub record IsEvidence (p : Program) (i : ℕ) (c : CheckId) (round depth lemmas : ℕ) (s : Spent) : Type 0 where
+  pub log : IsSpentLog s.clauses s.assumptions lemmas s.log
+  pub clauses : All (λ clause. All (IsAmong (estimate p.types p.functions p.checks c.0 round depth)) clause) s.clauses
+  pub assumptions : All (IsAmong (estimate p.types p.functions p.checks c.0 round depth)) s.assumptions
+  pub exact : Satisfiable s.clauses s.assumptions ↔ ((args : List Value) × IsCounterexample p i c round depth args)

@@ -1,0 +1,106 @@
+-- What stands behind a report: behind each end, and behind the verdicts. Source: own.
+use Rattle.std.specs.Prelude.{◌≡◌, ◌<◌, ◌≤◌, ℕ, suc, List, Option, Some, None, length, slice_get}
+use Rattle.pp_clause.specs.declared.spent.Spent.{Spent}
+use Rattle.pp_prog.specs.declared.check.Check.{Check}
+use Rattle.pp_prog.specs.declared.id.CheckId.{CheckId}
+use Rattle.pp_prog.specs.declared.program.Program.{Program}
+use Rattle.pp_prog.specs.declared.value.Value.{Value}
+use Rattle.pp_checks.specs.Closed.{Closed}
+use Rattle.pp_estimate.specs.Estimates.{estimate}
+use Rattle.pp_evidence.specs.Evidence.{IsEvidence}
+use Rattle.pp_sound.specs.Counterexample.{IsCounterexample}
+use Rattle.pp_induction.specs.Ends.{IsExhausted, IsProved, NoLowRunFails}
+use Rattle.pp_induct.specs.declared.ends.CheckEnd.{CheckEnd}
+use Rattle.pp_induct.specs.declared.ends.CheckEnd.TheVariants.{Proved, Exhausted, Invalid, Open}
+use Rattle.pp_induct.specs.declared.ends.Why.{Why}
+use Rattle.pp_induct.specs.declared.ends.Why.TheVariants.{Rounds, Lemmas, Size}
+use Rattle.pp_induct.specs.declared.limits.Limits.{Limits}
+use Rattle.pp_induct.specs.declared.verdict.Report.{Report}
+use Rattle.pp_induct.specs.Verdicts.{AreVerdicts}
+
+-- the limits are in their ranges
+pub record AreLimits (limits : Limits) : Type 0 where
+  pub rounds : limits.rounds ≤ 12
+  pub least_depth : 1 ≤ limits.depth
+  pub depth : limits.depth ≤ 6
+  pub least_lemmas : 1 ≤ limits.lemmas
+  pub lemmas : limits.lemmas ≤ 1000000
+  pub least_gates : 1 ≤ limits.gates
+  pub gates : limits.gates ≤ 4000000
+
+-- the round after the last one that was searched
+abbrev pub next_round : Option ℕ → ℕ
+next_round None = 0
+next_round (Some n) = suc n
+
+module _ (p : Program) (limits : Limits) (i : ℕ) (c : CheckId) where
+  abbrev pub size_of : ℕ → ℕ
+  size_of n = estimate p.types p.functions p.checks c.0 n limits.depth
+
+  -- the round is one of those that are asked for, and its estimate isn't above the asked number of gates
+  pub record IsBegun (n : ℕ) : Type 0 where
+    pub round : n ≤ limits.rounds
+    pub size : size_of n ≤ limits.gates
+
+  -- proved: no guess run of the round fails the check, and no run on arguments up to the depth
+  pub record IsProvedIn (n : ℕ) : Type 0 where
+    pub begun : IsBegun n
+    pub proved : IsProved p i c n limits.depth
+
+  -- exhausted: the function is closed in this round and in none before it, and no run fails the check
+  pub record IsExhaustedIn (n : ℕ) : Type 0 where
+    pub begun : IsBegun n
+    pub exhausted : IsExhausted p i c n limits.depth
+    pub first : (k : ℕ) → k < n → Closed p.types p.functions i k limits.depth → ⊥
+
+  -- invalid: the arguments fail the check with the fuel n, and none up to the depth fail it with less
+  pub record IsInvalidIn (args : List Value) (n : ℕ) : Type 0 where
+    pub begun : IsBegun n
+    pub fails : IsCounterexample p i c n limits.depth args
+    pub first : (k : ℕ) → k < n → (others : List Value) → IsCounterexample p i c k limits.depth others → ⊥
+
+  -- searched: no arguments up to the depth fail the check with the fuel n, and the function isn't closed there
+  pub record IsSearchedTo (n : ℕ) : Type 0 where
+    pub begun : IsBegun n
+    pub none : NoLowRunFails p i c n limits.depth
+    pub open_still : Closed p.types p.functions i n limits.depth → ⊥
+
+  abbrev pub IsSearched : Option ℕ → Type 0
+  IsSearched None = Unit {0}
+  IsSearched (Some n) = IsSearchedTo n
+
+  -- open by its size: the estimate of the next round, which is asked for, is above the asked number of gates
+  pub record IsTooLarge (n : ℕ) : Type 0 where
+    pub round : n ≤ limits.rounds
+    pub size : limits.gates < size_of n
+
+  -- open by lemmas: the search of the next round has spent them
+  pub record IsOutOfLemmas (n : ℕ) (s : Spent) : Type 0 where
+    pub begun : IsBegun n
+    pub evidence : IsEvidence p i c n limits.depth limits.lemmas s
+
+  -- why the check is open after the rounds that were searched
+  abbrev pub IsWhy : Option ℕ → Why → Type 0
+  IsWhy searched Rounds = searched ≡ Some limits.rounds
+  IsWhy searched Size = IsTooLarge (next_round searched)
+  IsWhy searched (Lemmas s) = IsOutOfLemmas (next_round searched) s
+
+  -- the end of the check, which belongs to function number i
+  abbrev pub IsEnd : CheckEnd → Type 0
+  IsEnd (Proved n) = IsProvedIn n
+  IsEnd (Exhausted n) = IsExhaustedIn n
+  IsEnd (Invalid args n) = IsInvalidIn args n
+  IsEnd (Open searched why) = IsSearched searched × IsWhy searched why
+
+module _ (p : Program) (limits : Limits) where
+  -- what is said of each check holds
+  abbrev pub AreEnds : List CheckEnd → Type 0
+  AreEnds ends =
+      (c : ℕ) (check : Check) (end : CheckEnd) → slice_get p.checks c ≡ Some check → slice_get ends c ≡ Some end
+      → IsEnd p limits check.function.0 (record { 0 = c }) end
+
+  -- there is one end for each check, in order, and what it says holds; the verdicts are those of the ends
+  pub record IsReport (report : Report) : Type 0 where
+    pub size : length report.checks ≡ length p.checks
+    pub ends : AreEnds report.checks
+    pub verdicts : AreVerdicts p report.checks report.verdicts

@@ -1,0 +1,163 @@
+-- The steps of operators are well sorted where those of the operands are.
+use Rattle.std.proofs.Common.{◌≡◌, ℕ, suc, ◌+◌, List, [], ◌∷◌, Option, Some, None, refl, sym, ap, ◌∙◌, subst, arith}
+use Rattle.std.specs.Prelude.{pos}
+use Rattle.pp_prog.specs.declared.expr.BinaryOp.{BinaryOp}
+use Rattle.pp_prog.specs.declared.expr.BinaryOp.TheVariants.{Equal, Differ, AndAlso, OrElse, And, Or, Xor, Div, Rem}
+use Rattle.pp_prog.specs.declared.expr.UnaryOp.{UnaryOp}
+use Rattle.pp_prog.specs.declared.expr.UnaryOp.TheVariants.{Neg, Not, Flip}
+use Rattle.pp_prog.specs.declared.id.CheckId.{CheckId}
+use Rattle.pp_prog.specs.declared.sort.Sort.{Sort}
+use Rattle.pp_prog.specs.declared.sort.Sort.TheVariants as sort
+use Rattle.pp_prog.specs.declared.types.TypeTable.{TypeTable}
+use Rattle.pp_prog.specs.ExprSorts.{a_bool, alike, an_int, binary_sort, bits_sort, equality_sort, truth_sort, unary_sort}
+use Rattle.pp_sound.proofs.Sorting.{alike_are, bool_then, int_then, sort_then}
+use Rattle.pp_steps.specs.declared.step.Step.TheVariants as steps
+use Rattle.pp_steps.specs.Compile.{Compiling, binary, one, operating, quotient, skipping, unless, when}
+use Rattle.pp_steps.specs.Piece.{Piece, after, asks, bind, choice, demand, plain}
+use Rattle.pp_steps.specs.Sorted.{Sorts, operated_sort}
+use Rattle.pp_steps_sorted.proofs.Forms.{Compiles}
+use Rattle.pp_steps_sorted.proofs.Pieces.{AreOf, IsOf, MaybeOf, WellSorted, choice_sorted, demand_sorted, joined_sorted, none_sorted, one_sorted, plain_sorted, unless_sorted, when_sorted}
+use Rattle.pp_steps_sorted.proofs.Steps.{binary_makes, equal_makes, unary_makes}
+
+-- ---- the sorts of operands
+
+abbrev HasSort : Option Sort → Type 0
+HasSort o = (s : Sort) × (o ≡ Some s)
+
+number_operands : (r : Sort) (a b : Option Sort) (s : Sort) → an_int a (an_int b (Some r)) ≡ Some s
+    → HasSort a × HasSort b
+number_operands r a b s h =
+    let x = int_then a (an_int b (Some r)) s h in ((sort.Int, x.0), (sort.Int, (int_then b (Some r) s x.1).0))
+
+truth_operands : (a b : Option Sort) (s : Sort) → truth_sort a b ≡ Some s → HasSort a × HasSort b
+truth_operands a b s h =
+    let x = bool_then a (a_bool b (Some sort.Bool)) s h in
+    ((sort.Bool, x.0), (sort.Bool, (bool_then b (Some sort.Bool) s x.1).0))
+
+equality_operands : (a b : Option Sort) (s : Sort) → equality_sort a b ≡ Some s → HasSort a × HasSort b
+equality_operands a b s h =
+    let d = sort_then (alike a b) (λ t. Some sort.Bool) s h in
+    let e = alike_are a b d.0 d.1 in ((d.0, e.0), (d.0, e.1))
+
+bits_operands : (a b : Option Sort) (s : Sort) → bits_sort a b ≡ Some s → HasSort a × HasSort b
+bits_operands (Some sort.Int) b s h = ((sort.Int, refl), (sort.Int, (int_then b (Some sort.Int) s h).0))
+bits_operands (Some sort.Bool) b s h = ((sort.Bool, refl), (sort.Bool, (bool_then b (Some sort.Bool) s h).0))
+bits_operands (Some (sort.Tree d)) b s h = cc
+bits_operands None b s h = cc
+
+binary_operands : (op : BinaryOp) (a b : Option Sort) (s : Sort) → binary_sort op a b ≡ Some s → HasSort a × HasSort b
+binary_operands Equal a b s h = equality_operands a b s h
+binary_operands Differ a b s h = equality_operands a b s h
+binary_operands AndAlso a b s h = truth_operands a b s h
+binary_operands OrElse a b s h = truth_operands a b s h
+binary_operands And a b s h = bits_operands a b s h
+binary_operands Or a b s h = bits_operands a b s h
+binary_operands Xor a b s h = bits_operands a b s h
+binary_operands op a b s h = number_operands _ a b s h
+
+unary_operand : (op : UnaryOp) (a : Option Sort) (s : Sort) → unary_sort op a ≡ Some s → HasSort a
+unary_operand Neg a s h = (sort.Int, (int_then a (Some sort.Int) s h).0)
+unary_operand Not a s h = (sort.Bool, (bool_then a (Some sort.Bool) s h).0)
+unary_operand Flip a s h = (sort.Int, (int_then a (Some sort.Int) s h).0)
+
+right_int : (a b s : Sort) → an_int (Some a) (an_int (Some b) (Some sort.Int)) ≡ Some s → b ≡ sort.Int
+right_int a b s h =
+    let x = int_then (Some a) (an_int (Some b) (Some sort.Int)) s h in
+    let y = (int_then (Some b) (Some sort.Int) s x.1).0 in cc
+
+truths : (t u s : Sort) → truth_sort (Some t) (Some u) ≡ Some s
+    → (t ≡ sort.Bool) × (u ≡ sort.Bool) × (sort.Bool ≡ s)
+truths t u s h =
+    let x = bool_then (Some t) (a_bool (Some u) (Some sort.Bool)) s h in
+    let y = bool_then (Some u) (Some sort.Bool) s x.1 in (cc (x.0), cc (y.0), cc (y.1))
+
+same_operated : (op : BinaryOp) (a b t u : Sort) → a ≡ t → b ≡ u
+    → operated_sort op (Some a) (Some b) ≡ operated_sort op (Some t) (Some u)
+same_operated op a b t u e f =
+    ap (λ v. operated_sort op (Some v) (Some b)) e ∙ ap (λ v. operated_sort op (Some t) (Some v)) f
+
+plus_zero : (a : ℕ) → a + 0 ≡ a
+plus_zero a = omega arith
+
+module _ (types : TypeTable) (σ : Sorts) where
+  -- ---- the operator itself
+
+  quotient_sorted : (asked : Option CheckId) (op : BinaryOp) (check : Option CheckId) (k alive x y : ℕ) (s : Sort)
+      → σ alive ≡ sort.Bool → σ y ≡ sort.Int → operated_sort op (Some (σ x)) (Some (σ y)) ≡ Some s
+      → WellSorted types σ (IsOf types σ s) k (quotient asked op check k alive x y)
+  quotient_sorted asked op check k alive x y s a int h =
+      let zero_steps = steps.Int (pos 0) ∷ steps.Binary Equal y k ∷ steps.Not (suc k) ∷ [] in
+      joined_sorted types σ k (plain zero_steps (suc (suc k)) alive) _
+      (plain_sorted types σ {R = IsOf types σ sort.Bool} k zero_steps (suc (suc k)) alive
+      (λ all.
+      let test = equal_makes types σ y k (suc k) (int ∙ sym all.0) all.1.0 in
+      (((all.0, refl), (test.0, ((test.1, all.1.1.0), tt))), all.1.1.0, a)))
+      (λ z. joined_sorted types σ _ (demand (asks asked check) _ alive _) _
+      (demand_sorted types σ (asks asked check) _ alive _ a z.out)
+      (λ d. one_sorted types σ (steps.Binary op x y) s _ _ (binary_makes types σ op x y _ s h) d.alive))
+
+  operating_sorted : (asked : Option CheckId) (op : BinaryOp) (check : Option CheckId) (k alive x y : ℕ) (s : Sort)
+      → σ alive ≡ sort.Bool → operated_sort op (Some (σ x)) (Some (σ y)) ≡ Some s
+      → WellSorted types σ (IsOf types σ s) k (operating asked op check k alive x y)
+  operating_sorted asked Div check k alive x y s a h =
+      quotient_sorted asked Div check k alive x y s a (right_int (σ x) (σ y) s h) h
+  operating_sorted asked Rem check k alive x y s a h =
+      quotient_sorted asked Rem check k alive x y s a (right_int (σ x) (σ y) s h) h
+  operating_sorted asked op check k alive x y s a h =
+      one_sorted types σ (steps.Binary op x y) s k alive (binary_makes types σ op x y k s h) a
+
+  -- ---- with its operands
+
+  skipping_sorted : (b : Compiling) (scope : List Sort) → Compiles types σ scope sort.Bool b → (k : ℕ) (env : List ℕ)
+      (taken x alive : ℕ) → AreOf types σ scope env → σ taken ≡ sort.Bool → σ x ≡ sort.Bool → σ alive ≡ sort.Bool
+      → WellSorted types σ (IsOf types σ sort.Bool) k (skipping b k env taken x alive)
+  skipping_sorted b scope hb k env taken x alive e t o a =
+      let y = b k env taken in
+      let z : Piece (Option ℕ) = plain [] (Some x) alive in
+      subst (λ n. WellSorted types σ (IsOf types σ sort.Bool) k (choice n taken y z)) (plus_zero (after k y))
+      (choice_sorted types σ sort.Bool k taken y z t (hb k env taken e t)
+      (none_sorted types σ {R = MaybeOf types σ sort.Bool} (after k y) (Some x) alive o a))
+
+  -- an operator whose operands have sorts where there are such
+  pub binary_compiles : (asked : Option CheckId) (op : BinaryOp) (check : Option CheckId) (a b : Compiling)
+      (scope : List Sort) (o q : Option Sort) (s : Sort)
+      → ((t : Sort) → o ≡ Some t → Compiles types σ scope t a)
+      → ((t : Sort) → q ≡ Some t → Compiles types σ scope t b)
+      → binary_sort op o q ≡ Some s → Compiles types σ scope s (binary asked op a b check)
+  binary_compiles asked op check a b scope o q s ha hb h =
+      let both = binary_operands op o q s h in
+      on_sorts asked op check a b scope both.0.0 both.1.0 s (ha both.0.0 both.0.1) (hb both.1.0 both.1.1)
+      (sym (ap (λ v. binary_sort op v q) both.0.1 ∙ ap (λ v. binary_sort op (Some both.0.0) v) both.1.1) ∙ h)
+    where
+      on_sorts : (asked : Option CheckId) (op : BinaryOp) (check : Option CheckId) (a b : Compiling)
+          (scope : List Sort) (t u s : Sort) → Compiles types σ scope t a → Compiles types σ scope u b
+          → binary_sort op (Some t) (Some u) ≡ Some s → Compiles types σ scope s (binary asked op a b check)
+      on_sorts asked AndAlso check a b scope t u s ha hb h k env reach e r =
+          let q = truths t u s h in
+          subst (λ v. WellSorted types σ (IsOf types σ v) k (binary asked AndAlso a b check k env reach)) q.2
+          (joined_sorted types σ k (a k env reach) _ (ha k env reach e r)
+          (λ x. joined_sorted types σ _ (when _ _ _) _ (when_sorted types σ _ _ _ x.alive (x.out ∙ q.0))
+          (λ w. skipping_sorted b scope (subst (λ v. Compiles types σ scope v b) q.1 hb) _ env _ _ _ e w.out
+          (x.out ∙ q.0) x.alive)))
+      on_sorts asked OrElse check a b scope t u s ha hb h k env reach e r =
+          let q = truths t u s h in
+          subst (λ v. WellSorted types σ (IsOf types σ v) k (binary asked OrElse a b check k env reach)) q.2
+          (joined_sorted types σ k (a k env reach) _ (ha k env reach e r)
+          (λ x. joined_sorted types σ _ (unless _ _ _) _ (unless_sorted types σ _ _ _ x.alive (x.out ∙ q.0))
+          (λ w. skipping_sorted b scope (subst (λ v. Compiles types σ scope v b) q.1 hb) _ env _ _ _ e w.out
+          (x.out ∙ q.0) x.alive)))
+      on_sorts asked op check a b scope t u s ha hb h k env reach e r =
+          joined_sorted types σ k (a k env reach) _ (ha k env reach e r)
+          (λ x. joined_sorted types σ _ (b _ env _) _ (hb _ env _ e x.alive)
+          (λ y. operating_sorted asked op check _ _ _ _ s y.alive
+          (same_operated op _ _ t u x.out y.out ∙ h)))
+
+  pub unary_compiles : (op : UnaryOp) (a : Compiling) (scope : List Sort) (o : Option Sort) (s : Sort)
+      → ((t : Sort) → o ≡ Some t → Compiles types σ scope t a) → unary_sort op o ≡ Some s
+      → Compiles types σ scope s (λ k env reach. bind k (a k env reach) (λ n x alive. one (steps.Unary op x) n alive))
+  unary_compiles op a scope o s ha h k env reach e r =
+      let has = unary_operand op o s h in
+      let there = sym (ap (unary_sort op) has.1) ∙ h in
+      joined_sorted types σ k (a k env reach) _ (ha has.0 has.1 k env reach e r)
+      (λ x. one_sorted types σ (steps.Unary op _) s _ _
+      (unary_makes types σ op _ _ s (ap (λ t. unary_sort op (Some t)) x.out ∙ there)) x.alive)

@@ -1,0 +1,182 @@
+-- The steps of a pattern of a sort are well sorted.
+use Rattle.std.proofs.Common.{◌≡◌, ℕ, suc, ◌+◌, Bool, true, false, List, [], ◌∷◌, ◌++◌, length, map, Option, Some, None, slice_get, refl, sym, ap, ◌∙◌, subst, arith}
+use Rattle.std.proofs.lemmas.Bool.{and_parts}
+use Rattle.std.specs.Prelude.{◌&&◌, if◌then◌else◌}
+use Rattle.pp_prog.specs.declared.expr.Pattern.{Pattern}
+use Rattle.pp_prog.specs.declared.expr.Pattern.TheFolds.{fold-roll-Pattern, ind-Pattern, map-Pattern}
+use Rattle.pp_prog.specs.declared.expr.Pattern.TheOpen as pattern
+use Rattle.pp_prog.specs.declared.expr.Pattern.TheViews.{roll-Pattern}
+use Rattle.pp_prog.specs.declared.id.CtorId.{CtorId}
+use Rattle.pp_prog.specs.declared.sort.Sort.{Sort}
+use Rattle.pp_prog.specs.declared.sort.Sort.TheVariants as sort
+use Rattle.pp_prog.specs.declared.types.Ctor.{Ctor}
+use Rattle.pp_prog.specs.declared.types.TypeTable.{TypeTable}
+use Rattle.pp_prog.specs.PatternSorts.{Binding, bind_fields, bind_step, bind_tree, binds_none, bound_sorts, then_bind}
+use Rattle.pp_prog.specs.Sorts.{is_int, same_sort}
+use Rattle.pp_sound.proofs.Env.{one_sort}
+use Rattle.pp_steps.specs.declared.step.Step.{Step}
+use Rattle.pp_steps.specs.declared.step.Step.TheVariants as steps
+use Rattle.pp_steps.specs.Patterns.{Fitting, Matching, equals, fit_fields, fitting, fitting_step}
+use Rattle.pp_steps.specs.Sorted.{AllSorted, Sorts}
+use Rattle.pp_steps_sorted.proofs.Assigned.{AllAssigned, assigned_parts}
+use Rattle.pp_steps_sorted.proofs.Pieces.{AreBool, AreOf, Makes, bool_join, of_join, sorted_join}
+use Rattle.pp_steps_sorted.proofs.Steps.{equal_makes, select_makes}
+
+bind_then : (r : Option (List Sort)) (go : List Sort → Option (List Sort)) (ss : List Sort) → then_bind r go ≡ Some ss
+    → (here : List Sort) × (r ≡ Some here) × (go here ≡ Some ss)
+bind_then None go ss h = cc
+bind_then (Some here) go ss h = (here, refl, h)
+
+none_binds : (b : Bool) (ss : List Sort) → binds_none b ≡ Some ss → (b ≡ true) × ([] ≡ ss)
+none_binds true ss h = (refl, cc)
+none_binds false ss h = cc
+
+-- a constructor's pattern, at a tree of its datatype
+tree_binds : (o : Option Ctor) (bs : List Binding) (s : Sort) (ss : List Sort) → bind_tree o bs s ≡ Some ss
+    → (c : Ctor) × (o ≡ Some c) × (sort.Tree c.of ≡ s) × (bind_fields bs c.fields ≡ Some ss)
+tree_binds None bs s ss h = cc
+tree_binds (Some c) bs s ss h = by (same_sort (sort.Tree c.of) s) refl h
+  where
+    by : (b : Bool) → same_sort (sort.Tree c.of) s ≡ b → (if b then bind_fields bs c.fields else None) ≡ Some ss
+        → (k : Ctor) × (Some c ≡ Some k) × (sort.Tree k.of ≡ s) × (bind_fields bs k.fields ≡ Some ss)
+    by true e g = (c, refl, one_sort (sort.Tree c.of) s e, g)
+    by false e g = cc
+
+plus_zero : (j : ℕ) → j + 0 ≡ j
+plus_zero j = omega arith
+
+zero_plus : (i : ℕ) → 0 + i ≡ i
+zero_plus i = omega arith
+
+plus_suc : (j i : ℕ) → suc j + i ≡ j + suc i
+plus_suc j i = omega arith
+
+module _ (types : TypeTable) (σ : Sorts) where
+  -- the steps from number k on are well sorted, the tests are truth values, and what is bound has these sorts
+  pub record IsFitSorted (k : ℕ) (x : Fitting) (ss : List Sort) : Type 0 where
+    pub sorted : AllSorted types σ k x.steps
+    pub tests : AreBool types σ x.tests
+    pub bound : AreOf types σ ss x.bound
+
+  -- so it is at a value of each sort of the pattern, where the steps have the sorts that follow from their operands
+  abbrev Fits : Matching → Binding → Type 0
+  Fits m b =
+      (k t : ℕ) (s : Sort) (ss : List Sort) → σ t ≡ s → b s ≡ Some ss → AllAssigned types σ k (m k t).steps
+      → IsFitSorted k (m k t) ss
+
+  abbrev FitsAt : Pattern → Type 0
+  FitsAt p = Fits (fitting p) (bound_sorts types.ctors p)
+
+  abbrev P : Type 0
+  P = (p : Pattern) × FitsAt p
+
+  abbrev patterns : List P → List Pattern
+  patterns ys = map (λ y. y.0) ys
+
+  abbrev matchings : List P → List Matching
+  matchings ys = map fitting (patterns ys)
+
+  abbrev bindings : List P → List Binding
+  bindings ys = map (bound_sorts types.ctors) (patterns ys)
+
+  equals_fits : (s : Step) (r : Sort) (k t : ℕ) → Makes types σ r k s → σ t ≡ r
+      → AllAssigned types σ k (equals s k t).steps → IsFitSorted k (equals s k t) []
+  equals_fits s r k t h e all =
+      let it = h all.0 in
+      let test = equal_makes types σ k t (suc k) (it.1 ∙ sym e) all.1.0 in
+      record { sorted = (it.0, (test.0, tt)); tests = (test.1, tt); bound = refl }
+
+  -- a list of patterns binds at a list of sorts that is as long
+  binds_length : (ys : List P) (ts ss : List Sort) → bind_fields (bindings ys) ts ≡ Some ss
+      → length (matchings ys) ≡ length ts
+  binds_length [] [] ss h = refl
+  binds_length [] (t ∷ ts) ss h = cc
+  binds_length (y ∷ ys) [] ss h = cc
+  binds_length (y ∷ ys) (t ∷ ts) ss h =
+      let rest = bind_fields (bindings ys) ts in
+      let m = bind_then (bound_sorts types.ctors y.0 t) (λ here. then_bind rest (λ more. Some (here ++ more))) ss h in
+      let n = bind_then rest (λ more. Some (m.0 ++ more)) ss m.2 in
+      ap suc (binds_length ys ts n.0 n.1)
+
+  module _ (c : CtorId) (ctor : Ctor) (is : slice_get types.ctors c.0 ≡ Some ctor) where
+    fields_fit : (ys : List P) (ts ss : List Sort) → bind_fields (bindings ys) ts ≡ Some ss → (j k t : ℕ)
+        → σ t ≡ sort.Tree ctor.of
+        → ((i : ℕ) (r : Sort) → slice_get ts i ≡ Some r → slice_get ctor.fields (j + i) ≡ Some r)
+        → AllAssigned types σ k (fit_fields c j (matchings ys) k t).steps
+        → IsFitSorted k (fit_fields c j (matchings ys) k t) ss
+    fields_fit [] [] ss h j k t e at all = record { sorted = tt; tests = tt; bound = cc }
+    fields_fit [] (r ∷ rs) ss h j k t e at all = absurd (cc)
+    fields_fit (y ∷ ys) [] ss h j k t e at all = absurd (cc)
+    fields_fit (y ∷ ys) (r ∷ rs) ss h j k t e at all =
+        let rest = bind_fields (bindings ys) rs in
+        let m = bind_then (bound_sorts types.ctors y.0 r) (λ here. then_bind rest (λ more. Some (here ++ more))) ss h in
+        let n = bind_then rest (λ more. Some (m.0 ++ more)) ss m.2 in
+        let x = fitting y.0 (suc k) k in
+        let next = suc k + length x.steps in
+        let z = fit_fields c (suc j) (matchings ys) next t in
+        let there : slice_get ctor.fields j ≡ Some r = subst (λ i. slice_get ctor.fields i ≡ Some r) (plus_zero j)
+        (at 0 r refl) in
+        let field = select_makes types σ c ctor j t k r is e there all.0 in
+        let both = assigned_parts types σ (suc k) x.steps z.steps all.1 in
+        let a = y.1 (suc k) k r m.0 field.1 m.1 both.0 in
+        let b = fields_fit ys rs n.0 n.1 (suc j) next t e
+        (λ i q g. subst (λ i. slice_get ctor.fields i ≡ Some q) (sym (plus_suc j i)) (at (suc i) q g)) both.1 in
+        let all_bound : m.0 ++ n.0 ≡ ss = cc (n.2) in
+        record {
+          sorted = (field.0, sorted_join types σ (suc k) x.steps z.steps a.sorted b.sorted);
+          tests = bool_join types σ x.tests z.tests a.tests b.tests;
+          bound = of_join types σ m.0 n.0 x.bound z.bound a.bound b.bound ∙ all_bound;
+        }
+
+  abbrev under : pattern.Pattern-F P → pattern.Pattern-F Pattern
+  under y = map-Pattern P Pattern (λ z. z.0) y
+
+  level : (y : pattern.Pattern-F P)
+      → Fits (fitting_step (map-Pattern Pattern Matching fitting (under y)))
+      (bind_step types.ctors (map-Pattern Pattern Binding (bound_sorts types.ctors) (under y)))
+  level pattern.Any k t s ss e h all = record { sorted = tt; tests = tt; bound = cc }
+  level (pattern.Bind inner) k t s ss e h all =
+      let m = bind_then (bound_sorts types.ctors inner.0 s) (λ more. Some (s ∷ more)) ss h in
+      let a = inner.1 k t s m.0 e m.1 all in
+      let x = fitting inner.0 k t in
+      let all_bound : s ∷ m.0 ≡ ss = cc (m.2) in
+      record {
+        sorted = a.sorted;
+        tests = a.tests;
+        bound = of_join types σ (s ∷ []) m.0 (t ∷ []) x.bound (ap (λ u. u ∷ []) e) a.bound ∙ all_bound;
+      }
+  level (pattern.Int n) k t s ss e h all =
+      let b = none_binds (same_sort sort.Int s && is_int n) ss h in
+      let p = and_parts (same_sort sort.Int s) (is_int n) b.0 in
+      let int : σ t ≡ sort.Int = e ∙ sym (one_sort sort.Int s p.0) in
+      subst (IsFitSorted k (equals (steps.Int n) k t)) b.1
+      (equals_fits (steps.Int n) sort.Int k t (λ is. ((is, p.1), is)) int all)
+  level (pattern.Bool v) k t s ss e h all =
+      let b = none_binds (same_sort sort.Bool s) ss h in
+      let truth : σ t ≡ sort.Bool = e ∙ sym (one_sort sort.Bool s b.0) in
+      subst (IsFitSorted k (equals (steps.Bool v) k t)) b.1
+      (equals_fits (steps.Bool v) sort.Bool k t (λ is. (is, is)) truth all)
+  level (pattern.Ctor c ys) k t s ss e h all =
+      let tree = tree_binds (slice_get types.ctors c.0) (bindings ys) s ss h in
+      let operand : σ t ≡ sort.Tree tree.0.of = e ∙ sym tree.2 in
+      let a = fields_fit c tree.0 tree.1 ys tree.0.fields ss tree.3 0 (suc k) t operand
+      (λ i r g. subst (λ n. slice_get tree.0.fields n ≡ Some r) (sym (zero_plus i)) g) all.1 in
+      let count = binds_length ys tree.0.fields ss tree.3 in
+      record {
+        sorted =
+            ((record { ctor = tree.0; stands = tree.1; operand = operand; fields = count }, all.0), a.sorted);
+        tests = (all.0, a.tests);
+        bound = a.bound;
+      }
+
+  at_level : (y : pattern.Pattern-F P) → FitsAt (roll-Pattern (under y))
+  at_level y =
+      let z = under y in
+      let one = fold-roll-Pattern Matching fitting_step z in
+      let two = fold-roll-Pattern Binding (bind_step types.ctors) z in
+      subst (λ m. Fits m (bound_sorts types.ctors (roll-Pattern z))) (sym one)
+      (subst (λ b. Fits (fitting_step (map-Pattern Pattern Matching fitting z)) b) (sym two) (level y))
+
+  -- the steps of a pattern
+  pub pattern_fits : (p : Pattern) → FitsAt p
+  pattern_fits = ind-Pattern FitsAt (λ x y is. subst (λ z. FitsAt (roll-Pattern z)) is (at_level y))
