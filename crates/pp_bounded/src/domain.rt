@@ -30,6 +30,10 @@ impl Domain for Bounded {
         self.trees.ok
     }
 
+    fn data_of(&self, tree: &BoundedTree) -> DataId {
+        tree.of
+    }
+
     fn unknown(
         &mut self,
         circuit: &mut Circuit,

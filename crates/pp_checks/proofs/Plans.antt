@@ -88,7 +88,7 @@ module _ (plan : Plan) (program : Program) (p : IsPlanOf plan program) where
         λ c. ⊎_elim (λ e. inl e) (λ r. inr ((p.rows.tells f g lf inside).1 r)) c,
       )
 
-  nested_told : (f n : ℕ) → f < length program.functions → (is_at_most (slice_get plan.nestings f) n ≡ true) ↔
+  pub nested_told : (f n : ℕ) → f < length program.functions → (is_at_most (slice_get plan.nestings f) n ≡ true) ↔
       Nests (call_table program.functions) n f
   nested_told f n lt =
       let t = told (IsNesting (call_table program.functions)) (length program.functions) f plan.nestings p.nestings

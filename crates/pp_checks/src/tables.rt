@@ -2,6 +2,7 @@
 
 ghost use Rattle.std.specs.Prelude.{◌≡◌, slice_get};
 ghost use Rattle.pp_prog.specs.declared.program.Program.{Program};
+ghost use Rattle.pp_checks.specs.Nested.{TellsNested};
 ghost use Rattle.pp_checks.specs.Plan.{IsPlanOf, TellsClosed, TellsCone, TellsPlain, TellsRank};
 ghost use Rattle.pp_checks.specs.Tables.{is_at_most};
 
@@ -53,6 +54,13 @@ impl Plan {
         ensures { TellsClosed self.now f.0 round depth result }
     {
         is_within(self.nestings.as_slice(), f, round) && is_low(self.tallest.as_slice(), f, depth)
+    }
+
+    /// Whether the call tree of the function, contracts included, is at most `round` deep. It takes no memory.
+    pub fn nested(&self, f: FunctionId, round: u32) -> bool
+        ensures { TellsNested self.now f.0 round result }
+    {
+        is_within(self.nestings.as_slice(), f, round)
     }
 
     /// Whether the check is a plain descent. It takes no memory.

@@ -33,6 +33,11 @@ pub trait Domain {
     fn ok(&self) -> Lit
         ensures { result ≡ sense.ok self.now };
 
+    /// The datatype of a tree.
+    fn data_of(&self, tree: &Self::Tree) -> DataId
+        requires { sense.Node self.now tree.now }
+        ensures { result ≡ sense.data_of self.now tree.now };
+
     /// A tree of which nothing is known but its height.
     ///
     /// In an exact domain it stands for each value of the datatype up to this height, in another for each value that

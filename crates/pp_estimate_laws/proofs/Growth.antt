@@ -61,7 +61,7 @@ events_same a = record { costs = le_same (cost a); looks = λ d. refl; calls = �
 none_more : (n : ℕ) → n ≡ 0 + n
 none_more n = omega arith
 
-cost_of_both : (a b : List Event) → cost (a ++ b) ≡ cost a + cost b
+pub cost_of_both : (a b : List Event) → cost (a ++ b) ≡ cost a + cost b
 cost_of_both [] b = none_more (cost b)
 cost_of_both (e ∷ a) b = ap (λ n. weight e + n) (cost_of_both a b) ∙ sum_moved (weight e) (cost a) (cost b)
   where

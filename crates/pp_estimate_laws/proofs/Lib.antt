@@ -1,6 +1,6 @@
-mod Numbers
-mod Sizes
-mod Growth
+pub mod Numbers
+pub mod Sizes
+pub mod Growth
 mod Patterns
 mod Visits
 mod Frames

@@ -1,3 +1,4 @@
 pub mod Supported
 pub mod Verdicts
 pub mod Reports
+pub mod Laws

@@ -2,16 +2,19 @@
 //!
 //! `conclude` gives each function its verdict, by the first row of a table that applies, and a function that is valid
 //! is good, by measure induction (`pp_induction`). `specs/Supported` says what has to stand behind the ends of
-//! checks, `specs/Verdicts` what the table is.
+//! checks, `specs/Verdicts` what the table is, `specs/Reports` what stands behind a report, and `specs/Laws` which ends
+//! a report can't have.
 #![tactic(auto)]
 
 mod concluding;
 mod ends;
+mod laws;
 mod limits;
 mod verdict;
 
 pub use concluding::conclude;
 pub use ends::{CheckEnd, Ends, Why};
+pub use laws::{closed_are_decided, failing_are_found};
 pub use limits::Limits;
 pub use std::alloc::AllocError as NoMemory;
 pub use verdict::{Report, Verdict, Verdicts};

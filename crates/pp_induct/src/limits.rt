@@ -1,7 +1,8 @@
 //! What is asked of the work on checks.
 
-/// How far each check is worked on: in rounds 0 to `rounds` (at most 12), on arguments of height at most `depth` (1 to 6),
-/// with at most so many lemmas a query (1 to 1,000,000), and in rounds whose estimate is at most `gates` (1 to 4,000,000).
+/// How far each check is worked on: in rounds 0 to `rounds` (at most 12), on arguments of height at most `depth` (1 to
+/// 6), with at most so many lemmas a query (1 to 1,000,000), and in rounds whose estimate is at most `gates` (1 to
+/// 4,000,000).
 #[derive(Clone, Copy, PartialEq, Eq, Debug)]
 pub struct Limits {
     pub rounds: u32,

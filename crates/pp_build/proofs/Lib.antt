@@ -1,0 +1,14 @@
+pub mod Values
+pub mod Kept
+pub mod Operands
+pub mod Performing
+pub mod Gates
+pub mod TruthSteps
+pub mod Fields
+pub mod TreeSteps
+pub mod Reading
+pub mod OperatorSteps
+pub mod UnknownSymbols
+pub mod ManyUnknown
+pub mod StepLists
+pub mod Progress

@@ -1,0 +1,227 @@
+-- Performed steps on trees.
+use Rattle.std.proofs.Common.{◌≡◌, ℕ, ◌+◌, ◌-◌, ◌<◌, Bool, true, false, List, [], ◌∷◌, ◌++◌, length, map, All, Some, slice_get, refl, sym, ap, ◌∙◌, subst}
+use Rattle.std.specs.Prelude.{IsTrue}
+use Rattle.std.proofs.lemmas.Bool.{and_from}
+use Rattle.std.proofs.lemmas.List.Elements.{All-head, All-tail}
+use Rattle.std.proofs.lemmas.Option.{same_Some}
+use Rattle.pp_prog.specs.declared.id.CtorId.{CtorId}
+use Rattle.pp_prog.specs.declared.id.DataId.{DataId}
+use Rattle.pp_prog.specs.declared.sort.Sort.{Sort}
+use Rattle.pp_prog.specs.declared.sort.Sort.TheVariants as sort
+use Rattle.pp_prog.specs.declared.types.Ctor.{Ctor}
+use Rattle.pp_prog.specs.declared.types.Datatype.{Datatype}
+use Rattle.pp_prog.specs.declared.types.TypeTable.{TypeTable}
+use Rattle.pp_prog.specs.declared.value.Value.{Value}
+use Rattle.pp_prog.specs.declared.value.Value.TheVariants.{Tree}
+use Rattle.pp_prog.specs.ExprSorts.{field_sort}
+use Rattle.pp_prog.specs.Sizes.{height_at}
+use Rattle.pp_prog.specs.Sorts.{has_sort, have_sorts}
+use Rattle.pp_prog.specs.Values.{greatest}
+use Rattle.pp_clause.specs.Literal.{Literal, lit_value}
+use Rattle.pp_gate.specs.declared.gate.Gate.{Gate}
+use Rattle.pp_domain.specs.declared.symbol.Symbol.{Symbol}
+use Rattle.pp_domain.specs.declared.symbol.Symbol.TheVariants as symbol
+use Rattle.pp_domain.specs.Answers.{CanConstruct, HasField, IsConstruct, IsCtorOf, IsCtorTest, IsFieldRead}
+use Rattle.pp_domain.specs.Naming.{Naming, own}
+use Rattle.pp_domain.specs.Sense.{Sense, Good}
+use Rattle.pp_domain.specs.Symbols.{AreSymbols, IsSymbol, SymbolsStand, symbol_height}
+use Rattle.pp_steps.specs.declared.step.Step.TheVariants as steps
+use Rattle.pp_steps.specs.Gates.{Heights}
+use Rattle.pp_steps.specs.Meaning.{Values, has_ctor}
+use Rattle.pp_steps.specs.Sorted.{Sorts}
+use Rattle.pp_sound.proofs.Env.{have_at, tree_has_sort}
+use Rattle.pp_build.specs.Performed.{CanPerform, Performs}
+use Rattle.pp_build.specs.Registers.{AreAt, AreRegisters, IsKnown}
+use Rattle.pp_build.proofs.Fields.{OnlyCtor, ctor_field_is, datatype_within, field_is, fields_sorted, has_ctor_is, only_ctor}
+use Rattle.pp_build.proofs.Operands.{operand_stands, step_known, tree_of, truth_known}
+use Rattle.pp_build.proofs.Performing.{exactly}
+
+same_bool : (x y : Bool) → (x ≡ true → y ≡ true) → (y ≡ true → x ≡ true) → x ≡ y
+same_bool true y f g = sym (f refl)
+same_bool false true f g = g refl
+same_bool false false f g = refl
+
+module _ {D T : Type 0} (m : Sense D T) (types : TypeTable) (d : D) (gs : List Gate) (rs : List (Symbol T)) where
+  -- ---- constructors
+
+  pub test_performed : m.exact ≡ true → (e : D) (hs : List Gate) (c : CtorId) (n i : ℕ) (t : T) (l : Literal)
+      → slice_get rs i ≡ Some (symbol.Tree t) → IsCtorTest m types d gs e hs t c l
+      → Performs m types d gs rs (steps.IsCtor c n i) e hs (symbol.Bit l)
+  test_performed exact e hs c n i t l at test can = record {
+    of = subst (λ s. IsSymbol m e hs s (symbol.Bit l)) (sym can.sorted.1) test.of;
+    high = refl;
+    extends = λ k a good. test.extends k a good (exactly m _ exact);
+    known = λ k a ρ missing good is known.
+        let s = operand_stands m types e a k can.sorts ρ rs (symbol.Bit l) i (symbol.Tree t) at known in
+        let of = can.sorted.0 in
+        let both = has_ctor_is types.ctors c of.ctor n (ρ i) of.stands of.fields
+        (subst (λ r. has_sort types.ctors (ρ i) r ≡ true) of.operand s.sorted) in
+        let means = test.means k a (ρ i) good s.stands in
+        truth_known m types e a k can.sorts ρ rs l (has_ctor c n (ρ i)) can.sorted.1 is
+        (same_bool (lit_value a l) (has_ctor c n (ρ i)) (λ h. both.has (means.0 h).0 (means.0 h).1)
+        (λ h. means.1 (both.only h)));
+  }
+
+  -- the symbols of fields
+  fields_at : (σ : Sorts) (η : Heights) (ks : List ℕ) (xs : List (Symbol T)) → AreRegisters m d gs σ η rs
+      → AreAt rs ks xs → AreSymbols m d gs (map σ ks) xs
+  fields_at σ η [] [] are at = tt
+  fields_at σ η [] (x ∷ xs) are at = absurd at
+  fields_at σ η (k ∷ ks) [] are at = absurd at
+  fields_at σ η (k ∷ ks) (x ∷ xs) are at = (are.of k x at.0, fields_at σ η ks xs are at.1)
+
+  heights_at : (σ : Sorts) (η : Heights) (ks : List ℕ) (xs : List (Symbol T)) → AreRegisters m d gs σ η rs
+      → AreAt rs ks xs → map (symbol_height m d) xs ≡ map η ks
+  heights_at σ η [] [] are at = refl
+  heights_at σ η [] (x ∷ xs) are at = absurd at
+  heights_at σ η (k ∷ ks) [] are at = absurd at
+  heights_at σ η (k ∷ ks) (x ∷ xs) are at =
+      ap (λ (h : ℕ). h ∷ map (symbol_height m d) xs) (are.high k x at.0)
+      ∙ ap (λ (hs : List ℕ). η k ∷ hs) (heights_at σ η ks xs are at.1)
+
+  pub can_construct : (c : CtorId) (ks : List ℕ) (xs : List (Symbol T)) → AreAt rs ks xs
+      → CanPerform m types d gs rs (steps.Construct c ks) → CanConstruct m types d gs c xs
+  can_construct c ks xs at can = (
+    can.sorted.ctor,
+    can.sorted.stands,
+    subst (λ ss. AreSymbols m d gs ss xs) can.sorted.fields
+        (fields_at can.sorts can.heights ks xs can.registers at),
+  )
+
+  module _ (e : D) (a : ℕ → Bool) (n : Naming) (σ : Sorts) (ρ : Values) (r : Symbol T) where
+    fields_stand : (ks : List ℕ) (xs : List (Symbol T)) → AreAt rs ks xs
+        → All (IsKnown m types e a n σ ρ (rs ++ r ∷ [])) ks → SymbolsStand m e a n xs (map ρ ks)
+    fields_stand [] [] at known = tt
+    fields_stand [] (x ∷ xs) at known = absurd at
+    fields_stand (k ∷ ks) [] at known = absurd at
+    fields_stand (k ∷ ks) (x ∷ xs) at known = (
+      (operand_stands m types e a n σ ρ rs r k x at.0
+          (All-head (IsKnown m types e a n σ ρ (rs ++ r ∷ [])) k ks known)).stands,
+      fields_stand ks xs at.1 (All-tail (IsKnown m types e a n σ ρ (rs ++ r ∷ [])) k ks known),
+    )
+
+    fields_have_sorts : (ks : List ℕ) → All (IsKnown m types e a n σ ρ (rs ++ r ∷ [])) ks
+        → have_sorts types.ctors (map ρ ks) (map σ ks) ≡ true
+    fields_have_sorts [] known = refl
+    fields_have_sorts (k ∷ ks) known =
+        let first = All-head (IsKnown m types e a n σ ρ (rs ++ r ∷ [])) k ks known in
+        and_from (has_sort types.ctors (ρ k) (σ k)) (have_sorts types.ctors (map ρ ks) (map σ ks)) first.sorted
+        (fields_have_sorts ks (All-tail (IsKnown m types e a n σ ρ (rs ++ r ∷ [])) k ks known))
+
+  pub construct_performed : m.exact ≡ true → (e : D) (hs : List Gate) (c : CtorId) (ks : List ℕ)
+      (xs : List (Symbol T)) (t : T) → AreAt rs ks xs → IsConstruct m types d gs e hs c xs t
+      → Performs m types d gs rs (steps.Construct c ks) e hs (symbol.Tree t)
+  construct_performed exact e hs c ks xs t at made can =
+      let of : m.data_of e t ≡ can.sorted.ctor.of = sym made.data_of.2
+      ∙ ap (λ (k : Ctor). k.of) (same_Some made.data_of.0 can.sorted.ctor (sym made.data_of.1 ∙ can.sorted.stands)) in
+      record {
+        of = subst (λ s. IsSymbol m e hs s (symbol.Tree t)) (sym can.sorted.result) (made.node, of);
+        high = made.height ∙ ap (λ hs. 1 + greatest hs) (heights_at can.sorts can.heights ks xs can.registers at);
+        extends = λ k a good. made.extends k a good (exactly m _ exact);
+        known = λ k a ρ missing good is known.
+            step_known m types e a k can.sorts ρ rs (symbol.Tree t) (Tree c (map ρ ks)) is (record {
+              stands = made.means k a (map ρ ks) good (fields_stand e a k can.sorts ρ (symbol.Tree t) ks xs at known);
+              sorted = ap (has_sort types.ctors (Tree c (map ρ ks))) can.sorted.result
+                  ∙ tree_has_sort types.ctors c can.sorted.ctor (map ρ ks) can.sorted.stands
+                  (subst (λ ss. have_sorts types.ctors (map ρ ks) ss ≡ true) can.sorted.fields
+                  (fields_have_sorts e a k can.sorts ρ (symbol.Tree t) ks known));
+            });
+      }
+
+  -- ---- fields
+
+  -- a step that reads a field of a constructor, where the operand is a tree of its datatype
+  module _ (σ : Sorts) (η : Heights) (are : AreRegisters m d gs σ η rs) (i : ℕ) (t : T)
+      (at : slice_get rs i ≡ Some (symbol.Tree t)) (e : D) (hs : List Gate) (c : CtorId) (k : Ctor) (place : ℕ)
+      (entry : slice_get types.ctors c.0 ≡ Some k) (operand : σ i ≡ sort.Tree k.of)
+      (field : slice_get k.fields place ≡ Some (σ (length rs))) (r : Symbol T)
+      (read : IsFieldRead m types d gs e hs t c place (σ (length rs)) r) where
+    field_height : symbol_height m e r ≡ height_at (η i - 1) (σ (length rs))
+    field_height = read.height ∙ ap (λ h. height_at (h - 1) (σ (length rs))) (are.high i (symbol.Tree t) at)
+
+    -- its value is known, where it is that of the field
+    field_known : (n : Naming) (a : ℕ → Bool) (ρ : Values) → Good m types e hs n a
+        → IsKnown m types e a n σ ρ (rs ++ r ∷ []) i → (fields : List Value) → ρ i ≡ Tree c fields
+        → ((u : Value) → slice_get fields place ≡ Some u → ρ (length rs) ≡ u)
+        → IsKnown m types e a n σ ρ (rs ++ r ∷ []) (length rs)
+    field_known n a ρ good known fields is value =
+        let o = operand_stands m types e a n σ ρ rs r i (symbol.Tree t) at known in
+        let sorted = subst (λ s. IsTrue (has_sort types.ctors (ρ i) s)) operand o.sorted in
+        let f = have_at types.ctors k.fields fields place (σ (length rs))
+        (fields_sorted types.ctors c k k.of (ρ i) fields entry sorted is) field in
+        step_known m types e a n σ ρ rs r f.0 (value f.0 f.1) (record {
+          stands = read.means n a (ρ i) f.0 good o.stands (own fields is f.1) (λ _. (fields, is));
+          sorted = f.2;
+        })
+
+  pub has_field : (c : CtorId) (place i : ℕ) → CanPerform m types d gs rs (steps.CtorField c place i)
+      → (s : Sort) × HasField types c place s
+  has_field c place i can = (can.sorts (length rs), (can.sorted.ctor, can.sorted.stands, can.sorted.field))
+
+  pub ctor_field_performed : m.exact ≡ true → (e : D) (hs : List Gate) (c : CtorId) (place i : ℕ) (t : T)
+      (r : Symbol T) → slice_get rs i ≡ Some (symbol.Tree t)
+      → ((s : Sort) → HasField types c place s → IsFieldRead m types d gs e hs t c place s r)
+      → Performs m types d gs rs (steps.CtorField c place i) e hs r
+  ctor_field_performed exact e hs c place i t r at given can =
+      let k = can.sorted.ctor in
+      let read = given (can.sorts (length rs)) (k, can.sorted.stands, can.sorted.field) in
+      record {
+        of = read.of;
+        high = field_height can.sorts can.heights can.registers i t at e hs c k place can.sorted.stands
+            can.sorted.operand can.sorted.field r read;
+        extends = λ n a good. read.extends n a good (exactly m _ exact);
+        known = λ n a ρ missing good is known fields tree.
+            field_known can.sorts can.heights can.registers i t at e hs c k place can.sorted.stands can.sorted.operand
+            can.sorted.field r read n a ρ good known fields tree
+            (λ u there. is ∙ ctor_field_is missing c place (ρ i) u fields tree there);
+      }
+
+  -- the one constructor of a datatype
+  module _ (i place : ℕ) (t : T) (of : DataId) (is_of : of ≡ m.data_of d t)
+      (at : slice_get rs i ≡ Some (symbol.Tree t)) where
+    datatype_is : (can : CanPerform m types d gs rs (steps.Field i place)) → of ≡ can.sorted.datatype
+    datatype_is can =
+        is_of ∙ (tree_of m d gs can.sorts can.heights rs i can.sorted.datatype t can.registers at can.sorted.operand).1
+
+    pub only_datatype : CanPerform m types d gs rs (steps.Field i place) → of.0 < length types.datatypes
+    only_datatype can =
+        subst (λ (x : DataId). x.0 < length types.datatypes) (sym (datatype_is can))
+        (datatype_within types can.sorted.datatype place (can.sorts (length rs)) can.sorted.field)
+
+    module _ (b : Datatype) (there : slice_get types.datatypes of.0 ≡ Some b) where
+      only : (can : CanPerform m types d gs rs (steps.Field i place))
+          → OnlyCtor types b of place (can.sorts (length rs))
+      only can =
+          only_ctor types b of place (can.sorts (length rs)) there
+          (ap (λ (x : DataId). field_sort types [] x place) (datatype_is can) ∙ can.sorted.field)
+
+      only_tree : (can : CanPerform m types d gs rs (steps.Field i place)) (v : Value)
+          → IsTrue (has_sort types.ctors v (can.sorts i)) → (fields : List Value) × (v ≡ Tree b.first fields)
+      only_tree can v sorted =
+          (only can).only v (ap (has_sort types.ctors v) (ap sort.Tree (datatype_is can) ∙ sym can.sorted.operand)
+          ∙ sorted)
+
+      pub only_is : CanPerform m types d gs rs (steps.Field i place) → IsCtorOf types b.first (m.data_of d t)
+      only_is can = let c = only can in (c.entry, c.at, c.of ∙ is_of)
+
+      pub only_has : CanPerform m types d gs rs (steps.Field i place) → (s : Sort) × HasField types b.first place s
+      only_has can = let c = only can in (can.sorts (length rs), (c.entry, c.at, c.field))
+
+      pub only_field_performed : m.exact ≡ true → (e : D) (hs : List Gate) (r : Symbol T)
+          → ((s : Sort) → HasField types b.first place s → IsFieldRead m types d gs e hs t b.first place s r)
+          → Performs m types d gs rs (steps.Field i place) e hs r
+      only_field_performed exact e hs r given can =
+          let c = only can in
+          let operand = can.sorted.operand ∙ ap sort.Tree (sym (c.of ∙ datatype_is can)) in
+          let read = given (can.sorts (length rs)) (c.entry, c.at, c.field) in
+          record {
+            of = read.of;
+            high = field_height can.sorts can.heights can.registers i t at e hs b.first c.entry place c.at operand
+                c.field r read;
+            extends = λ n a good. read.extends n a good (exactly m _ exact);
+            known = λ n a ρ missing good is known.
+                let tree = only_tree can (ρ i) known.sorted in
+                field_known can.sorts can.heights can.registers i t at e hs b.first c.entry place c.at operand c.field
+                r read n a ρ good known tree.0 tree.1
+                (λ u there. is ∙ field_is b.first place (ρ i) u tree.0 tree.1 there);
+          }

@@ -1,0 +1,29 @@
+use Rattle.std.proofs.Common.{sym}
+use Rattle.pp_build.proofs.Operands.{not_other, tree_of}
+use Rattle.pp_build.proofs.TreeSteps.{ctor_field_performed, has_field}
+use Rattle.pp_build.proofs.trees.ctor_field.Goals as goal
+
+pub field-requires-clause-tree : goal.field-requires-clause-tree
+field-requires-clause-tree g c =
+    let can = c.requires.can in
+    (tree_of _ _ _ can.sorts can.heights _ _ _ _ can.registers c.in-Tree.ensures can.sorted.operand).0
+
+pub field-requires-clause-ctor : goal.field-requires-clause-ctor
+field-requires-clause-ctor g c =
+    let can = c.requires.can in
+    let of = (tree_of _ _ _ can.sorts can.heights _ _ _ _ can.registers c.in-Tree.ensures can.sorted.operand).1 in
+    (can.sorted.ctor, can.sorted.stands, sym of)
+
+pub field-requires-clause-place : goal.field-requires-clause-place
+field-requires-clause-place g c = has_field _ _ _ _ _ _ _ _ c.requires.can
+
+pub returns-in_ok-field-in-Tree-clause-performs : goal.returns-in_ok-field-in-Tree-clause-performs
+returns-in_ok-field-in-Tree-clause-performs g c =
+    ctor_field_performed _ _ _ _ _ c.requires.exact _ _ _ _ _ _ _ c.in-Tree.ensures
+    c.in_ok-field-in-Tree.ensures.answer
+
+pub returns-in_default : goal.returns-in_default
+returns-in_default g c =
+    let can = c.requires.can in
+    absurd (not_other _ _ _ can.sorts can.heights _ _ _ _ can.registers c.register.ensures can.sorted.operand
+    c.in_default.not-Tree)

@@ -1,0 +1,4 @@
+pub mod Unknown
+pub mod Registers
+pub mod Performed
+pub mod Built

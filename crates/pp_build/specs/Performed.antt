@@ -1,0 +1,49 @@
+-- Which steps can be performed, and what the register of a performed step is. Source: own.
+use Rattle.std.specs.Prelude.{◌≡◌, ℕ, ◌+◌, ◌^◌, ◌≤◌, Bool, List, [], ◌∷◌, ◌++◌, length}
+use Rattle.pp_prog.specs.declared.types.TypeTable.{TypeTable}
+use Rattle.pp_gate.specs.declared.gate.Gate.{Gate}
+use Rattle.pp_domain.specs.declared.symbol.Symbol.{Symbol}
+use Rattle.pp_domain.specs.Moves.{Moves}
+use Rattle.pp_domain.specs.Naming.{Naming}
+use Rattle.pp_domain.specs.Sense.{Sense, Good, Extended}
+use Rattle.pp_domain.specs.Symbols.{IsSymbol, symbol_height}
+use Rattle.pp_steps.specs.declared.step.Step.{Step}
+use Rattle.pp_steps.specs.Gates.{Heights, gates_of, height_of}
+use Rattle.pp_steps.specs.Known.{Tells}
+use Rattle.pp_steps.specs.Meaning.{Does, Missing, Values}
+use Rattle.pp_steps.specs.Reads.{Reads}
+use Rattle.pp_steps.specs.Sorted.{IsSorted, Sorts}
+use Rattle.pp_build.specs.Registers.{AreRegisters, IsKnown}
+
+module _ {D T : Type 0} (m : Sense D T) (types : TypeTable) where
+  -- the step looks at steps that have registers and has a sort, and there is room for its gates
+  pub record CanPerform (d : D) (gs : List Gate) (rs : List (Symbol T)) (step : Step) : Type 0 where
+    pub sorts : Sorts
+    pub heights : Heights
+    pub registers : AreRegisters m d gs sorts heights rs
+    pub reads : Reads (length rs) step
+    pub sorted : IsSorted types sorts step (sorts (length rs))
+    pub room : length gs + gates_of types sorts heights (length rs) step ≤ 2 ^ 30
+
+  -- what performing the step leaves, also where it ends in want of memory: at most the step's gates are added
+  abbrev pub Leaves : (d : D) (gs : List Gate) (rs : List (Symbol T)) (step : Step) (e : D) (hs : List Gate) → Type 0
+  Leaves d gs rs step e hs =
+      (can : CanPerform d gs rs step)
+      → Moves m types d gs e hs (gates_of types can.sorts can.heights (length rs) step)
+
+  -- the step's register: a symbol of the step's sort and height, over which each good assignment extends. Where values
+  -- obey the step and those of the operands on which its value depends are known, its value is.
+  pub record IsPerformed (d : D) (gs : List Gate) (rs : List (Symbol T)) (step : Step) (σ : Sorts) (η : Heights)
+      (e : D) (hs : List Gate) (r : Symbol T) : Type 0 where
+    pub of : IsSymbol m e hs (σ (length rs)) r
+    pub high : symbol_height m e r ≡ height_of types σ η (length rs) step
+    pub extends : (n : Naming) (a : ℕ → Bool) → Good m types d gs n a → Extended m types gs n a e hs
+    pub known : (n : Naming) (a : ℕ → Bool) (ρ : Values) (missing : Missing) → Good m types e hs n a
+        → Does types.ctors missing ρ step (ρ (length rs))
+        → Tells ρ (IsKnown m types e a n σ ρ (rs ++ r ∷ [])) step (length rs)
+
+  -- it is, for the sorts and heights by which it could be performed
+  abbrev pub Performs : (d : D) (gs : List Gate) (rs : List (Symbol T)) (step : Step) (e : D) (hs : List Gate)
+      → Symbol T → Type 0
+  Performs d gs rs step e hs r =
+      (can : CanPerform d gs rs step) → IsPerformed d gs rs step can.sorts can.heights e hs r

@@ -1,0 +1,18 @@
+//! The builder: it performs steps over a domain, so that each step's value has a symbol.
+//!
+//! `open_all` makes the symbols of a run's arguments, of which nothing is known but their heights. `build` performs the
+//! steps behind those that have symbols: `specs/Built` says when it can, and what its registers tell. Where values obey
+//! the steps (`pp_steps`), a step's register stands for its value as far as the registers of the operands on which the
+//! value depends do; so the parts of a run that aren't reached may stand for nothing. The domain has to be exact.
+//! How a step is performed may change within the number of gates that `pp_steps` allows it.
+#![tactic(auto)]
+
+mod choice;
+mod perform;
+mod registers;
+mod trees;
+mod unknown;
+
+pub use perform::build;
+pub use pp_clause::NoMemory;
+pub use unknown::open_all;

@@ -1,0 +1,4 @@
+pub mod Asked
+pub mod Stands
+pub mod Frames
+pub mod Outcomes

@@ -1,0 +1,15 @@
+mod Pieces
+mod Scopes
+mod Forms
+mod Lists
+mod Operators
+mod Patterns
+mod Cases
+mod Exprs
+mod Measures
+mod Calls
+mod Runs
+mod Heights
+mod Sizes
+mod Deep
+pub mod Laws

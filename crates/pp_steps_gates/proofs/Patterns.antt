@@ -1,0 +1,187 @@
+-- Patterns: their steps and tests take at most twice what their events cost.
+use Rattle.std.proofs.Common.{◌≡◌, ℕ, suc, ◌+◌, ◌*◌, ◌-◌, ◌≤◌, min, true, false, if◌then◌else◌, List, [], ◌∷◌, ◌++◌, map, length, Option, Some, None, refl, sym, ap, ◌∙◌, subst, arith, length-append}
+use Rattle.std.proofs.lemmas.Option.{same_Some}
+use Rattle.std.proofs.Math.Nat.{add-zero, zero-add}
+use Rattle.std.specs.Prelude.{slice_get}
+use Rattle.pp_prog.specs.declared.expr.Pattern.{Pattern}
+use Rattle.pp_prog.specs.declared.expr.Pattern.TheFolds.{fold-roll-Pattern, ind-Pattern, map-Pattern}
+use Rattle.pp_prog.specs.declared.expr.Pattern.TheOpen as pattern
+use Rattle.pp_prog.specs.declared.expr.Pattern.TheViews.{roll-Pattern}
+use Rattle.pp_prog.specs.declared.id.CtorId.{CtorId}
+use Rattle.pp_prog.specs.declared.sort.Sort.{Sort}
+use Rattle.pp_prog.specs.declared.sort.Sort.TheVariants as sort
+use Rattle.pp_prog.specs.declared.types.Ctor.{Ctor}
+use Rattle.pp_prog.specs.declared.types.TypeTable.{TypeTable}
+use Rattle.pp_prog.specs.Calls.{joined}
+use Rattle.pp_prog.specs.PatternSorts as sorts
+use Rattle.pp_prog.specs.PatternSorts.{bind_fields, bind_tree, binds_none, bound_sorts, then_bind}
+use Rattle.pp_prog.specs.Results.{fields_of_ctor, tree_result}
+use Rattle.pp_prog.specs.Sizes.{height_at}
+use Rattle.pp_prog.specs.Sorts.{same_sort}
+use Rattle.pp_estimate.specs.declared.shape.Shape.{Shape}
+use Rattle.pp_estimate.specs.Events.{Event, cost}
+use Rattle.pp_estimate.specs.Visits.{Binding, bind_each, bind_step, bound, look_at, node, part, pattern_events, pattern_step}
+use Rattle.pp_estimate_laws.proofs.Growth.{cost_of_both}
+use Rattle.pp_estimate_laws.proofs.Sizes.{height_grows}
+use Rattle.pp_steps.specs.Gates.{Heights, equality_gates}
+use Rattle.pp_steps.specs.Patterns.{Fitting, Matching, fit_fields, fitting, fitting_step}
+use Rattle.pp_steps.specs.Sorted.{Selects, Sorts}
+use Rattle.pp_steps_gates.proofs.Pieces.{IsMade, add_suc, gates, gates_of_both, made_first, made_rest}
+use Rattle.pp_steps_gates.proofs.Scopes.{Are, IsOf, are_join}
+
+-- ---- the sorts that patterns bind
+
+none_bound : (b : _) (l : List Sort) → binds_none b ≡ Some l → [] ≡ l
+none_bound true l e = cc
+none_bound false l e = let no : None ≡ Some l = e in cc
+
+tree_bound : (o : Option Ctor) (ps : List sorts.Binding) (s : Sort) (l : List Sort) → bind_tree o ps s ≡ Some l
+    → (k : Ctor) × (o ≡ Some k) × (bind_fields ps k.fields ≡ Some l)
+tree_bound None ps s l e = let no : None ≡ Some l = e in cc
+tree_bound (Some k) ps s l e = (k, refl, test (same_sort (sort.Tree k.of) s) (bind_fields ps k.fields) e)
+  where
+    test : (b : _) (o : Option (List Sort)) → (if b then o else None) ≡ Some l → o ≡ Some l
+    test true o e = e
+    test false o e = let no : None ≡ Some l = e in cc
+
+then_bound : (o : Option (List Sort)) (go : List Sort → Option (List Sort)) (l : List Sort) → then_bind o go ≡ Some l
+    → (here : List Sort) × (o ≡ Some here) × (go here ≡ Some l)
+then_bound None go l e = let no : None ≡ Some l = e in cc
+then_bound (Some here) go l e = (here, refl, e)
+
+module _ (types : TypeTable) (σ : Sorts) (η : Heights) where
+  -- The steps of a pattern begin at number k: what they bind is of these shapes and sorts, and its steps and tests take
+  -- at most twice what the events cost.
+  pub record IsMatched (k : ℕ) (f : Fitting) (hs : List Shape) (ss : List Sort) (es : List Event) : Type 0 where
+    pub bound : Are types σ η f.bound hs ss
+    pub few : gates types σ η k f.steps + length f.tests ≤ 2 * cost es
+
+  abbrev pub Matches : Pattern → Type 0
+  Matches p =
+      (k t : ℕ) (h : Shape) (s : Sort) (l : List Sort) → IsOf types σ η t h s → bound_sorts types.ctors p s ≡ Some l
+      → IsMade types σ η k (fitting p k t).steps
+      → IsMatched k (fitting p k t) (bound types.ctors p h) l (pattern_events types.ctors p)
+
+  abbrev P : Type 0
+  P = (p : Pattern) × Matches p
+
+  abbrev patterns : List P → List Pattern
+  patterns ps = map (λ y. y.0) ps
+
+  fields_match : (c : CtorId) (k : Ctor) → slice_get types.ctors c.0 ≡ Some k → (ps : List P) (j : ℕ) (ss : List Sort)
+      → ((i : ℕ) → slice_get k.fields (j + i) ≡ slice_get ss i) → (n t : ℕ) (h : Shape) → η t ≤ h.height
+      → (l : List Sort) → bind_fields (map (bound_sorts types.ctors) (patterns ps)) ss ≡ Some l
+      → IsMade types σ η n (fit_fields c j (map fitting (patterns ps)) n t).steps
+      → IsMatched n (fit_fields c j (map fitting (patterns ps)) n t)
+      (bind_each h (map (bound types.ctors) (patterns ps)) ss) l
+      (joined (map (pattern_events types.ctors) (patterns ps)))
+  fields_match c k is [] j [] at n t h low l e m =
+      let same : [] ≡ l = same_Some [] l e in
+      record { bound = subst (λ z. Are types σ η [] [] z) same tt; few = omega arith }
+  fields_match c k is [] j (s ∷ ss) at n t h low l e m = let no : None ≡ Some l = e in cc
+  fields_match c k is (p ∷ ps) j [] at n t h low l e m = let no : None ≡ Some l = e in cc
+  fields_match c k is (p ∷ ps) j (s ∷ ss) at n t h low l e m =
+      let inner = map (bound_sorts types.ctors) (patterns ps) in
+      let here = then_bound (bound_sorts types.ctors p.0 s)
+      (λ a. then_bind (bind_fields inner ss) (λ more. Some (a ++ more))) l e in
+      let rest = then_bound (bind_fields inner ss) (λ more. Some (here.0 ++ more)) l here.2 in
+      let x = fitting p.0 (suc n) n in
+      let i = suc n + length x.steps in
+      let y = fit_fields c (suc j) (map fitting (patterns ps)) i t in
+      let made : Selects types σ c j t (σ n) = m.0.0 in
+      let same : made.ctor ≡ k = same_Some made.ctor k (sym made.stands ∙ is) in
+      let found : slice_get k.fields j ≡ Some (σ n) =
+      subst (λ (z : Ctor). slice_get z.fields j ≡ Some (σ n)) same made.field in
+      let sort_is : σ n ≡ s = same_Some (σ n) s (sym found ∙ ap (slice_get k.fields) (sym (add-zero j)) ∙ at 0) in
+      let height_is : η n ≡ height_at (η t - 1) (σ n) = m.0.1 in
+      let less : η t - 1 ≤ h.height - 1 = omega arith in
+      let up : η n ≤ height_at (h.height - 1) s =
+      subst (λ z. η n ≤ height_at (h.height - 1) z) sort_is
+      (subst (λ z. z ≤ height_at (h.height - 1) (σ n)) (sym height_is)
+      (height_grows (η t - 1) (h.height - 1) (σ n) less)) in
+      let w = part h s in
+      let hx = p.1 (suc n) n w s here.0 (record { has = record { sort = sort_is; height = up }; shape = refl }) here.1
+      (made_first types σ η (suc n) x.steps y.steps m.1) in
+      let hy = fields_match c k is ps (suc j) ss (λ a. ap (slice_get k.fields) (sym (add_suc j a)) ∙ at (suc a))
+      i t h low rest.0 rest.1 (made_rest types σ η (suc n) x.steps y.steps m.1) in
+      let few_x = hx.few in
+      let few_y = hy.few in
+      let gates_are = gates_of_both types σ η (suc n) x.steps y.steps in
+      let tests_are = length-append x.tests y.tests in
+      let rest_events = joined (map (pattern_events types.ctors) (patterns ps)) in
+      let cost_is = cost_of_both (pattern_events types.ctors p.0) rest_events in
+      record {
+        bound = subst (λ z. Are types σ η (x.bound ++ y.bound)
+            (bound types.ctors p.0 w ++ bind_each h (map (bound types.ctors) (patterns ps)) ss) z)
+            (same_Some (here.0 ++ rest.0) l rest.2)
+            (are_join types σ η x.bound (bound types.ctors p.0 w) here.0 y.bound _ rest.0 hx.bound hy.bound);
+        few = omega arith;
+      }
+
+  abbrev under : pattern.Pattern-F P → pattern.Pattern-F Pattern
+  under y = map-Pattern P Pattern (λ z. z.0) y
+
+  pattern_level : (y : pattern.Pattern-F P) (k t : ℕ) (h : Shape) (s : Sort) (l : List Sort) → IsOf types σ η t h s
+      → sorts.bind_step types.ctors (map-Pattern Pattern sorts.Binding (bound_sorts types.ctors) (under y)) s ≡ Some l
+      → let f = fitting_step (map-Pattern Pattern Matching fitting (under y)) k t in
+      IsMade types σ η k f.steps
+      → IsMatched k f (bind_step types.ctors (map-Pattern Pattern Binding (bound types.ctors) (under y)) h) l
+      (pattern_step types.ctors (map-Pattern Pattern (List Event) (pattern_events types.ctors) (under y)))
+  pattern_level pattern.Any k t h s l of e m =
+      let same : [] ≡ l = same_Some [] l e in
+      record { bound = subst (λ z. Are types σ η [] [] z) same tt; few = omega arith }
+  pattern_level (pattern.Bind inner) k t h s l of e m =
+      let q = then_bound (bound_sorts types.ctors inner.0 s) (λ more. Some (s ∷ more)) l e in
+      let x = fitting inner.0 k t in
+      let hx = inner.1 k t h s q.0 of q.1 m in
+      let few = hx.few in
+      let cost_is = cost_of_both (node 0) (pattern_events types.ctors inner.0) in
+      record {
+        bound = subst (λ z. Are types σ η (t ∷ x.bound) (h ∷ bound types.ctors inner.0 h) z)
+            (same_Some (s ∷ q.0) l q.2) (of, hx.bound);
+        few = omega arith;
+      }
+  pattern_level (pattern.Int n) k t h s l of e m =
+      let same = none_bound _ l e in
+      let int : σ k ≡ sort.Int = m.0.0.0 in
+      let gates_are = ap (equality_gates types (min (η k) (η t))) int in
+      record { bound = subst (λ z. Are types σ η [] [] z) same tt; few = omega arith }
+  pattern_level (pattern.Bool b) k t h s l of e m =
+      let same = none_bound _ l e in
+      let bit : σ k ≡ sort.Bool = m.0.0 in
+      let gates_are = ap (equality_gates types (min (η k) (η t))) bit in
+      record { bound = subst (λ z. Are types σ η [] [] z) same tt; few = omega arith }
+  pattern_level (pattern.Ctor c ps) k t h s l of e m =
+      let q = tree_bound (slice_get types.ctors c.0) (map (bound_sorts types.ctors) (patterns ps)) s l e in
+      let x = fit_fields c 0 (map fitting (patterns ps)) (suc k) t in
+      let hx = fields_match c q.0 q.1 ps 0 q.0.fields (λ i. ap (slice_get q.0.fields) (zero-add i)) (suc k) t h
+      of.has.height l q.2 m.1 in
+      let few = hx.few in
+      let events = joined (map (pattern_events types.ctors) (patterns ps)) in
+      let r = tree_result (slice_get types.ctors c.0) in
+      let one_is = cost_of_both (node 0 ++ look_at r) events in
+      let two_is = cost_of_both (node 0) (look_at r) in
+      record {
+        bound = subst (λ (z : Option Ctor). Are types σ η x.bound
+            (bind_each h (map (bound types.ctors) (patterns ps)) (fields_of_ctor z)) l) (sym q.1) hx.bound;
+        few = omega arith;
+      }
+
+  at_pattern : (y : pattern.Pattern-F P) → Matches (roll-Pattern (under y))
+  at_pattern y k t h s l of e m =
+      let z = under y in
+      let one = fold-roll-Pattern Matching fitting_step z in
+      let two = fold-roll-Pattern Binding (bind_step types.ctors) z in
+      let three = fold-roll-Pattern (List Event) (pattern_step types.ctors) z in
+      let four = fold-roll-Pattern sorts.Binding (sorts.bind_step types.ctors) z in
+      subst (λ (f : Matching). IsMatched k (f k t) (bound types.ctors (roll-Pattern z) h) l
+      (pattern_events types.ctors (roll-Pattern z))) (sym one)
+      (subst (λ (b : Binding). IsMatched k (fitting_step (map-Pattern Pattern Matching fitting z) k t) (b h) l
+      (pattern_events types.ctors (roll-Pattern z))) (sym two)
+      (subst (λ (es : List Event). IsMatched k (fitting_step (map-Pattern Pattern Matching fitting z) k t)
+      (bind_step types.ctors (map-Pattern Pattern Binding (bound types.ctors) z) h) l es) (sym three)
+      (pattern_level y k t h s l of (ap (λ (b : sorts.Binding). b s) (sym four) ∙ e)
+      (subst (λ (f : Matching). IsMade types σ η k (f k t).steps) one m))))
+
+  pub pattern_matches : (p : Pattern) → Matches p
+  pattern_matches = ind-Pattern Matches (λ x y is. subst (λ z. Matches (roll-Pattern z)) is (at_pattern y))

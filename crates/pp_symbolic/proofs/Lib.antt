@@ -1,0 +1,6 @@
+mod Arguments
+mod Evaluated
+mod Owner
+mod Real
+mod Ready
+mod Whole

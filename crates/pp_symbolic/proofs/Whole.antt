@@ -1,0 +1,101 @@
+-- The evaluation as a whole: from the steps that were written to the frame's meaning.
+use Rattle.std.proofs.Common.{◌≡◌, ℕ, ◌+◌, ◌-◌, ◌≤◌, ◌<◌, ◌^◌, List, length, Result, Ok, Err, IfOk, OnOk, sym, subst, arith}
+use Rattle.pp_prog.specs.declared.expr.Function.{Function}
+use Rattle.pp_prog.specs.declared.id.CheckId.{CheckId}
+use Rattle.pp_prog.specs.declared.program.Program.{Program}
+use Rattle.pp_prog.specs.Sorts.{param_sorts}
+use Rattle.pp_gate.specs.declared.gate.Gate.{Gate}
+use Rattle.pp_gate.proofs.Growing.{length-Grows}
+use Rattle.pp_checks.specs.declared.tables.Plan.{Plan}
+use Rattle.pp_checks.specs.Plan.{IsPlanOf}
+use Rattle.pp_compile.specs.declared.work.Run.{Run}
+use Rattle.pp_compile.specs.Written.{IsRunOf}
+use Rattle.pp_domain.specs.Answers.{Fresh}
+use Rattle.pp_domain.specs.Laws.{Lawful}
+use Rattle.pp_domain.specs.Moves.{Moves}
+use Rattle.pp_domain.specs.Sense.{Sense}
+use Rattle.pp_domain.proofs.Composition.{Moves_weaker}
+use Rattle.pp_estimate.specs.Estimates.{estimate}
+use Rattle.pp_steps.specs.declared.step.Step.{Step}
+use Rattle.pp_steps.specs.Frames.{run_steps}
+use Rattle.pp_steps_exist.specs.Laws.{RunsAsk, RunsExist, RunsRead}
+use Rattle.pp_steps_gates.specs.Laws.{RunsFitEstimates}
+use Rattle.pp_steps_run.specs.Laws.{TellRuns}
+use Rattle.pp_steps_sorted.specs.Laws.{RunsAreSorted}
+use Rattle.pp_symbolic.specs.declared.frame.Frame.{Frame}
+use Rattle.pp_symbolic.specs.Evaluated.{CanEvaluate, IsEvaluated}
+use Rattle.pp_symbolic.specs.Frame.{IsFrame, IsOwner}
+use Rattle.pp_symbolic.proofs.Ready.{can_evaluate, some_gates}
+use Rattle.pp_symbolic.proofs.Real.{is_frame}
+
+-- the laws of steps that the evaluation rests on
+pub record StepLaws : Type 0 where
+  pub tell : TellRuns
+  pub exist : RunsExist
+  pub read : RunsRead
+  pub ask : RunsAsk
+  pub sorted : RunsAreSorted
+  pub fit : RunsFitEstimates
+
+less_all : (e : ℕ) → e - 1 ≤ e
+less_all e = omega arith
+
+size_after : (g h e : ℕ) → g ≡ 1 → 1 ≤ e → h ≤ g + (e - 1) → h ≤ e
+size_after g h e one some grown = omega arith
+
+module _ {D T : Type 0} (m : Sense D T) (law : Lawful m) (laws : StepLaws) (p : Program) (plan : Plan)
+    (is_plan : IsPlanOf plan p) (c : CheckId) (f : Function) (own : IsOwner p c f) (round depth : ℕ)
+    (some : 1 ≤ depth) (small : estimate p.types p.functions p.checks c.0 round depth ≤ 4000000)
+    (r : Run) (is : IsRunOf (run_steps p.functions f c round) r) (few : length r.steps < 2 ^ 32)
+    (d : D) (gs : List Gate) (fresh : Fresh m p.types d gs) (one : length gs ≡ 1)
+  where
+    abbrev most : ℕ
+    most = estimate p.types p.functions p.checks c.0 round depth
+
+    abbrev Can : List Step → ℕ → ℕ → Type 0
+    Can steps asked k = CanEvaluate p.types gs (param_sorts f.params) depth steps asked k
+
+    can_steps : Can (run_steps p.functions f c round).steps (run_steps p.functions f c round).fails (most - 1)
+    can_steps = can_evaluate p f c round plan is_plan own.number own.here own.owner depth some small
+        (subst (λ (ss : List Step). length ss < 2 ^ 32) is.steps few) laws.sorted laws.fit laws.read laws.ask gs one
+
+    pub can_run : Can r.steps r.fails (most - 1)
+    can_run = subst (λ k. Can r.steps k (most - 1)) (sym is.fails)
+        (subst (λ ss. Can ss (run_steps p.functions f c round).fails (most - 1)) (sym is.steps) can_steps)
+
+    some_most : 1 ≤ most
+    some_most = some_gates p f c round plan is_plan own.number own.here own.owner depth some small
+        (subst (λ (ss : List Step). length ss < 2 ^ 32) is.steps few) laws.sorted laws.fit laws.read laws.ask
+
+    module _ (e : D) (hs : List Gate) where
+      pub moves_run : ((k : ℕ) → Can r.steps r.fails k → Moves m p.types d gs e hs k)
+          → Moves m p.types d gs e hs most
+      moves_run moves = Moves_weaker m p.types d e gs hs (most - 1) most (moves (most - 1) can_run) (less_all most)
+
+      pub size_run : ((k : ℕ) → Can r.steps r.fails k → Moves m p.types d gs e hs k) → length hs ≤ most
+      size_run moves =
+          let grown = (length-Grows gs hs (most - 1) (moves (most - 1) can_run).grows).1 in
+          size_after (length gs) (length hs) most one some_most grown
+
+      pub frame_run : (frame : Frame T)
+          → ((k : ℕ) → (can : Can r.steps r.fails k)
+          → IsEvaluated m p.types d gs (param_sorts f.params) depth r.steps r.fails can.sorts e hs frame)
+          → IsFrame m p c round depth e hs frame
+      frame_run frame evaluates =
+          let at_steps = subst (λ ss. (k : ℕ) → (can : Can ss r.fails k)
+          → IsEvaluated m p.types d gs (param_sorts f.params) depth ss r.fails can.sorts e hs frame) is.steps evaluates in
+          let at_asked = subst (λ j. (k : ℕ) → (can : Can (run_steps p.functions f c round).steps j k)
+          → IsEvaluated m p.types d gs (param_sorts f.params) depth (run_steps p.functions f c round).steps j can.sorts
+          e hs frame) is.fails at_steps in
+          is_frame m p c round depth d gs e hs frame law fresh one laws.tell laws.exist own.number f own.here
+          can_steps.sorts (at_asked (most - 1) can_steps) own.owner
+
+-- ---- facts of results
+
+pub if_ok : {X E : Type 0} {P Q : X → Type 0} (r : Result X E) → IfOk r P → ((x : X) → P x → Q x) → IfOk r Q
+if_ok (Ok x) h go = go x h
+if_ok (Err e) h go = tt
+
+pub on_ok : {X E : Type 0} {P : Type 0} (r : Result X E) → P → OnOk r P
+on_ok (Ok x) h = h
+on_ok (Err e) h = tt

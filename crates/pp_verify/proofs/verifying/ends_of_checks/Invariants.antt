@@ -1,0 +1,5 @@
+use Rattle.pp_verify.proofs.Ends.{AreEndsTo}
+use Rattle.pp_verify.proofs.verifying.ends_of_checks.Given as goal
+
+abbrev pub invariant-loop-c : goal.invariant-loop-c
+invariant-loop-c l = AreEndsTo l.program l.limits l.c l.ends
