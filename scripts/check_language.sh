@@ -1,5 +1,6 @@
 #!/usr/bin/env bash
-# Tries the examples of docs/LANGUAGE.md: `check_language.sh [PROGRAM]`, where PROGRAM is the built program. In the page
+# Tries the examples of pages: `check_language.sh [PROGRAM [PAGE..]]`, where PROGRAM is the built program, and without a
+# PAGE the pages are docs/LANGUAGE.md and docs/VERDICTS.md. Each page has a folder of its own. In a page
 #   ```scala name=FILE   holds the source FILE,
 #   ```sh                holds a command a line, in which `pureproof` is the program,
 #   ```text status=N     holds what these commands print, on standard output where N is 0 to 2 and else on standard error,
@@ -9,17 +10,28 @@
 # Ends with the number of blocks of text that passed and failed.
 set -u
 root=$(cd "$(dirname "${BASH_SOURCE[0]}")/.." && pwd)
-page=$root/docs/LANGUAGE.md
 program=$(readlink -f "${1:-$root/crates/pureproof/out/pureproof}")
 if [ ! -x "$program" ]; then
     echo "check_language: no program at ${1:-crates/pureproof/out/pureproof}" >&2
     exit 2
 fi
+pages=()
+for page in "${@:2}"; do
+    pages+=("$(readlink -f "$page")")
+done
+if [ $# -lt 2 ]; then
+    pages=("$root/docs/LANGUAGE.md" "$root/docs/VERDICTS.md")
+fi
+for page in "${pages[@]}"; do
+    if [ ! -r "$page" ]; then
+        echo "check_language: no page at $page" >&2
+        exit 2
+    fi
+done
 scratch=$(mktemp -d)
 trap 'rm -rf "$scratch"' EXIT
-mkdir "$scratch/bin" "$scratch/folder"
+mkdir "$scratch/bin"
 ln -s "$program" "$scratch/bin/pureproof"
-cd "$scratch/folder" || exit 2
 export PATH=$scratch/bin:$PATH
 : > "$scratch/commands"
 passed=0
@@ -27,7 +39,7 @@ failed=0
 
 fail() {
     failed=$((failed + 1))
-    printf 'check_language: line %s: %s\n' "$number" "$1"
+    printf 'check_language: %s: line %s: %s\n' "${page##*/}" "$number" "$1"
 }
 
 # try STATUSES: runs the last commands and compares them with the last block of text
@@ -55,56 +67,66 @@ try() {
     fi
 }
 
-number=0
-inside=no
-names=' '
-while IFS= read -r line || [ -n "$line" ]; do
-    number=$((number + 1))
-    if [ "$inside" = no ]; then
-        case $line in
-            '```scala name='*)
-                name=${line#'```scala name='}
-                case $name in
-                    '' | *[!A-Za-z0-9_.]*)
-                        fail "no name of a file: $name"
-                        name=unnamed
-                        ;;
-                esac
-                case $names in
-                    *" $name "*) fail "a second source of the name $name" ;;
-                esac
-                names="$names$name "
-                inside=scala
-                : > "$name"
-                printf 'pureproof %s\n' "$name" > "$scratch/commands"
-                ;;
-            '```sh')
-                inside=sh
-                : > "$scratch/commands"
-                ;;
-            '```text status='*)
-                wanted=${line#'```text status='}
-                inside=text
-                : > "$scratch/text"
-                ;;
-            '```'*) inside=other ;;
-        esac
-    elif [ "$line" = '```' ]; then
-        if [ "$inside" = text ]; then
-            try "$wanted"
+# Tries the blocks of the page in a new folder.
+read_page() {
+    local line name wanted
+    mkdir "$scratch/folder" && cd "$scratch/folder" || exit 2
+    number=0
+    inside=no
+    names=' '
+    while IFS= read -r line || [ -n "$line" ]; do
+        number=$((number + 1))
+        if [ "$inside" = no ]; then
+            case $line in
+                '```scala name='*)
+                    name=${line#'```scala name='}
+                    case $name in
+                        '' | *[!A-Za-z0-9_.]*)
+                            fail "no name of a file: $name"
+                            name=unnamed
+                            ;;
+                    esac
+                    case $names in
+                        *" $name "*) fail "a second source of the name $name" ;;
+                    esac
+                    names="$names$name "
+                    inside=scala
+                    : > "$name"
+                    printf 'pureproof %s\n' "$name" > "$scratch/commands"
+                    ;;
+                '```sh')
+                    inside=sh
+                    : > "$scratch/commands"
+                    ;;
+                '```text status='*)
+                    wanted=${line#'```text status='}
+                    inside=text
+                    : > "$scratch/text"
+                    ;;
+                '```'*) inside=other ;;
+            esac
+        elif [ "$line" = '```' ]; then
+            if [ "$inside" = text ]; then
+                try "$wanted"
+            fi
+            inside=no
+        else
+            case $inside in
+                scala) printf '%s\n' "$line" >> "$name" ;;
+                sh) printf '%s\n' "$line" >> "$scratch/commands" ;;
+                text) printf '%s\n' "$line" >> "$scratch/text" ;;
+            esac
         fi
-        inside=no
-    else
-        case $inside in
-            scala) printf '%s\n' "$line" >> "$name" ;;
-            sh) printf '%s\n' "$line" >> "$scratch/commands" ;;
-            text) printf '%s\n' "$line" >> "$scratch/text" ;;
-        esac
+    done < "$page"
+    if [ "$inside" != no ]; then
+        fail 'a block that nothing ends'
     fi
-done < "$page"
-if [ "$inside" != no ]; then
-    fail 'a block that nothing ends'
-fi
+    cd "$scratch" && rm -r folder
+}
+
+for page in "${pages[@]}"; do
+    read_page
+done
 if [ "$passed" -eq 0 ]; then
     fail 'no example was tried'
 fi

@@ -32,6 +32,15 @@ check 'a valid function' 0 "$(printf 'or: valid, 1 checks\n1 valid, 0 invalid, 0
 run or_wrong.scala
 check 'an invalid function' 1 \
     "$(printf 'or: invalid, postcondition at 1:2:63, a = true, b = false\n0 valid, 1 invalid, 0 open, 0 depending')" ''
+run heap.scala
+check 'a function that calls another' 0 \
+    "$(printf 'parent: valid, 1 checks\nleft: valid, 2 checks\n2 valid, 0 invalid, 0 open, 0 depending')" ''
+run heap_wrong.scala
+check 'a call of an invalid function' 1 "$(printf '%s\n' 'parent: invalid, postcondition at 1:6:5, i = 0' \
+    'left: depends on parent, 2 checks' '0 valid, 1 invalid, 0 open, 1 depending')" ''
+run --rounds 0 heap.scala
+check 'an open function' 2 "$(printf '%s\n' 'parent: valid, 1 checks' \
+    'left: open at round 0, precondition at 1:12:22, rounds' '1 valid, 0 invalid, 1 open, 0 depending')" ''
 run refused.scala
 check 'a refused source' 3 '' 'refused: syntax at 1:1:11'
 run

@@ -7,7 +7,8 @@ use Rattle.pp_answers.specs.Answers.{IsAccepted}
 use Rattle.pp_checks.specs.Rules.{IsFirstFault, KeepRules, KeepsRules}
 use Rattle.pp_checks.specs.declared.fault.PlanFault.{PlanFault}
 use Rattle.pp_front.specs.Programs.{SpellUnits, one_source}
-use Rattle.pp_front.specs.Refuses.{BreaksRule, Refuses, breaks_rules, contract_cycle, measure_shape, no_measure, spells_none, too_many, untyped}
+use Rattle.pp_front.specs.Refuses.{BreaksRule, Refuses, breaks_rules, contract_cycle, measure_shape, no_measure}
+use Rattle.pp_front.specs.Refuses.{spells_none, too_many, untyped}
 use Rattle.pp_instances.specs.Closure.{FillsOver}
 use Rattle.pp_mono_laws.proofs.Fills.{overfull_are_many}
 use Rattle.pp_print.specs.declared.fault.NamedFault.{NamedFault}
@@ -27,8 +28,8 @@ spelled_at [] bytes after (one_source {unit = u} one rest) = (u, one)
 spelled_at (b ∷ before) bytes after (one_source one rest) = spelled_at before bytes after rest
 
 module _ (types : TypeTable) (functions : List Function) where
-  keeps : (f : ℕ) (function : Function) → KeepRules types functions (length functions) → slice_get functions f ≡ Some function
-      → KeepsRules types functions f function
+  keeps : (f : ℕ) (function : Function) → KeepRules types functions (length functions)
+      → slice_get functions f ≡ Some function → KeepsRules types functions f function
   keeps f function keep at = keep f function (slice_get_within functions f function at) at
 
   kept_or_broken : {g : FunctionId} {kind : NamedFault} {fault : PlanFault} → BreaksRule g kind fault
@@ -54,4 +55,5 @@ excluded sources line p (too_many typed typing many) is =
 excluded sources line p (breaks_rules q of b) is =
     let alike = one_program sources q p of is.program in
     let first = subst (λ t. IsFirstFault t q.functions b.fault) alike.types b.first in
-    kept_or_broken p.types p.functions b.breaks (subst (λ l. IsFirstFault p.types l b.fault) alike.functions first) is.rules
+    kept_or_broken p.types p.functions b.breaks
+    (subst (λ l. IsFirstFault p.types l b.fault) alike.functions first) is.rules

@@ -1,4 +1,9 @@
 pub mod Once
 pub mod Excluded
-pub mod Statuses
+pub mod Counts
+pub mod Words
+pub mod Lines
+pub mod Alike
 pub mod Meaning
+pub mod Statuses
+pub mod Claimed

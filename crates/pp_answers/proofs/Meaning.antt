@@ -1,216 +1,223 @@
--- What the answers of mode `verify` mean.
-use Rattle.std.proofs.Common.{◌≡◌, ◌<◌, ◌+◌, ◌≤◌, ℕ, zero, suc, Bool, true, false, cond, fold, List, [], ◌∷◌, ◌++◌, length, refl, sym, ap, ◌∙◌, subst, arith}
-use Rattle.std.specs.Prelude.{Some, slice_get, Contains}
-use Rattle.std.proofs.lemmas.List.Elements.{Contains-append_left, Contains-append_right, Contains-push}
+-- What the answers of mode `verify` mean, line by line.
+use Rattle.std.proofs.Common.{◌≡◌, ◌+◌, ℕ, zero, suc, true, false, List, [], ◌∷◌, codes, count_by}
+use Rattle.std.proofs.Common.{length, refl, sym, ap, ◌∙◌, inl, inr, subst, arith}
+use Rattle.std.specs.Prelude.{Option, None, Some, slice_get}
+use Rattle.std.proofs.lemmas.List.{length-append}
 use Rattle.std.proofs.lemmas.Option.{slice_get_within}
-use Rattle.pp_answers.proofs.Excluded.{excluded}
-use Rattle.pp_answers.proofs.Once.{one_program}
-use Rattle.pp_answers.proofs.Statuses.{good_there, valid_is_good, within}
-use Rattle.pp_answers.specs.Answers.{IsAccepted, accepted, refused}
-use Rattle.pp_answers.specs.Laws.{InvalidMeansFailed, PrintsFailure, ValidMeansGood}
-use Rattle.pp_eval.specs.Runs.{AreArguments, IsGood, run as run_of}
-use Rattle.pp_eval.specs.declared.outcome.Outcome.TheVariants.{Fails}
-use Rattle.pp_flat.specs.Verdicts.{IsVerdictOn}
-use Rattle.pp_flat.specs.declared.verdict.Verdict.{Verdict}
-use Rattle.pp_flat.specs.declared.verdict.Verdict.TheVariants.{Invalid, Valid}
-use Rattle.pp_modes.specs.Answers.{AnswersTask, verified as verifies}
+use Rattle.pp_answers.proofs.Counts.{none_counted, some_counted}
+use Rattle.pp_answers.proofs.Lines.{IsOpen, Tells, same_line, says_depends}
+use Rattle.pp_answers.proofs.Lines.{says_invalid, says_open, says_valid, told, within}
+use Rattle.pp_answers.proofs.Words.{at_not_before, depends_not_open, invalid_not_depends, invalid_not_open}
+use Rattle.pp_answers.proofs.Words.{valid_not_depends, valid_not_invalid, valid_not_open}
+use Rattle.pp_answers.specs.Claims.{AreLinesOf, Claim, InvalidFails, IsStatusOf, LineSays, NamesFailure, NamesSearch}
+use Rattle.pp_answers.specs.Claims.{OpenIsSearched, Says, ValidIsGood, all_valid, some_invalid, some_open}
+use Rattle.pp_induct.specs.Reports.{IsSearched}
+use Rattle.pp_induct.specs.declared.ends.CheckEnd.{CheckEnd}
+use Rattle.pp_induct.specs.declared.limits.Limits.{Limits}
+use Rattle.pp_induct.specs.declared.verdict.Verdict.{Verdict}
+use Rattle.pp_induct.specs.declared.verdict.Verdict.TheVariants.{Valid, Depends, Invalid, Open}
 use Rattle.pp_modes.specs.Responses.{Response, lines_in, status_in}
-use Rattle.pp_modes.specs.Verdicts.{AnswersVerify, count_invalid, count_valid, failed_text, is_valid, other_form, status_for, verdict_lines, verdict_report, verdict_text, verified}
-use Rattle.pp_modes.specs.declared.status.Status.TheVariants as status
-use Rattle.pp_print.specs.Lines.{invalid_text, summary_text}
-use Rattle.pp_prog.specs.declared.check.Check.{Check}
+use Rattle.pp_modes.specs.Verdicts.{AnswersVerify, is_depending, is_invalid, is_open, reason_of, status_for}
+use Rattle.pp_modes.specs.Verdicts.{summary_by, verdict_lines}
+use Rattle.pp_print.specs.Lines.{open_text}
 use Rattle.pp_prog.specs.declared.expr.Function.{Function}
 use Rattle.pp_prog.specs.declared.id.CheckId.{CheckId}
 use Rattle.pp_prog.specs.declared.program.Program.{Program}
-use Rattle.pp_prog.specs.declared.value.Value.{Value}
-use Rattle.pp_words.specs.Task.{verify}
 
-some_same : {A : Type 0} {x y : A} → Some x ≡ Some y → x ≡ y
-some_same h = cc
+true_false : true ≡ false → ⊥
+true_false h = cc
 
--- ---- counts
+-- ---- the line of a function
 
-abbrev counted : ℕ → List Verdict → ℕ
-counted a vs = fold (λ x (v : Verdict). x + cond (is_valid v) 1 0) a vs
+module _ (p : Program) (limits : Limits) (i : ℕ) (f : Function) (line : List ℕ) where
+  -- it is invalid, and nothing else
+  failure : (v : Verdict) → Tells p limits i f line v → Says (codes ": invalid, ") f line
+      → NamesFailure limits p i f line
+  failure Valid t s = absurd (valid_not_invalid f line (says_valid f line _ t) s)
+  failure (Depends g) t s = absurd (invalid_not_depends f line s (says_depends p limits i f line t))
+  failure (Open c) t s = absurd (invalid_not_open f line s (says_open p limits i f line c t))
+  failure (Invalid c) t s = record {
+    number = c;
+    own = t.own;
+    args = t.args;
+    fuel = t.round;
+    asked = t.ended.begun.round;
+    fails = t.ended.fails;
+    printed = t.text;
+  }
 
-one_at_most : (b : Bool) → cond b 1 0 ≤ 1
-one_at_most true = omega arith
-one_at_most false = omega arith
+  -- a round was searched, and the line says which
+  searched : (c : CheckId) (t : IsOpen p limits i f line c) (n : Option ℕ) → t.searched ≡ n
+      → Says (codes ": open at round ") f line → NamesSearch limits p i f line
+  searched c t None is s =
+      let text = t.text ∙ ap (λ m. open_text f.name m t.own.check.kind t.own.check.place (reason_of t.why)) is in
+      absurd (at_not_before f line s (_, text))
+  searched c t (Some n) is s =
+      let ended : IsSearched p limits i c (Some n) = subst (IsSearched p limits i c) is t.ended in
+      record {
+        number = c;
+        own = t.own;
+        round = n;
+        asked = ended.begun.round;
+        none = ended.none;
+        reason = reason_of t.why;
+        printed = t.text ∙ ap (λ m. open_text f.name m t.own.check.kind t.own.check.place (reason_of t.why)) is;
+      }
 
-abbrev one_of : Bool → ℕ
-one_of b = cond b 1 0
+  search : (v : Verdict) → Tells p limits i f line v → Says (codes ": open at round ") f line
+      → NamesSearch limits p i f line
+  search (Open c) t s = searched c t t.searched refl s
+  search Valid t s = absurd (valid_not_open f line (says_valid f line _ t) (_, s.1))
+  search (Depends g) t s = absurd (depends_not_open f line (says_depends p limits i f line t) (_, s.1))
+  search (Invalid c) t s = absurd (invalid_not_open f line (says_invalid p limits i f line c t) (_, s.1))
 
-not_counted : (b : Bool) → b ≡ false → one_of b ≡ 0
-not_counted true h = cc
-not_counted false h = refl
+  -- only one that is valid is said to be
+  valid_alone : (v : Verdict) → Tells p limits i f line v → Says (codes ": valid, ") f line → v ≡ Valid
+  valid_alone Valid t s = refl
+  valid_alone (Depends g) t s = absurd (valid_not_depends f line s (says_depends p limits i f line t))
+  valid_alone (Invalid c) t s = absurd (valid_not_invalid f line s (says_invalid p limits i f line c t))
+  valid_alone (Open c) t s = absurd (valid_not_open f line s (says_open p limits i f line c t))
 
-counted_once : (b : Bool) → b ≡ true → one_of b ≡ 1
-counted_once true h = refl
-counted_once false h = cc
+  has_name : (v : Verdict) → Tells p limits i f line v → Says (codes ": ") f line
+  has_name Valid t = (_, t)
+  has_name (Depends g) t = (_, t.text)
+  has_name (Invalid c) t = (_, t.text)
+  has_name (Open c) t = (_, t.text)
 
-at_most : (vs : List Verdict) (a : ℕ) → counted a vs ≤ a + length vs
-at_most [] a = omega arith
-at_most (v ∷ vs) a =
-    let one = one_at_most (is_valid v) in let more = at_most vs (a + cond (is_valid v) 1 0) in omega arith
+-- ---- all lines of an answer
 
--- with an invalid one among them there are fewer
-fewer : (vs : List Verdict) (a i : ℕ) (v : Verdict) → slice_get vs i ≡ Some v → is_valid v ≡ false → counted a vs < a + length vs
-fewer [] a i v at is = absurd (omega (arith, slice_get_within [] i v at))
-fewer (w ∷ vs) a zero v at is =
-    let same : w ≡ v = some_same at in
-    let none = not_counted (is_valid w) (ap is_valid same ∙ is) in
-    let more = at_most vs (a + cond (is_valid w) 1 0) in omega arith
-fewer (w ∷ vs) a (suc i) v at is =
-    let one = one_at_most (is_valid w) in
-    let more = fewer vs (a + cond (is_valid w) 1 0) i v at is in omega arith
+module _ (p : Program) (limits : Limits) (r : Response) (a : AnswersVerify p limits r) where
+  -- the claim is true of each line
+  abbrev pub EachTold : Claim → Type 0
+  EachTold IsTrue = (i : ℕ) (f : Function) (line : List ℕ) → slice_get p.functions i ≡ Some f
+      → slice_get (lines_in r) i ≡ Some line → IsTrue p i f line
 
--- an invalid one
-pub record HasInvalid (vs : List Verdict) : Type 0 where
-  pub place : ℕ
-  pub verdict : Verdict
-  pub here : slice_get vs place ≡ Some verdict
-  pub invalid : is_valid verdict ≡ false
+  pub told_good : EachTold ValidIsGood
+  told_good i f line at there s =
+      let t = told p limits r a i f at in
+      let says = subst (Says (codes ": valid, ") f) (sym (same_line p limits r a i f t line there)) s in
+      let valid = valid_alone p limits i f t.line t.verdict t.tells says in
+      a.valid i (t.here ∙ ap Some valid) i f (inl refl) at
 
-one_later : (w : Verdict) (vs : List Verdict) → HasInvalid vs → HasInvalid (w ∷ vs)
-one_later w vs h = record { place = suc h.place; verdict = h.verdict; here = h.here; invalid = h.invalid }
+  pub told_failed : EachTold (InvalidFails limits)
+  told_failed i f line at there s =
+      let t = told p limits r a i f at in
+      failure p limits i f line t.verdict
+      (subst (λ l. Tells p limits i f l t.verdict) (same_line p limits r a i f t line there) t.tells) s
 
-here_or_later : (w : Verdict) (vs : List Verdict) (b : Bool) → is_valid w ≡ b → (is_valid w ≡ true → HasInvalid vs)
-    → HasInvalid (w ∷ vs)
-here_or_later w vs false is later = record { place = 0; verdict = w; here = refl; invalid = is }
-here_or_later w vs true is later = one_later w vs (later is)
+  pub told_searched : EachTold (OpenIsSearched limits)
+  told_searched i f line at there s =
+      let t = told p limits r a i f at in
+      search p limits i f line t.verdict
+      (subst (λ l. Tells p limits i f l t.verdict) (same_line p limits r a i f t line there) t.tells) s
 
-some_invalid : (vs : List Verdict) (a : ℕ) → counted a vs < a + length vs → HasInvalid vs
-some_invalid [] a lt = absurd (omega (arith, lt))
-some_invalid (w ∷ vs) a lt =
-    here_or_later w vs (is_valid w) refl (λ is.
-    let one = counted_once (is_valid w) is in some_invalid vs (a + cond (is_valid w) 1 0) (omega (arith, one, lt)))
+  -- ---- the status
 
-none_status : (n : ℕ) → status_for n ≡ status.AllValid → n ≡ 0
-none_status zero h = refl
-none_status (suc n) h = let no : status.SomeInvalid ≡ status.AllValid = h in cc
+  abbrev Line : List ℕ → ℕ → Type 0
+  Line = LineSays p.functions (lines_in r)
 
-some_status : (n : ℕ) → status_for n ≡ status.SomeInvalid → 0 < n
-some_status zero h = let no : status.AllValid ≡ status.SomeInvalid = h in cc
-some_status (suc n) h = omega arith
+  -- the line of a function whose verdict this is
+  line_of : (i : ℕ) (v : Verdict) → slice_get a.found.verdicts i ≡ Some v
+      → (f : Function) × (slice_get p.functions i ≡ Some f) × ((words : List ℕ)
+      → ((line : List ℕ) → Tells p limits i f line v → Says words f line) → Line words i)
+  line_of i v here =
+      let are = a.holds.verdicts in
+      let f = within p.functions i (omega (arith, are.size, slice_get_within a.found.verdicts i v here)) in
+      let t = told p limits r a i f.0 f.1 in
+      let same : t.verdict ≡ v = some_same (sym t.here ∙ here) in (
+        f.0,
+        f.1,
+        λ words says. record {
+          function = f.0;
+          here = f.1;
+          line = t.line;
+          there = t.there;
+          says = says t.line (subst (Tells p limits i f.0 t.line) same t.tells);
+        },
+      )
+    where
+      some_same : {A : Type 0} {x y : A} → Some x ≡ Some y → x ≡ y
+      some_same h = cc
 
-not_valid : status.Refused ≡ status.AllValid → ⊥
-not_valid h = cc
+  of_invalid : (i : ℕ) (v : Verdict) → slice_get a.found.verdicts i ≡ Some v → is_invalid v ≡ true
+      → Line (codes ": invalid, ") i
+  of_invalid i (Invalid c) here is =
+      let l = line_of i (Invalid c) here in
+      l.2 (codes ": invalid, ") (λ line t. says_invalid p limits i l.0 line c t)
+  of_invalid i Valid here is = absurd (true_false (sym is))
+  of_invalid i (Depends g) here is = absurd (true_false (sym is))
+  of_invalid i (Open c) here is = absurd (true_false (sym is))
 
-not_invalid : status.Refused ≡ status.SomeInvalid → ⊥
-not_invalid h = cc
+  of_open : (i : ℕ) (v : Verdict) → slice_get a.found.verdicts i ≡ Some v → is_open v ≡ true → Line (codes ": open ") i
+  of_open i (Open c) here is =
+      let l = line_of i (Open c) here in l.2 (codes ": open ") (λ line t. says_open p limits i l.0 line c t)
+  of_open i Valid here is = absurd (true_false (sym is))
+  of_open i (Depends g) here is = absurd (true_false (sym is))
+  of_open i (Invalid c) here is = absurd (true_false (sym is))
 
--- ---- valid
+  of_depending : (i : ℕ) (v : Verdict) → slice_get a.found.verdicts i ≡ Some v → is_depending v ≡ true
+      → Line (codes ": depends on ") i
+  of_depending i (Depends g) here is =
+      let l = line_of i (Depends g) here in
+      l.2 (codes ": depends on ") (λ line t. says_depends p limits i l.0 line t)
+  of_depending i Valid here is = absurd (true_false (sym is))
+  of_depending i (Open c) here is = absurd (true_false (sym is))
+  of_depending i (Invalid c) here is = absurd (true_false (sym is))
 
-true_or : (b : Bool) → (b ≡ false → ⊥) → b ≡ true
-true_or true h = refl
-true_or false h = absurd (h refl)
+  of_other : (i : ℕ) (v : Verdict) → slice_get a.found.verdicts i ≡ Some v → is_invalid v ≡ false → is_open v ≡ false
+      → is_depending v ≡ false → Line (codes ": valid, ") i
+  of_other i Valid here x y z =
+      let l = line_of i Valid here in l.2 (codes ": valid, ") (λ line t. says_valid l.0 line _ t)
+  of_other i (Invalid c) here x y z = absurd (true_false x)
+  of_other i (Open c) here x y z = absurd (true_false y)
+  of_other i (Depends g) here x y z = absurd (true_false z)
 
-good : (p : Program) {r : Response} → AnswersVerify p r → status_in r ≡ status.AllValid → (i : ℕ) (f : Function)
-    → slice_get p.functions i ≡ Some f → IsGood p.types.ctors p.functions f
-good p (other_form a) h i f at = absurd (not_valid h)
-good p (verified vs flat are) h i f at =
-    let none = none_status (count_invalid vs) h in
-    let v = within vs i (omega (arith, are.count, slice_get_within p.functions i f at)) in
-    valid_is_good p i f v.0 (are.each i v.0 v.1 f at)
-    (true_or (is_valid v.0) (λ is. let less = fewer vs 0 i v.0 v.1 is in absurd (omega (arith, less, none))))
+  -- where no verdict is invalid, no line says so
+  no_line : count_by is_invalid a.found.verdicts ≡ 0 → (i : ℕ) → Line (codes ": invalid, ") i → ⊥
+  no_line none i l =
+      let t = told p limits r a i l.function l.here in
+      let line = same_line p limits r a i l.function t l.line l.there in
+      by t.verdict (subst (λ z. Tells p limits i l.function z t.verdict) line t.tells)
+      (none_counted is_invalid a.found.verdicts none i t.verdict t.here)
+    where
+      by : (v : Verdict) → Tells p limits i l.function l.line v → is_invalid v ≡ false → ⊥
+      by (Invalid c) t is = true_false is
+      by Valid t is = valid_not_invalid l.function l.line (says_valid l.function l.line _ t) l.says
+      by (Depends g) t is = invalid_not_depends l.function l.line l.says (says_depends p limits i l.function l.line t)
+      by (Open c) t is = invalid_not_open l.function l.line l.says (says_open p limits i l.function l.line c t)
 
-of_verify : (p : Program) (rounds depth lemmas gates : ℕ) {r : Response} → AnswersTask p (verify rounds depth lemmas gates) r
-    → AnswersVerify p r
-of_verify p rounds depth lemmas gates (verifies a) = a
+  by_counts : (x y z : ℕ) → count_by is_invalid a.found.verdicts ≡ x → count_by is_open a.found.verdicts ≡ y
+      → count_by is_depending a.found.verdicts ≡ z → IsStatusOf p.functions (lines_in r) (status_for x y z)
+  by_counts (suc x) y z e g h =
+      let one = some_counted is_invalid a.found.verdicts (omega (arith, e)) in
+      some_invalid one.place (of_invalid one.place one.item one.here one.passes)
+  by_counts zero (suc y) z e g h =
+      let one = some_counted is_open a.found.verdicts (omega (arith, g)) in
+      some_open (no_line e) one.place (inl (of_open one.place one.item one.here one.passes))
+  by_counts zero zero (suc z) e g h =
+      let one = some_counted is_depending a.found.verdicts (omega (arith, h)) in
+      some_open (no_line e) one.place (inr (of_depending one.place one.item one.here one.passes))
+  by_counts zero zero zero e g h =
+      all_valid (λ i lt.
+      let v = within a.found.verdicts i (omega (arith, lt, a.holds.verdicts.size)) in
+      of_other i v.0 v.1 (none_counted is_invalid a.found.verdicts e i v.0 v.1)
+      (none_counted is_open a.found.verdicts g i v.0 v.1) (none_counted is_depending a.found.verdicts h i v.0 v.1))
 
-pub valid_means_good : ValidMeansGood
-valid_means_good rounds depth lemmas gates sources r (refused {line = line} a) h p is i f at =
-    absurd (excluded sources line p a is)
-valid_means_good rounds depth lemmas gates sources r (accepted q also a) h p is i f at =
-    let alike = one_program sources q p also.program is.program in
-    good_there q p alike f
-    (good q (of_verify q rounds depth lemmas gates a) h i f (ap (λ fs. slice_get fs i) alike.functions ∙ at))
+  lines_size : (ends : List CheckEnd) (n : ℕ) (fs : List Function) (vs : List Verdict) → length vs ≡ length fs
+      → length (verdict_lines p ends n fs vs) ≡ length fs
+  lines_size ends n [] vs even = refl
+  lines_size ends n (f ∷ fs) [] even = absurd (omega (arith, even))
+  lines_size ends n (f ∷ fs) (v ∷ vs) even = ap suc (lines_size ends (suc n) fs vs (omega arith))
 
--- ---- invalid
-
-line_in : (p : Program) (n i : ℕ) (fs : List Function) (vs : List Verdict) (f : Function) (v : Verdict)
-    → slice_get fs i ≡ Some f → slice_get vs i ≡ Some v → Contains (verdict_lines p n fs vs) (verdict_text p (n + i) f v)
-line_in p n i [] vs f v at also = absurd (omega (arith, slice_get_within [] i f at))
-line_in p n i (g ∷ fs) [] f v at also = absurd (omega (arith, slice_get_within [] i v also))
-line_in p n zero (g ∷ fs) (w ∷ vs) f v at also =
-    let same : n ≡ n + 0 = omega arith in
-    let text : verdict_text p n g w ≡ verdict_text p (n + 0) f v =
-    ap (λ z. verdict_text p n z w) (some_same at) ∙ ap (verdict_text p n f) (some_same also) ∙ ap (λ k. verdict_text p k f v) same in
-    subst (Contains (verdict_text p n g w ∷ verdict_lines p (suc n) fs vs)) text
-    (Contains-append_left (verdict_text p n g w ∷ []) (verdict_lines p (suc n) fs vs) (verdict_text p n g w) (Contains-push [] (verdict_text p n g w)))
-line_in p n (suc i) (g ∷ fs) (w ∷ vs) f v at also =
-    let same : suc n + i ≡ n + suc i = omega arith in
-    Contains-append_right (verdict_text p n g w ∷ []) (verdict_lines p (suc n) fs vs) (verdict_text p (n + suc i) f v)
-    (subst (λ k. Contains (verdict_lines p (suc n) fs vs) (verdict_text p k f v)) same (line_in p (suc n) i fs vs f v at also))
-
--- what stands in a front of the lines is one of them
-shown : {A : Type 0} (front rest lines : List A) (y z : A) → lines ≡ front ++ rest → Contains front y → y ≡ z → Contains lines z
-shown front rest lines y z is has same =
-    subst (Contains lines) same (subst (λ l. Contains l y) (sym is) (Contains-append_left front rest y has))
-
-line_of_failure : (p : Program) (i : ℕ) (f : Function) (c : CheckId) (args : List Value) (check : Check)
-    → slice_get p.checks c.0 ≡ Some check
-    → verdict_text p i f (Invalid c args) ≡ invalid_text p.types.ctors f.name check.kind check.place f.params args
-line_of_failure p i f c args check at = ap (λ o. failed_text p f o args) at
-
-true_not_false : true ≡ false → ⊥
-true_not_false h = cc
-
--- what is known of a line on a failure
-record IsShown (p : Program) (i : ℕ) (f : Function) (c : CheckId) (args : List Value) (lines : List (List ℕ)) : Type 0 where
-  pub check : Check
-  pub listed : slice_get p.checks c.0 ≡ Some check
-  pub printed : Contains lines (invalid_text p.types.ctors f.name check.kind check.place f.params args)
-
-is_shown : (p : Program) (i : ℕ) (f : Function) (c : CheckId) (args : List Value) (check : Check) (vs : List Verdict)
-    (rest lines : List (List ℕ)) → slice_get p.checks c.0 ≡ Some check → slice_get p.functions i ≡ Some f
-    → slice_get vs i ≡ Some (Invalid c args) → lines ≡ verdict_lines p 0 p.functions vs ++ rest → IsShown p i f c args lines
-is_shown p i f c args check vs rest lines at here also split = record {
-  check = check;
-  listed = at;
-  printed = shown (verdict_lines p 0 p.functions vs) rest lines (verdict_text p (0 + i) f (Invalid c args))
-      (invalid_text p.types.ctors f.name check.kind check.place f.params args) split
-      (line_in p 0 i p.functions vs f (Invalid c args) here also) (line_of_failure p (0 + i) f c args check at);
-}
-
-prints : (sources : List (List ℕ)) (p : Program) → IsAccepted sources p → (i : ℕ) (f : Function) (c : CheckId)
-    (args : List Value) (r : Response) → slice_get p.functions i ≡ Some f → AreArguments p.types.ctors (Some f) args
-    → run_of p.types.ctors p.functions f args 0 ≡ Fails c → IsShown p i f c args (lines_in r) → PrintsFailure sources r
-prints sources p is i f c args r at arguments fails line = record {
-  program = p;
-  accepted = is;
-  place = i;
-  function = f;
-  here = at;
-  number = c;
-  check = line.check;
-  listed = line.listed;
-  args = args;
-  arguments = arguments;
-  fails = fails;
-  printed = line.printed;
-}
-
-by_verdict : (sources : List (List ℕ)) (p : Program) → IsAccepted sources p → (vs : List Verdict) (i : ℕ) (f : Function)
-    (v : Verdict) (rest : List (List ℕ)) (r : Response) → slice_get p.functions i ≡ Some f → slice_get vs i ≡ Some v
-    → IsVerdictOn p i f v → is_valid v ≡ false → lines_in r ≡ verdict_lines p 0 p.functions vs ++ rest
-    → PrintsFailure sources r
-by_verdict sources p is vs i f Valid rest r at also on bad split = absurd (true_not_false bad)
-by_verdict sources p is vs i f (Invalid c args) rest r at also on bad split =
-    prints sources p is i f c args r at on.arguments on.fails
-    (is_shown p i f c args on.listed.check vs rest (lines_in r) on.listed.listed at also split)
-
-failure : (sources : List (List ℕ)) (p : Program) → IsAccepted sources p → {r : Response} → AnswersVerify p r
-    → status_in r ≡ status.SomeInvalid → PrintsFailure sources r
-failure sources p is (other_form a) h = absurd (not_invalid h)
-failure sources p is (verified vs flat are) h =
-    let some = some_status (count_invalid vs) h in
-    let one = some_invalid vs 0 (omega (arith, some)) in
-    let f = within p.functions one.place (omega (arith, are.count, slice_get_within vs one.place one.verdict one.here)) in
-    by_verdict sources p is vs one.place f.0 one.verdict (summary_text (count_valid vs) (count_invalid vs) 0 0 ∷ [])
-    (verdict_report p vs) f.1 one.here (are.each one.place one.verdict one.here f.0 f.1) one.invalid refl
-
-pub invalid_means_failed : InvalidMeansFailed
-invalid_means_failed rounds depth lemmas gates sources r (refused a) h = absurd (not_invalid h)
-invalid_means_failed rounds depth lemmas gates sources r (accepted p is a) h =
-    failure sources p is (of_verify p rounds depth lemmas gates a) h
+  pub told_each : AreLinesOf p (lines_in r) (status_in r)
+  told_each = record {
+    size = ap (λ s. length (lines_in s)) a.says
+        ∙ length-append (verdict_lines p a.found.checks 0 p.functions a.found.verdicts)
+        (summary_by a.found.verdicts ∷ [])
+        ∙ ap (λ n. n + 1) (lines_size a.found.checks 0 p.functions a.found.verdicts a.holds.verdicts.size);
+    names = λ i lt.
+        let v = within a.found.verdicts i (omega (arith, lt, a.holds.verdicts.size)) in
+        let l = line_of i v.0 v.1 in
+        l.2 (codes ": ") (λ line t. has_name p limits i l.0 line v.0 t);
+    status = subst (IsStatusOf p.functions (lines_in r)) (sym (ap status_in a.says)) (by_counts _ _ _ refl refl refl);
+  }

@@ -11,7 +11,8 @@ use Rattle.pp_typed.specs.declared.typed.Typed.{Typed}
 use Rattle.pp_types_laws.proofs.Unique.{unique}
 use Rattle.pp_types_laws.specs.Typing.{HasTyping}
 
-pub one_units : {sources : List (List ℕ)} {us vs : List UnitTree} → SpellUnits sources us → SpellUnits sources vs → us ≡ vs
+pub one_units : {sources : List (List ℕ)} {us vs : List UnitTree} → SpellUnits sources us → SpellUnits sources vs
+    → us ≡ vs
 one_units no_sources no_sources = refl
 one_units (one_source {bytes = bytes} {unit = u} {units = us} a rest) (one_source {unit = v} {units = vs} b more) =
     ap (λ z. z ∷ us) (units_are_unique bytes u v a b) ∙ ap (λ l. v ∷ l) (one_units rest more)
@@ -26,10 +27,12 @@ pub record AreAlike (p q : Program) : Type 0 where
   pub functions : p.functions ≡ q.functions
   pub checks : p.checks ≡ q.checks
 
-pub one_program : (sources : List (List ℕ)) (p q : Program) → IsProgramOf sources p → IsProgramOf sources q → AreAlike p q
+pub one_program : (sources : List (List ℕ)) (p q : Program) → IsProgramOf sources p → IsProgramOf sources q
+    → AreAlike p q
 one_program sources p q a b =
     let same = one_typing sources b.typed a.typed b.typing a.typing in
-    let one = programs_are_unique a.typed sources p q a.concrete (subst (λ t. IsConcrete t sources q) same b.concrete) in
+    let one = programs_are_unique a.typed sources p q a.concrete
+    (subst (λ t. IsConcrete t sources q) same b.concrete) in
     record { types = one_table p.types q.types one.0 one.1; functions = one.2; checks = one.3 }
 
 pub swapped : {p q : Program} → AreAlike p q → AreAlike q p

@@ -1,52 +1,81 @@
 -- What answers mean. Source: own.
-use Rattle.std.specs.Prelude.{◌≡◌, ℕ, List, [], Some, slice_get, Contains}
+use Rattle.std.specs.Prelude.{◌≡◌, ◌⊎◌, ℕ, List, [], Some, slice_get}
 use Rattle.pp_answers.specs.Answers.{Answers, IsAccepted}
-use Rattle.pp_eval.specs.Runs.{AreArguments, IsGood, run as run_of}
-use Rattle.pp_eval.specs.declared.outcome.Outcome.TheVariants.{Fails}
+use Rattle.pp_answers.specs.Claims.{AreLinesOf, Claim, InvalidFails, OpenIsSearched, ValidIsGood}
+use Rattle.pp_eval.specs.Runs.{run as run_of}
+use Rattle.pp_induct.specs.declared.limits.Limits.{Limits}
 use Rattle.pp_modes.specs.Responses.{Response, lines_in, status_in}
 use Rattle.pp_modes.specs.Runs.{IsAsked, outcome_report}
+use Rattle.pp_modes.specs.declared.status.Status.{Status}
 use Rattle.pp_modes.specs.declared.status.Status.TheVariants as status
-use Rattle.pp_print.specs.Lines.{invalid_text}
-use Rattle.pp_prog.specs.declared.check.Check.{Check}
 use Rattle.pp_prog.specs.declared.expr.Function.{Function}
-use Rattle.pp_prog.specs.declared.id.CheckId.{CheckId}
 use Rattle.pp_prog.specs.declared.program.Program.{Program}
-use Rattle.pp_prog.specs.declared.value.Value.{Value}
 use Rattle.pp_words.specs.Task.{Task, run, verify}
 
--- a task and sources have one status
+-- the task to verify within these limits
+abbrev pub verify_within : Limits → Task
+verify_within limits = verify limits.rounds limits.depth limits.lemmas limits.gates
+
+-- ---- statuses
+
+-- functions are verified
+pub data IsVerify : Task → Type 0 where
+  is_verify : (limits : Limits) → IsVerify (verify_within limits)
+
+-- a status on the verdicts of functions
+pub data IsVerdict : Status → Type 0 where
+  all_valid : IsVerdict status.AllValid
+  some_invalid : IsVerdict status.SomeInvalid
+  some_open : IsVerdict status.SomeOpen
+
+-- two statuses on verdicts, by one of which some function stays open
+pub record StaysOpen (s t : Status) : Type 0 where
+  pub one : IsVerdict s
+  pub other : IsVerdict t
+  pub either : (s ≡ status.SomeOpen) ⊎ (t ≡ status.SomeOpen)
+
+-- the two statuses are one; or functions are verified, of which some stay open in one of two reports
+abbrev pub Agree : Task → Status → Status → Type 0
+Agree task s t = (s ≡ t) ⊎ (IsVerify task × StaysOpen s t)
+
+-- a task and sources have one status, as far as functions that are verified don't stay open
 abbrev pub OneStatus : Type 0
 OneStatus = (task : Task) (sources : List (List ℕ)) (r s : Response) → Answers task sources r → Answers task sources s
-    → status_in r ≡ status_in s
+    → Agree task (status_in r) (status_in s)
 
--- all functions are called valid only where each is good: every call that meets the precondition evaluates, with some
--- fuel, to a value that meets the postcondition
+-- ---- mode `verify`
+
+-- each function gets one line, and the status is by these lines
+abbrev pub OneLineEach : Type 0
+OneLineEach = (limits : Limits) (sources : List (List ℕ)) (r : Response) → Answers (verify_within limits) sources r
+    → (p : Program) → IsAccepted sources p → AreLinesOf p (lines_in r) (status_in r)
+
+-- the claim is true of the line of each function of the program of the sources
+abbrev pub EachLine : List (List ℕ) → List (List ℕ) → Claim → Type 0
+EachLine sources lines IsTrue =
+    (p : Program) → IsAccepted sources p → (i : ℕ) (f : Function) (line : List ℕ) → slice_get p.functions i ≡ Some f
+    → slice_get lines i ≡ Some line → IsTrue p i f line
+
+-- it is true of each line that is answered
+abbrev pub IsAlwaysTrue : (Limits → Claim) → Type 0
+IsAlwaysTrue IsTrue = (limits : Limits) (sources : List (List ℕ)) (r : Response)
+    → Answers (verify_within limits) sources r → EachLine sources (lines_in r) (IsTrue limits)
+
+-- a function is called valid only where it is good: every call that meets the precondition evaluates, with some fuel,
+-- to a value that meets the postcondition
 abbrev pub ValidMeansGood : Type 0
-ValidMeansGood = (rounds depth lemmas gates : ℕ) (sources : List (List ℕ)) (r : Response)
-    → Answers (verify rounds depth lemmas gates) sources r → status_in r ≡ status.AllValid
-    → (p : Program) → IsAccepted sources p → (i : ℕ) (f : Function) → slice_get p.functions i ≡ Some f
-    → IsGood p.types.ctors p.functions f
-
--- a printed line names a function, a check and arguments whose run fails this check
-pub record PrintsFailure (sources : List (List ℕ)) (r : Response) : Type 0 where
-  pub program : Program
-  pub accepted : IsAccepted sources program
-  pub place : ℕ
-  pub function : Function
-  pub here : slice_get program.functions place ≡ Some function
-  pub number : CheckId
-  pub check : Check
-  pub listed : slice_get program.checks number.0 ≡ Some check
-  pub args : List Value
-  pub arguments : AreArguments program.types.ctors (Some function) args
-  pub fails : run_of program.types.ctors program.functions function args 0 ≡ Fails number
-  pub printed : Contains (lines_in r)
-      (invalid_text program.types.ctors function.name check.kind check.place function.params args)
+ValidMeansGood = IsAlwaysTrue (λ limits. ValidIsGood)
 
 -- a function is called invalid only with arguments whose run fails the named check
 abbrev pub InvalidMeansFailed : Type 0
-InvalidMeansFailed = (rounds depth lemmas gates : ℕ) (sources : List (List ℕ)) (r : Response)
-    → Answers (verify rounds depth lemmas gates) sources r → status_in r ≡ status.SomeInvalid → PrintsFailure sources r
+InvalidMeansFailed = IsAlwaysTrue InvalidFails
+
+-- a function is called open at a round only where no arguments up to the asked depth fail the named check with calls
+-- nested at most so deep
+abbrev pub OpenMeansSearched : Type 0
+OpenMeansSearched = IsAlwaysTrue OpenIsSearched
+
+-- ---- mode `run`
 
 -- the line of a run is that of the evaluator's outcome
 abbrev pub RunsAreRuns : Type 0

@@ -1,21 +1,36 @@
 //! What answers mean: each function does nothing, and its contract is the law.
 
-ghost use Rattle.pp_answers.specs.Laws.{InvalidMeansFailed, OneStatus, RunsAreRuns, ValidMeansGood};
+ghost use Rattle.pp_answers.specs.Laws.{InvalidMeansFailed, OneLineEach, OneStatus, OpenMeansSearched, RunsAreRuns};
+ghost use Rattle.pp_answers.specs.Laws.{ValidMeansGood};
 
-/// A task and sources have one status. It does nothing: its contract is the law.
+/// A task and sources have one status, as far as functions that are verified don't stay open. It does nothing: its
+/// contract is the law.
 pub fn one_status()
     ensures { OneStatus }
 {}
 
-/// All functions are called valid only where each is good. It does nothing: its contract is the law.
+/// Each function that is verified gets one line, and the status is by these lines. It does nothing: its contract is the
+/// law.
+pub fn one_line_each()
+    ensures { OneLineEach }
+{}
+
+/// A function is called valid only where it is good: every call that meets the precondition evaluates, with some fuel,
+/// to a value that meets the postcondition. It does nothing: its contract is the law.
 pub fn valid_means_good()
     ensures { ValidMeansGood }
 {}
 
-/// A function is called invalid only with arguments whose run fails the named check. It does nothing: its contract is the
-/// law.
+/// A function is called invalid only with arguments whose run fails the named check, with some fuel that is at most the
+/// asked rounds. It does nothing: its contract is the law.
 pub fn invalid_means_failed()
     ensures { InvalidMeansFailed }
+{}
+
+/// A function is called open at a round only where no arguments up to the asked depth fail the named check with calls
+/// nested at most so deep. It does nothing: its contract is the law.
+pub fn open_means_searched()
+    ensures { OpenMeansSearched }
 {}
 
 /// The line of a run is that of the evaluator's outcome. It does nothing: its contract is the law.

@@ -13,8 +13,8 @@ use pp_modes::answer;
 use pp_words::Task;
 use std::alloc::Global;
 
-/// What is put for a task and the bytes of its sources, at most 16, each of at most 262,144 bytes. The only error is want
-/// of memory.
+/// What is put for a task and the bytes of its sources, at most 16, each of at most 262,144 bytes. The only error is
+/// want of memory.
 pub fn respond(alloc: Global, task: Task, sources: &[Vec<u8>]) -> Result<Response, NoMemory>
     requires range { IsInRange (task_told task) }
     requires few { length sources.now ≤ 16 }

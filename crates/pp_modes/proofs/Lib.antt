@@ -1,3 +1,4 @@
 pub mod Lines
 pub mod Asked
 pub mod Verdicts
+pub mod Ranges

@@ -1,10 +1,13 @@
 -- The lines of lists, one more at a time.
-use Rattle.std.proofs.Common.{◌≡◌, ◌<◌, ◌+◌, ℕ, suc, nat_eq, Bool, true, false, if◌then◌else◌, List, [], ◌∷◌, ◌++◌, map, take, length, get_or, refl, sym, ap, ◌∙◌, arith, append_assoc, String, string_bytes}
+use Rattle.std.proofs.Common.{◌≡◌, ◌<◌, ◌+◌, ℕ, suc, nat_eq, Bool, true, false, if◌then◌else◌, List, [], ◌∷◌, ◌++◌}
+use Rattle.std.proofs.Common.{map, take, length, get_or, refl, sym, ap, ◌∙◌, arith, append_assoc, String}
+use Rattle.std.proofs.Common.{string_bytes}
 use Rattle.std.specs.Prelude.{Some, slice_get}
 use Rattle.std.proofs.lemmas.Bool.{eqb-true}
 use Rattle.std.proofs.lemmas.List.{append-nil, length-take-le, map-append, take_more}
 use Rattle.std.proofs.lemmas.Option.{slice_get-get_or}
-use Rattle.pp_modes.specs.Lists.{IsSharedEstimate, check_lines, function_lines, line_if, lines_from, lines_with, own_checks}
+use Rattle.pp_modes.specs.Lists.{IsSharedEstimate, check_lines, function_lines, line_if, lines_from, lines_with}
+use Rattle.pp_modes.specs.Lists.{own_checks}
 use Rattle.pp_print.specs.Listed.{count_text, estimate_text}
 use Rattle.pp_prog.specs.declared.check.Check.{Check}
 use Rattle.pp_prog.specs.declared.expr.Function.{Function}

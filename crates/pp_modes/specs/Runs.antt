@@ -51,8 +51,8 @@ module _ (p : Program) (name : List ℕ) (fuel : ℕ) where
     pub here : slice_get p.functions place ≡ Some f
     pub bare : f.params ≡ []
 
-  -- The line on the run of the function of this name, with this fuel. Where no function without parameters has the name,
-  -- the words are refused.
+  -- The line on the run of the function of this name, with this fuel. Where no function without parameters has the
+  -- name, the words are refused.
   pub data AnswersRun : Response → Type 0 where
     no_function : ((f : Function) → IsAsked f → ⊥) → AnswersRun (refusal status.Words words_text)
     ran : (f : Function) → IsAsked f → AnswersRun (outcome_report (run p.types.ctors p.functions f [] fuel))

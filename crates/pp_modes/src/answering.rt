@@ -11,6 +11,7 @@ use crate::run::answer_run;
 use crate::verify::answer_verify;
 use crate::{NoMemory, Response, Status};
 use pp_checks::Plan;
+use pp_induct::Limits;
 use pp_prog::Program;
 use pp_words::Task;
 use std::alloc::Global;
@@ -27,7 +28,20 @@ pub fn answer(
     ensures { IfOk result (λ r. AnswersTask program.now (task_told task.entry) (response_of r)) }
 {
     match task {
-        Task::Verify { .. } => answer_verify(alloc, program),
+        Task::Verify {
+            rounds,
+            depth,
+            lemmas,
+            gates,
+        } => {
+            let limits = Limits {
+                rounds,
+                depth,
+                lemmas: lemmas as u64,
+                gates: gates as u64,
+            };
+            answer_verify(alloc, program, plan, limits)
+        }
         Task::List { rounds, depth } => Ok(Response::Report(
             Status::AllValid,
             list_lines(alloc, program, plan, rounds, depth)?,

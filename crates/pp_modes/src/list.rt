@@ -93,7 +93,8 @@ fn add_function(
     requires round { round ≤ 12 }
     requires depth { (1 ≤ depth) × (depth ≤ 6) }
     ensures { IfOk result (λ _. (function : Function) → slice_get program.now.functions f ≡ Some function
-        → map string_bytes lines.new.items ≡ map string_bytes lines.old.items ++ spec.function_lines program.now round depth f function) }
+        → map string_bytes lines.new.items
+        ≡ map string_bytes lines.old.items ++ spec.function_lines program.now round depth f function) }
 {
     let name = program.function(FunctionId(f)).name.as_str();
     lines.push(count_line(alloc, name, own_checks(program, f))?)?;

@@ -32,7 +32,8 @@ fn own_failure(
     name: &str,
     check: CheckId,
 ) -> Result<String, NoMemory>
-    ensures { IfOk result (λ line. string_bytes line ≡ spec.fails_line name.now (slice_get program.now.checks check.0)) }
+    ensures { IfOk result (λ line. string_bytes line
+        ≡ spec.fails_line name.now (slice_get program.now.checks check.0)) }
 {
     match at(program.checks(), check.0 as usize) {
         None => Ok(String::new(alloc)),

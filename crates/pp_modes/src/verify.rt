@@ -1,39 +1,100 @@
-//! Mode `verify`, for now by running all argument lists.
+//! Mode `verify`.
 
-ghost use Rattle.std.specs.Prelude.{◌≡◌, ◌<◌, ◌≤◌, ◌^◌, IfOk, length, map, slice_get, string_bytes};
+ghost use Rattle.std.specs.Prelude.{◌≡◌, ◌<◌, ◌^◌, IfOk, count_by, length, map, slice_get, string_bytes};
+ghost use Rattle.pp_checks.specs.Plan.{IsPlanOf};
+ghost use Rattle.pp_induct.specs.Reports.{AreLimits};
 ghost use Rattle.pp_modes.specs.Responses.{response_of};
-ghost use Rattle.pp_modes.specs.Responses as response;
 ghost use Rattle.pp_modes.specs.Verdicts as spec;
-ghost use Rattle.pp_print.specs.Refusals.{other_form_text};
 
 use crate::list::own_checks;
 use crate::{NoMemory, Response, Status};
-use pp_flat::{Verdict, is_flat, verdicts_of};
+use pp_checks::Plan;
+use pp_induct::{CheckEnd, Limits, Report, Verdict, Why};
 use pp_list::at;
-use pp_print::{invalid_line, other_form_line, summary_line, valid_line};
-use pp_prog::{CheckId, Function, Program, Value};
+use pp_print::{Reason, depends_line, invalid_line, open_line, summary_line, valid_line};
+use pp_prog::{Check, CheckId, Function, FunctionId, Program};
+use pp_verify::verify;
 use std::alloc::Global;
 
-fn failed_line(
+fn reason_of(why: &Why) -> Reason
+    ensures { result ≡ spec.reason_of why.now }
+{
+    match why {
+        Why::Rounds => Reason::Rounds,
+        Why::Lemmas(_) => Reason::Lemmas,
+        Why::Size => Reason::Size,
+    }
+}
+
+/// The line of a function on a check of it, by how that ended: arguments fail it, or it is open.
+fn ended_line(
     alloc: Global,
     program: &Program,
     f: &Function,
-    check: CheckId,
-    args: &[Value],
+    check: &Check,
+    end: &CheckEnd,
 ) -> Result<String, NoMemory>
-    ensures { IfOk result (λ line. string_bytes line ≡ spec.failed_text program.now f.now (slice_get program.now.checks check.0) args.now) }
+    ensures { IfOk result (λ line. string_bytes line ≡ spec.ended_text program.now f.now check.now end.now) }
 {
-    match at(program.checks(), check.0 as usize) {
-        None => Ok(String::new(alloc)),
-        Some(check) => invalid_line(
+    let name = f.name.as_str();
+    match end {
+        CheckEnd::Proved(_) => Ok(String::new(alloc)),
+        CheckEnd::Exhausted(_) => Ok(String::new(alloc)),
+        CheckEnd::Invalid(args, _) => invalid_line(
             alloc,
             program.types().ctors.as_slice(),
-            f.name.as_str(),
+            name,
             check.kind,
             check.place,
             f.params.as_slice(),
-            args,
+            args.as_slice(),
         ),
+        CheckEnd::Open { searched, why } => open_line(
+            alloc,
+            name,
+            *searched,
+            check.kind,
+            check.place,
+            reason_of(why),
+        ),
+    }
+}
+
+/// The line of a function on the check of it with this number.
+fn check_line(
+    alloc: Global,
+    program: &Program,
+    ends: &[CheckEnd],
+    f: &Function,
+    check: CheckId,
+) -> Result<String, NoMemory>
+    ensures { IfOk result (λ line. string_bytes line
+        ≡ spec.check_text program.now f.now (slice_get program.now.checks check.0) (slice_get ends.now check.0)) }
+{
+    let c = check.0 as usize;
+    let Some(check) = at(program.checks(), c) else {
+        return Ok(String::new(alloc));
+    };
+    match at(ends, c) {
+        None => Ok(String::new(alloc)),
+        Some(end) => ended_line(alloc, program, f, check, end),
+    }
+}
+
+/// The line of a function with so many checks that depends on the function with this number.
+fn depending_line(
+    alloc: Global,
+    program: &Program,
+    f: &Function,
+    checks: u32,
+    on: FunctionId,
+) -> Result<String, NoMemory>
+    ensures { IfOk result (λ line. string_bytes line
+        ≡ spec.depending_text f.now checks (slice_get program.now.functions on.0)) }
+{
+    match at(program.functions.as_slice(), on.0 as usize) {
+        None => Ok(String::new(alloc)),
+        Some(g) => depends_line(alloc, f.name.as_str(), g.name.as_str(), checks),
     }
 }
 
@@ -41,15 +102,19 @@ fn failed_line(
 fn verdict_line(
     alloc: Global,
     program: &Program,
+    ends: &[CheckEnd],
     i: u32,
     f: &Function,
     verdict: &Verdict,
 ) -> Result<String, NoMemory>
-    ensures { IfOk result (λ line. string_bytes line ≡ spec.verdict_text program.now i f.now verdict.now) }
+    ensures { IfOk result (λ line. string_bytes line
+        ≡ spec.verdict_text program.now ends.now i f.now verdict.now) }
 {
     match verdict {
         Verdict::Valid => valid_line(alloc, f.name.as_str(), own_checks(program, i)),
-        Verdict::Invalid(check, args) => { failed_line(alloc, program, f, *check, args.as_slice()) }
+        Verdict::Depends(g) => depending_line(alloc, program, f, own_checks(program, i), *g),
+        Verdict::Invalid(check) => check_line(alloc, program, ends, f, *check),
+        Verdict::Open(check) => check_line(alloc, program, ends, f, *check),
     }
 }
 
@@ -57,15 +122,18 @@ fn verdict_line(
 fn verdict_lines(
     alloc: Global,
     program: &Program,
+    ends: &[CheckEnd],
     verdicts: &[Verdict],
 ) -> Result<Vec<String>, NoMemory>
     requires { length verdicts.now ≡ length program.now.functions }
-    ensures { IfOk result (λ lines. map string_bytes lines.items ≡ spec.verdict_lines program.now 0 program.now.functions verdicts.now) }
+    ensures { IfOk result (λ lines. map string_bytes lines.items
+        ≡ spec.verdict_lines program.now ends.now 0 program.now.functions verdicts.now) }
 {
     let functions = program.functions.as_slice();
     let mut lines = Vec::new(alloc);
     for i in 0..verdicts.len() {
-        lines.push(verdict_line(alloc, program, i as u32, &functions[i], &verdicts[i])?)?;
+        let line = verdict_line(alloc, program, ends, i as u32, &functions[i], &verdicts[i])?;
+        lines.push(line)?;
     }
     Ok(lines)
 }
@@ -75,50 +143,107 @@ fn is_valid(verdict: &Verdict) -> bool
 {
     match verdict {
         Verdict::Valid => true,
-        Verdict::Invalid(_, _) => false,
+        _ => false,
     }
 }
 
-fn count_valid(verdicts: &[Verdict]) -> u32
+fn is_invalid(verdict: &Verdict) -> bool
+    ensures { result ≡ spec.is_invalid verdict.now }
+{
+    match verdict {
+        Verdict::Invalid(_) => true,
+        _ => false,
+    }
+}
+
+fn is_open(verdict: &Verdict) -> bool
+    ensures { result ≡ spec.is_open verdict.now }
+{
+    match verdict {
+        Verdict::Open(_) => true,
+        _ => false,
+    }
+}
+
+fn is_depending(verdict: &Verdict) -> bool
+    ensures { result ≡ spec.is_depending verdict.now }
+{
+    match verdict {
+        Verdict::Depends(_) => true,
+        _ => false,
+    }
+}
+
+/// How many functions have each verdict.
+#[derive(Clone, Copy)]
+struct Counts {
+    valid: u32,
+    invalid: u32,
+    open: u32,
+    depending: u32,
+}
+
+fn counts_of(verdicts: &[Verdict]) -> Counts
     requires { length verdicts.now < 2 ^ 32 }
-    ensures { result ≡ spec.count_valid verdicts.now }
+    ensures valid { result.valid ≡ count_by spec.is_valid verdicts.now }
+    ensures invalid { result.invalid ≡ count_by spec.is_invalid verdicts.now }
+    ensures opens { result.«open» ≡ count_by spec.is_open verdicts.now }
+    ensures depending { result.depending ≡ count_by spec.is_depending verdicts.now }
 {
-    verdicts.iter().filter(|verdict| is_valid(verdict)).count() as u32
-}
-
-fn status_of(invalid: u32) -> Status
-    ensures { result ≡ spec.status_for invalid }
-{
-    if invalid == 0 {
-        Status::AllValid
-    } else {
-        Status::SomeInvalid
+    Counts {
+        valid: verdicts.iter().filter(|verdict| is_valid(verdict)).count() as u32,
+        invalid: verdicts
+            .iter()
+            .filter(|verdict| is_invalid(verdict))
+            .count() as u32,
+        open: verdicts.iter().filter(|verdict| is_open(verdict)).count() as u32,
+        depending: verdicts
+            .iter()
+            .filter(|verdict| is_depending(verdict))
+            .count() as u32,
     }
 }
 
-fn verdict_report(
+/// The status of a report with so many functions that are invalid, that are open, and that depend on others.
+fn status_for(invalid: u32, open: u32, depending: u32) -> Status
+    ensures { result ≡ spec.status_for invalid «open» depending }
+{
+    if invalid > 0 {
+        return Status::SomeInvalid;
+    }
+    if open > 0 || depending > 0 {
+        return Status::SomeOpen;
+    }
+    Status::AllValid
+}
+
+fn verdict_report(alloc: Global, program: &Program, report: &Report) -> Result<Response, NoMemory>
+    requires { length report.now.verdicts ≡ length program.now.functions }
+    ensures { IfOk result (λ r. response_of r ≡ spec.verdict_report program.now report.now) }
+{
+    let verdicts = report.verdicts.as_slice();
+    let mut lines = verdict_lines(alloc, program, report.checks.as_slice(), verdicts)?;
+    let Counts {
+        valid,
+        invalid,
+        open,
+        depending,
+    } = counts_of(verdicts);
+    lines.push(summary_line(alloc, valid, invalid, open, depending)?)?;
+    Ok(Response::Report(status_for(invalid, open, depending), lines))
+}
+
+/// What is answered to mode `verify` within these limits.
+pub(crate) fn answer_verify(
     alloc: Global,
     program: &Program,
-    verdicts: &[Verdict],
+    plan: &Plan,
+    limits: Limits,
 ) -> Result<Response, NoMemory>
-    requires few { length verdicts.now < 2 ^ 32 }
-    requires each { length verdicts.now ≡ length program.now.functions }
-    ensures { IfOk result (λ r. response_of r ≡ spec.verdict_report program.now verdicts.now) }
+    requires plan { IsPlanOf plan.now program.now }
+    requires limits { AreLimits limits }
+    ensures { IfOk result (λ r. spec.AnswersVerify program.now limits (response_of r)) }
 {
-    let mut lines = verdict_lines(alloc, program, verdicts)?;
-    let valid = count_valid(verdicts);
-    let invalid = verdicts.len() as u32 - valid;
-    lines.push(summary_line(alloc, valid, invalid, 0, 0)?)?;
-    Ok(Response::Report(status_of(invalid), lines))
-}
-
-/// What is answered to mode `verify`.
-pub(crate) fn answer_verify(alloc: Global, program: &Program) -> Result<Response, NoMemory>
-    ensures { IfOk result (λ r. spec.AnswersVerify program.now (response_of r)) }
-{
-    if !is_flat(program) {
-        return Ok(Response::Refusal(Status::Refused, String::from_str(alloc, other_form_line())?));
-    }
-    let verdicts = verdicts_of(alloc, program)?;
-    verdict_report(alloc, program, verdicts.as_slice())
+    let report = verify(alloc, program, plan, limits)?;
+    verdict_report(alloc, program, &report)
 }

@@ -11,10 +11,6 @@ abbrev pub not_utf8_text : ℕ → ℕ → Text
 not_utf8_text offset source = codes "refused: not utf-8 at byte " ++
     (decimal offset ++ (codes " of source " ++ (decimal source ++ codes "\n")))
 
--- the sources have a form that the program doesn't read
-abbrev pub other_form_text : Text
-other_form_text = codes "refused: other form\n"
-
 -- the words of the command line aren't accepted
 abbrev pub words_text : Text
 words_text = codes "words refused\n"

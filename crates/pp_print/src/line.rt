@@ -1,7 +1,8 @@
 //! The lines on the verdicts.
 
-ghost use Rattle.std.specs.Prelude.{◌≡◌, IfOk, string_bytes};
-ghost use Rattle.pp_print.specs.Lines.{depends_text, invalid_text, summary_text, valid_text};
+ghost use Rattle.std.specs.Prelude.{◌≡◌, ◌++◌, IfOk, OnOk, string_bytes};
+ghost use Rattle.pp_print.specs.Lines.{depends_text, invalid_text, open_text, summary_text, valid_text};
+ghost use Rattle.pp_print.specs.Lines.{reason_text, round_text};
 
 use crate::check::push_check;
 use crate::value::push_arguments;
@@ -43,6 +44,58 @@ pub fn invalid_line(
     push_check(&mut out, kind, place)?;
     push_arguments(&mut out, ctors, params, values)?;
     out.push_str("\n")?;
+    Ok(out)
+}
+
+/// Why a check is left open: the rounds are used up; the lemmas of a query are spent; the next round is estimated too
+/// large.
+#[derive(Clone, Copy, Debug, PartialEq, Eq)]
+pub enum Reason {
+    Rounds,
+    Lemmas,
+    Size,
+}
+
+/// The word for a reason. It takes no memory.
+fn reason_word(reason: Reason) -> &'static str
+    ensures { result.now ≡ reason_text reason }
+{
+    match reason {
+        Reason::Rounds => "rounds",
+        Reason::Lemmas => "lemmas",
+        Reason::Size => "size",
+    }
+}
+
+/// Adds `at round N`, or `before round 0`.
+fn push_round(out: &mut String, searched: Option<u32>) -> Result<(), NoMemory>
+    ensures { OnOk result (string_bytes out.new ≡ string_bytes out.old ++ round_text searched) }
+{
+    match searched {
+        None => out.push_str("before round 0"),
+        Some(round) => write!(out, "at round {round}"),
+    }
+}
+
+/// The line `NAME: open at round N, KIND at S:L:C, WHY` of a function whose check of this kind at this place is open:
+/// no arguments were found that fail it, up to the last round that was searched. Where none was it is `NAME: open
+/// before round 0, KIND at S:L:C, WHY`. The only error is want of memory.
+pub fn open_line(
+    alloc: Global,
+    name: &str,
+    searched: Option<u32>,
+    kind: CheckKind,
+    place: Place,
+    reason: Reason,
+) -> Result<String, NoMemory>
+    ensures { IfOk result (λ s. string_bytes s ≡ open_text name.now searched kind place reason) }
+{
+    let mut out = format!(in alloc; "{name}: open ")?;
+    push_round(&mut out, searched)?;
+    out.push_str(", ")?;
+    push_check(&mut out, kind, place)?;
+    let word = reason_word(reason);
+    write!(out, ", {word}\n")?;
     Ok(out)
 }
 

@@ -1,8 +1,8 @@
 //! The lines on why there is no verdict.
 
 ghost use Rattle.std.specs.Prelude.{◌≡◌, IfOk, string_bytes};
-ghost use Rattle.pp_print.specs.Refusals.{memory_text, not_utf8_text, other_form_text, read_fault_text};
-ghost use Rattle.pp_print.specs.Refusals.{too_long_text, words_text, write_fault_text};
+ghost use Rattle.pp_print.specs.Refusals.{memory_text, not_utf8_text, read_fault_text, too_long_text};
+ghost use Rattle.pp_print.specs.Refusals.{words_text, write_fault_text};
 
 use pp_text::NoMemory;
 use std::alloc::Global;
@@ -20,13 +20,6 @@ pub fn not_utf8_line(alloc: Global, offset: u32, source: u32) -> Result<String, 
     ensures { IfOk result (λ s. string_bytes s ≡ not_utf8_text offset source) }
 {
     format!(in alloc; "refused: not utf-8 at byte {offset} of source {source}\n")
-}
-
-/// The line of sources with a form that the program doesn't read. It takes no memory.
-pub fn other_form_line() -> &'static str
-    ensures { result.now ≡ other_form_text }
-{
-    "refused: other form\n"
 }
 
 /// The line of a command line that isn't accepted. It takes no memory.

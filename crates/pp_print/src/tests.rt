@@ -95,6 +95,33 @@ fn prints(rt: &impl Abort, alloc: Global, value: Value, text: &str) -> Result<()
     Ok(())
 }
 
+/// The lines of open functions.
+#[test]
+fn opens(rt: HostRuntime) -> Result<(), Fail> {
+    let alloc = rt.alloc();
+    for (searched, reason, line) in [
+        (
+            Some(4),
+            Reason::Rounds,
+            "p: open at round 4, measure at 1:2:51, rounds\n",
+        ),
+        (
+            Some(0),
+            Reason::Lemmas,
+            "p: open at round 0, measure at 1:2:51, lemmas\n",
+        ),
+        (
+            None,
+            Reason::Size,
+            "p: open before round 0, measure at 1:2:51, size\n",
+        ),
+    ] {
+        let made = open_line(alloc, "p", searched, CheckKind::Measure, PLACE, reason)?;
+        assert_eq!(rt; made.as_str(), line);
+    }
+    Ok(())
+}
+
 /// How each value prints.
 #[test]
 fn values(rt: HostRuntime) -> Result<(), Fail> {
@@ -214,7 +241,6 @@ fn refusals(rt: HostRuntime) -> Result<(), Fail> {
         assert_eq!(rt; read_fault_line(alloc, path)?.as_str(), line);
     }
     for (fixed, line) in [
-        (other_form_line(), "refused: other form\n"),
         (words_line(), "words refused\n"),
         (write_fault_line(), "write fault\n"),
         (memory_line(), "out of memory\n"),

@@ -1,4 +1,3 @@
 pub mod Showing
 pub mod Ending
 pub mod Held
-pub mod Ranges

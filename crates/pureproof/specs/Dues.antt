@@ -1,5 +1,5 @@
 -- What is due, and why. Source: own.
-use Rattle.std.specs.Prelude.{◌≡◌, ◌≤◌, ◌+◌, ℕ, List, None, Some, All, length}
+use Rattle.std.specs.Prelude.{◌≡◌, ◌≤◌, ◌+◌, List, None, Some, All, length}
 use Rattle.pp_answers.specs.Answers.{Answers}
 use Rattle.pp_modes.specs.Responses.{Response, refusal}
 use Rattle.pp_modes.specs.declared.status.Status.TheVariants as status
@@ -18,15 +18,16 @@ pub record AreFetched (shelf : Shelf) (line : Line) (sources : List Text) : Type
   pub short : AreShort sources
   pub calm : shelf.failed_after ≡ shelf.failed
 
--- why it is due: the words are no line; the fetch of a file failed; a file is too long; the sources say so; there was no
--- memory
+-- why it is due: the words are no line; the fetch of a file failed; a file is too long; the sources say so; there was
+-- no memory
 pub data IsDue (words : List Text) (shelf : Shelf) : Response → Type 0 where
-  no_line : line_of words ≡ None → shelf.failed_after ≡ shelf.failed → IsDue words shelf (refusal status.Words words_text)
+  no_line : line_of words ≡ None → shelf.failed_after ≡ shelf.failed
+      → IsDue words shelf (refusal status.Words words_text)
   unread : (line : Line) (sources : List Text) → line_of words ≡ Some line
       → (fails : FailsAt shelf line.files sources)
       → IsDue words shelf (refusal status.ReadFault (read_fault_text fails.path))
   too_long : (line : Line) (sources : List Text) → line_of words ≡ Some line → IsTooLongAt shelf line.files sources
       → IsDue words shelf (refusal status.Refused (too_long_text (length sources + 1)))
-  answered : {r : Response} (line : Line) (sources : List Text) → line_of words ≡ Some line → AreFetched shelf line sources
-      → Answers line.task sources r → IsDue words shelf r
+  answered : {r : Response} (line : Line) (sources : List Text) → line_of words ≡ Some line
+      → AreFetched shelf line sources → Answers line.task sources r → IsDue words shelf r
   no_memory : IsDue words shelf (refusal status.Memory memory_text)

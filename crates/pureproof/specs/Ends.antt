@@ -1,17 +1,16 @@
 -- How a run of the program ends. Source: own.
-use Rattle.std.specs.Prelude.{◌≡◌, ◌⊎◌, ◌∷◌, ◌++◌, ℕ, [], List, Option, Some, Contains, slice_get}
+use Rattle.std.specs.Prelude.{◌≡◌, ◌⊎◌, ◌∷◌, ◌++◌, [], List, Option, Some, Contains}
 use Rattle.std.specs.List.{concat}
 use Rattle.pp_answers.specs.Answers.{Answers, IsAccepted}
-use Rattle.pp_answers.specs.Laws.{PrintsFailure}
-use Rattle.pp_eval.specs.Runs.{IsGood}
-use Rattle.pp_modes.specs.Responses.{Response, lines_in, status_in}
+use Rattle.pp_answers.specs.Claims.{AreLinesOf, Claim, InvalidFails, OpenIsSearched, ValidIsGood}
+use Rattle.pp_answers.specs.Laws.{Agree, EachLine, IsVerdict, IsVerify, verify_within}
+use Rattle.pp_induct.specs.declared.limits.Limits.{Limits}
+use Rattle.pp_modes.specs.Responses.{Response, status_in}
 use Rattle.pp_modes.specs.declared.status.Status.{Status}
 use Rattle.pp_modes.specs.declared.status.Status.TheVariants as status
-use Rattle.pp_prog.specs.declared.expr.Function.{Function}
 use Rattle.pp_prog.specs.declared.program.Program.{Program}
 use Rattle.pp_seam.specs.Faults.{Rose}
 use Rattle.pp_words.specs.Line.{Line, line_of}
-use Rattle.pp_words.specs.Task.{Task, verify}
 use Rattle.pureproof.specs.Dues.{AreFetched, AreShort, IsDue}
 use Rattle.pureproof.specs.Fetched.{Shelf, Text}
 use Rattle.pureproof.specs.Shown.{Shows, Took, TookAll}
@@ -52,37 +51,45 @@ pub data Excuses (run : Run) : Status → Type 0 where
   out_failed : Rose run.out.faults run.out.faults_after → Excuses run status.WriteFault
   err_failed : Rose run.err.faults run.err.faults_after → Excuses run status.WriteFault
 
--- the program ends with the status, unless something excuses another
-abbrev pub EndsWith : Run → Status → Status → Type 0
-EndsWith run due s = (s ≡ due) ⊎ Excuses run s
+-- where the files hold sources that have an answer, the program ends with its status; reports of mode `verify` may
+-- differ in what stays open
+abbrev pub Comes : Run → Status → Type 0
+Comes run s = (line : Line) (sources : List Text) (r : Response) → Holds run line sources → Answers line.task sources r
+    → Agree line.task s (status_in r) ⊎ Excuses run s
 
--- mode `verify`
-pub data IsVerify : Task → Type 0 where
-  is_verify : (rounds depth lemmas gates : ℕ) → IsVerify (verify rounds depth lemmas gates)
+-- where they hold sources that are accepted, mode `verify` ends with a status on verdicts
+abbrev pub Verifies : Run → Status → Type 0
+Verifies run s = (line : Line) (sources : List Text) (p : Program) → Holds run line sources → IsVerify line.task
+    → IsAccepted sources p → IsVerdict s ⊎ Excuses run s
 
--- each function of the program of the fetched sources is good
-pub record IsGoodLine (run : Run) (line : Line) : Type 0 where
+-- `out` took the lines of a report on the fetched sources, which are accepted: one for each function, in program order,
+-- and then the summary. The status is by these lines, and the claim is true of each.
+pub record Reports (run : Run) (line : Line) (s : Status) (IsTrue : Claim) : Type 0 where
   pub sources : List Text
   pub fetched : AreFetched run.shelf line sources
-  pub good : (p : Program) → IsAccepted sources p → (i : ℕ) (f : Function) → slice_get p.functions i ≡ Some f
-      → IsGood p.types.ctors p.functions f
+  pub program : Program
+  pub accepted : IsAccepted sources program
+  pub lines : List Text
+  pub printed : TookAll run.out (concat lines)
+  pub one_each : (p : Program) → IsAccepted sources p → AreLinesOf p lines s
+  pub claims : EachLine sources lines IsTrue
 
--- the lines that `out` took name a function of the fetched sources, a check and arguments whose run fails it
-pub record IsFailedLine (run : Run) (line : Line) : Type 0 where
-  pub sources : List Text
-  pub fetched : AreFetched run.shelf line sources
-  pub response : Response
-  pub failure : PrintsFailure sources response
-  pub printed : TookAll run.out (concat (lines_in response))
+-- so it is where mode `verify` ends with a status on verdicts
+abbrev pub EachPrinted : (Limits → Claim) → Run → Status → Type 0
+EachPrinted IsTrue run s = (line : Line) (limits : Limits) → line_of run.words ≡ Some line
+    → line.task ≡ verify_within limits → IsVerdict s → Reports run line s (IsTrue limits)
 
--- where mode `verify` ends with 0
-abbrev pub SaysGood : Run → Status → Type 0
-SaysGood run s = (line : Line) → line_of run.words ≡ Some line → IsVerify line.task → s ≡ status.AllValid → IsGoodLine run line
+-- each function that is printed as valid is good
+abbrev pub ValidAreGood : Run → Status → Type 0
+ValidAreGood = EachPrinted (λ limits. ValidIsGood)
 
--- and where it ends with 1
-abbrev pub SaysFailed : Run → Status → Type 0
-SaysFailed run s =
-    (line : Line) → line_of run.words ≡ Some line → IsVerify line.task → s ≡ status.SomeInvalid → IsFailedLine run line
+-- each that is printed as invalid fails the printed check, run on the printed arguments
+abbrev pub InvalidFail : Run → Status → Type 0
+InvalidFail = EachPrinted InvalidFails
+
+-- and of each that is printed as open at a round the printed check was searched there
+abbrev pub OpenAreSearched : Run → Status → Type 0
+OpenAreSearched = EachPrinted OpenIsSearched
 
 -- nothing was fetched but files of the line, of which one at most failed
 abbrev pub FetchesFiles : Line → Shelf → Type 0

@@ -15,7 +15,12 @@ pub record Shelf : Type 0 where
   pub seen_after : Text
 
 abbrev pub told : {S : Type 0} → (S → Text → Option Text) → (S → List Text) → (S → Text) → S → S → Shelf
-told held failed seen old new = record { held = held old; failed = failed old; failed_after = failed new; seen_after = seen new }
+told held failed seen old new = record {
+  held = held old;
+  failed = failed old;
+  failed_after = failed new;
+  seen_after = seen new;
+}
 
 -- these are the bytes of a path, where they are told
 abbrev pub IsHeld : Option Text → Text → Type 0

@@ -20,7 +20,12 @@ pub record Took : Type 0 where
 
 -- what a sink tells, before and after
 abbrev pub took : {K : Type 0} → (K → Option Text) → (K → ℕ) → K → K → Took
-took taken faults old new = record { before = taken old; after = taken new; faults = faults old; faults_after = faults new }
+took taken faults old new = record {
+  before = taken old;
+  after = taken new;
+  faults = faults old;
+  faults_after = faults new;
+}
 
 -- nothing was put
 pub record IsStill (took : Took) : Type 0 where
@@ -42,11 +47,15 @@ pub record TookLines (took : Took) (lines : List Text) : Type 0 where
   pub cut : IsCut lines took.before took.after
   pub rose : Rose took.faults took.faults_after
 
--- the lines of a report are put on `out`, and the line of a refusal on `err`; after a fault on `out` nothing more is put
--- there, and `err` gets the line of that fault
+-- the lines of a report are put on `out`, and the line of a refusal on `err`; after a fault on `out` nothing more is
+-- put there, and `err` gets the line of that fault
 pub data Shows (out err : Took) : Response → Status → Type 0 where
-  printed : (s : Status) (lines : List Text) → TookAll out (concat lines) → IsStill err → Shows out err (report s lines) s
-  cut : (s : Status) (lines : List Text) → TookLines out lines → TookAll err write_fault_text → Shows out err (report s lines) status.WriteFault
-  both_cut : (s : Status) (lines : List Text) → TookLines out lines → TookFront err write_fault_text → Shows out err (report s lines) status.WriteFault
+  printed : (s : Status) (lines : List Text) → TookAll out (concat lines) → IsStill err
+      → Shows out err (report s lines) s
+  cut : (s : Status) (lines : List Text) → TookLines out lines → TookAll err write_fault_text
+      → Shows out err (report s lines) status.WriteFault
+  both_cut : (s : Status) (lines : List Text) → TookLines out lines → TookFront err write_fault_text
+      → Shows out err (report s lines) status.WriteFault
   refused : (s : Status) (line : Text) → IsStill out → TookAll err line → Shows out err (refusal s line) s
-  refusal_cut : (s : Status) (line : Text) → IsStill out → TookFront err line → Shows out err (refusal s line) status.WriteFault
+  refusal_cut : (s : Status) (line : Text) → IsStill out → TookFront err line
+      → Shows out err (refusal s line) status.WriteFault

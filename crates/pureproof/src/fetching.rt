@@ -1,6 +1,7 @@
 //! Fetching the sources.
 
-ghost use Rattle.std.specs.Prelude.{◌≡◌, ◌≢◌, ◌≤◌, ◌++◌, ◌∷◌, [], All, Err, IfOk, IfSome, IsErr, IsErrOf, List, ℕ, length, map};
+ghost use Rattle.std.specs.Prelude.{◌≡◌, ◌≢◌, ◌≤◌, ◌++◌, ◌∷◌, [], All, Err, IfOk, IfSome, IsErr, IsErrOf, List, ℕ};
+ghost use Rattle.std.specs.Prelude.{length, map};
 ghost use Rattle.pp_front.specs.Programs.{IsShort, bytes_of};
 ghost use Rattle.pp_seam.specs.Faults.{failed_after};
 ghost use Rattle.pp_text.specs.Limits.{most_bytes};
@@ -22,8 +23,8 @@ fn keep(sources: &mut Vec<Vec<u8>>, source: Vec<u8>) -> Result<(), FetchFault>
     }
 }
 
-/// Fetches the files in order, up to the first that can't be fetched. The list is empty before; behind a fault it has the
-/// sources before that file.
+/// Fetches the files in order, up to the first that can't be fetched. The list is empty before; behind a fault it has
+/// the sources before that file.
 ///
 /// # Errors
 /// `Failed` where the fetch of a file failed; `TooLong` where one has more than 262,144 bytes; `Memory`.
@@ -38,9 +39,11 @@ pub(crate) fn fetch_all<S: Shelf>(
     ensures short { IfOk result (λ _. All IsShort sources.new.items) }
     ensures calm { result ≢ Err FetchFault.Failed → S.failed shelf.new ≡ S.failed shelf.old }
     ensures failed { IsErrOf result FetchFault.Failed
-        → FailsAt (told S.held S.failed S.seen shelf.old shelf.new) (texts files.now) (map bytes_of sources.new.items) }
+        → FailsAt (told S.held S.failed S.seen shelf.old shelf.new) (texts files.now)
+        (map bytes_of sources.new.items) }
     ensures long { IsErrOf result FetchFault.TooLong
-        → IsTooLongAt (told S.held S.failed S.seen shelf.old shelf.new) (texts files.now) (map bytes_of sources.new.items) }
+        → IsTooLongAt (told S.held S.failed S.seen shelf.old shelf.new) (texts files.now)
+        (map bytes_of sources.new.items) }
     ensures kept { (p : List ℕ) → S.held shelf.new p ≡ S.held shelf.old p }
 {
     for path in files {

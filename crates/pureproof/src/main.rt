@@ -1,9 +1,10 @@
 //! Checks the contracts in sources of Pure Scala: verifies functions, lists their checks, or runs one.
 //!
-//! `pureproof` in `top` is all that the program does, over a shelf of sources and two sinks; `main` gives it the files and
-//! the standard streams. `fetching` fetches the sources, `responding` says what is due, `show` puts it. In `specs/`,
-//! `Fetched` says what shelves tell, `Dues` what is due and why, `Shown` what is left of it where a put fails, and `Ends`
-//! when the program ends with which status. What is answered to which words and sources stands in `pp_answers`.
+//! `pureproof` in `top` is all that the program does, over a shelf of sources and two sinks; `main` gives it the files
+//! and the standard streams. `fetching` fetches the sources, `responding` says what is due, `show` puts it. In
+//! `specs/`, `Fetched` says what shelves tell, `Dues` what is due and why, `Shown` what is left of it where a put
+//! fails, and `Ends` when the program ends with which status, and what its lines mean. What is answered to which words
+//! and sources stands in `pp_answers`.
 #![tactic(auto)]
 
 ghost use Rattle.std.specs.Prelude.{◌≡◌, IfOk, map, string_bytes};

@@ -45,9 +45,11 @@ fn due_of_files<S: Shelf>(
 ) -> Result<Response, NoMemory>
     requires range { IsInRange (task_told task) }
     requires few { length files.now ≤ 16 }
-    ensures due { IfOk result (λ r. (words : List (List ℕ)) → line_of words ≡ Some (record { task = task_told task.entry; files = texts files.now })
+    ensures due { IfOk result (λ r. (words : List (List ℕ))
+        → line_of words ≡ Some (record { task = task_told task.entry; files = texts files.now })
         → IsDue words (told S.held S.failed S.seen shelf.old shelf.new) (response_of r)) }
-    ensures fetched { FetchesFiles (record { task = task_told task.entry; files = texts files.now }) (told S.held S.failed S.seen shelf.old shelf.new) }
+    ensures fetched { FetchesFiles (record { task = task_told task.entry; files = texts files.now })
+        (told S.held S.failed S.seen shelf.old shelf.new) }
     ensures kept { (p : List ℕ) → S.held shelf.new p ≡ S.held shelf.old p }
 {
     let mut sources = Vec::new(alloc);
@@ -65,7 +67,8 @@ pub(crate) fn due<'a, S: Shelf>(
     words: &'a [&'a str],
     shelf: &mut S,
 ) -> Result<Response, NoMemory>
-    ensures due { IfOk result (λ r. IsDue (texts words.entry.now) (told S.held S.failed S.seen shelf.old shelf.new) (response_of r)) }
+    ensures due { IfOk result (λ r. IsDue (texts words.entry.now) (told S.held S.failed S.seen shelf.old shelf.new)
+        (response_of r)) }
     ensures fetched { Fetched (texts words.entry.now) (told S.held S.failed S.seen shelf.old shelf.new) }
     ensures kept { (p : List ℕ) → S.held shelf.new p ≡ S.held shelf.old p }
 {

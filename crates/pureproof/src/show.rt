@@ -15,7 +15,8 @@ fn put_report<K: Sink, E: Sink>(
     out: &mut K,
     err: &mut E,
 ) -> Status
-    ensures { Shows (took K.taken K.faults out.old out.new) (took E.taken E.faults err.old err.new) (report status (map string_bytes lines.now)) result }
+    ensures { Shows (took K.taken K.faults out.old out.new) (took E.taken E.faults err.old err.new)
+        (report status (map string_bytes lines.now)) result }
 {
     match put_lines(out, lines) {
         Ok(()) => status,
@@ -28,7 +29,8 @@ fn put_report<K: Sink, E: Sink>(
 
 /// Puts the line of a refusal on `err`.
 pub(crate) fn put_refusal<E: Sink>(status: Status, line: &str, err: &mut E) -> Status
-    ensures { (out : Took) → IsStill out → Shows out (took E.taken E.faults err.old err.new) (refusal status line.now) result }
+    ensures { (out : Took) → IsStill out
+        → Shows out (took E.taken E.faults err.old err.new) (refusal status line.now) result }
 {
     match err.put(line.as_bytes()) {
         Ok(()) => status,
@@ -42,7 +44,8 @@ pub(crate) fn put_response<K: Sink, E: Sink>(
     out: &mut K,
     err: &mut E,
 ) -> Status
-    ensures { Shows (took K.taken K.faults out.old out.new) (took E.taken E.faults err.old err.new) (response_of response.now) result }
+    ensures { Shows (took K.taken K.faults out.old out.new) (took E.taken E.faults err.old err.new)
+        (response_of response.now) result }
 {
     match response {
         Response::Report(status, lines) => put_report(*status, lines, out, err),

@@ -1,5 +1,5 @@
-//! Whole runs in memory and on files, and what is shown where something outside gives out. What is answered to which sources
-//! is tried by the program `pp_program_cases`.
+//! Whole runs in memory and on files, and what is shown where something outside gives out. What is answered to which
+//! sources is tried by the program `pp_program_cases`.
 
 use super::*;
 use pp_seam::{Bytes, Shelves};
@@ -10,8 +10,49 @@ use std::test::Fail;
 
 const EDGE: &str = "object A {\n  def edge(): Int = Int.MinValue / -1 + -7 % 3\n}\n";
 
-// What a run on the files `a.scala`, which has these bytes, and `b.scala`, which has none, ends with: the status, and what
-// `out` and `err` took.
+const ABS: &str = "object A {
+  def abs(x: Int): Int = { if (x < 0) -x else x } ensuring (res => res >= 0)
+}
+";
+
+// A function whose postcondition fails on one list alone, of height 3.
+const LISTS: &str = "object A {
+  sealed abstract class L
+  case class Cons(h: Int, t: L) extends L
+  case class Nil() extends L
+  def p(l: L): Boolean = {
+    l match {
+      case Cons(3, Cons(4, Nil())) => false
+      case _ => true
+    }
+  }.holds
+}
+";
+
+const CALLS: &str = "object A {
+  def g(x: Int): Int = {
+    require(x != 5)
+    x
+  }
+  def f(x: Int): Int = g(x)
+}
+";
+
+// The second function calls the first, which is invalid.
+const DEPENDS: &str = "object A {
+  def g(x: Int): Int = {
+    require(x == 3)
+    x
+  } ensuring (res => res > 3)
+  def f(x: Int): Int = {
+    require(x == 3)
+    g(x)
+  } ensuring (res => res >= 3)
+}
+";
+
+// What a run on the files `a.scala`, which has these bytes, and `b.scala`, which has none, ends with: the status, and
+// what `out` and `err` took.
 #[derive(Clone, Copy)]
 struct Row<'a> {
     words: &'a [&'a str],
@@ -46,9 +87,11 @@ fn each_mode_answers(rt: HostRuntime) -> Result<(), Fail> {
         },
         Row {
             words: &["a.scala"],
-            source: "object A {\n  def f(x: Boolean): Boolean = { x }.holds\n}\n",
+            source: ABS,
             status: Status::SomeInvalid,
-            out: "f: invalid, postcondition at 1:2:38, x = false\n0 valid, 1 invalid, 0 open, 0 depending\n",
+            out: "abs: invalid, postcondition at 1:2:51, x = -2147483648
+0 valid, 1 invalid, 0 open, 0 depending
+",
             err: "",
         },
         Row {
@@ -80,17 +123,80 @@ fn each_mode_answers(rt: HostRuntime) -> Result<(), Fail> {
 }
 
 #[test]
+fn verdicts_are_printed(rt: HostRuntime) -> Result<(), Fail> {
+    let rows = [
+        Row {
+            words: &["--depth", "3", "a.scala"],
+            source: LISTS,
+            status: Status::SomeInvalid,
+            out: "p: invalid, postcondition at 1:10:5, l = Cons(3, Cons(4, Nil()))
+0 valid, 1 invalid, 0 open, 0 depending
+",
+            err: "",
+        },
+        Row {
+            words: &["--depth", "2", "a.scala"],
+            source: LISTS,
+            status: Status::SomeOpen,
+            out: "p: open at round 4, postcondition at 1:10:5, rounds
+0 valid, 0 invalid, 1 open, 0 depending
+",
+            err: "",
+        },
+        Row {
+            words: &["a.scala"],
+            source: DEPENDS,
+            status: Status::SomeInvalid,
+            out: "g: invalid, postcondition at 1:5:5, x = 3
+f: depends on g, 2 checks
+0 valid, 1 invalid, 0 open, 1 depending
+",
+            err: "",
+        },
+        Row {
+            words: &["a.scala"],
+            source: CALLS,
+            status: Status::SomeInvalid,
+            out: "g: valid, 0 checks
+f: invalid, precondition at 1:6:24, x = 5
+1 valid, 1 invalid, 0 open, 0 depending
+",
+            err: "",
+        },
+    ];
+    for row in &rows {
+        run_row(rt.alloc(), &rt, row)?;
+    }
+    Ok(())
+}
+
+#[test]
 fn a_put_fails(rt: HostRuntime) -> Result<(), Fail> {
     let alloc = rt.alloc();
     let mut shelf = Shelves::new(alloc);
-    shelf.add("a.scala", "object A {\n}\n".as_bytes())?;
+    shelf.add("a.scala", CALLS.as_bytes())?;
     let mut out = Bytes::with_room(alloc, 1000)?;
-    out.fail_at(1, 5);
+    out.fail_at(2, 5);
     let mut err = Bytes::with_room(alloc, 1000)?;
     let status = pureproof(alloc, &["a.scala"], &mut shelf, &mut out, &mut err);
     assert_eq!(rt; status, Status::WriteFault);
-    assert_eq!(rt; out.taken(), "0 val".as_bytes());
+    assert_eq!(rt; out.taken(), "g: valid, 0 checks\nf: in".as_bytes());
     assert_eq!(rt; err.taken(), "write fault\n".as_bytes());
+    Ok(())
+}
+
+#[test]
+fn a_fetch_fails(rt: HostRuntime) -> Result<(), Fail> {
+    let alloc = rt.alloc();
+    let mut shelf = Shelves::new(alloc);
+    shelf.add("a.scala", CALLS.as_bytes())?;
+    shelf.fail_at(1)?;
+    let mut out = Bytes::with_room(alloc, 1000)?;
+    let mut err = Bytes::with_room(alloc, 1000)?;
+    let status = pureproof(alloc, &["a.scala"], &mut shelf, &mut out, &mut err);
+    assert_eq!(rt; status, Status::ReadFault);
+    assert_eq!(rt; out.taken(), "".as_bytes());
+    assert_eq!(rt; err.taken(), "read fault: a.scala\n".as_bytes());
     Ok(())
 }
 

@@ -1,18 +1,18 @@
 //! The top call.
 
-ghost use Rattle.std.specs.Prelude.{◌≡◌, List, None, ℕ};
-ghost use Rattle.pp_answers.specs.Answers.{Answers};
-ghost use Rattle.pp_modes.specs.Responses.{Response, status_in};
-ghost use Rattle.pp_words.specs.Line.{Line, line_of};
+ghost use Rattle.std.specs.Prelude.{◌≡◌, List, ℕ};
 ghost use Rattle.pp_words.specs.Told.{texts};
-ghost use Rattle.pureproof.specs.Ends.{Ends, EndsWith, Fetched, Holds, SaysFailed, SaysGood, the_run};
-ghost use Rattle.pureproof.specs.Fetched.{Text, told};
+ghost use Rattle.pureproof.specs.Ends.{Comes, Ends, Fetched, InvalidFail, OpenAreSearched, ValidAreGood, Verifies};
+ghost use Rattle.pureproof.specs.Ends.{the_run};
+ghost use Rattle.pureproof.specs.Fetched.{told};
 ghost use Rattle.pureproof.specs.Shown.{took};
 
 use crate::Status;
 use crate::responding::due;
 use crate::show::{put_refusal, put_response};
-use pp_answers::{invalid_means_failed, one_status, valid_means_good};
+use pp_answers::{
+    invalid_means_failed, one_line_each, one_status, open_means_searched, valid_means_good,
+};
 use pp_print::memory_line;
 use pp_seam::{Shelf, Sink};
 use std::alloc::Global;
@@ -25,7 +25,8 @@ fn carry_out<'a, S: Shelf, K: Sink, E: Sink>(
     out: &mut K,
     err: &mut E,
 ) -> Status
-    ensures ends { Ends (the_run (texts words.entry.now) (told S.held S.failed S.seen shelf.old shelf.new) (took K.taken K.faults out.old out.new) (took E.taken E.faults err.old err.new)) result }
+    ensures ends { Ends (the_run (texts words.entry.now) (told S.held S.failed S.seen shelf.old shelf.new)
+        (took K.taken K.faults out.old out.new) (took E.taken E.faults err.old err.new)) result }
     ensures fetched { Fetched (texts words.entry.now) (told S.held S.failed S.seen shelf.old shelf.new) }
     ensures kept { (p : List ℕ) → S.held shelf.new p ≡ S.held shelf.old p }
 {
@@ -35,8 +36,8 @@ fn carry_out<'a, S: Shelf, K: Sink, E: Sink>(
     }
 }
 
-/// Does all that the program does: it reads the words, fetches the sources that they name, and puts a report on `out`, or
-/// one line on `err` that says why there is none. The words don't include the program's name. The status says how it
+/// Does all that the program does: it reads the words, fetches the sources that they name, and puts a report on `out`,
+/// or one line on `err` that says why there is none. The words don't include the program's name. The status says how it
 /// ended; with `ReadFault`, `WriteFault` and `Memory` something outside gave out.
 pub fn pureproof<'a, S: Shelf, K: Sink, E: Sink>(
     alloc: Global,
@@ -46,22 +47,35 @@ pub fn pureproof<'a, S: Shelf, K: Sink, E: Sink>(
     err: &mut E,
 ) -> Status
     // what is shown is an answer to the words and the sources, or why there is none; a fault may cut it
-    ensures ends { Ends (the_run (texts words.entry.now) (told S.held S.failed S.seen shelf.old shelf.new) (took K.taken K.faults out.old out.new) (took E.taken E.faults err.old err.new)) result }
+    ensures ends { Ends (the_run (texts words.entry.now) (told S.held S.failed S.seen shelf.old shelf.new)
+        (took K.taken K.faults out.old out.new) (took E.taken E.faults err.old err.new)) result }
 
-    // each answer that is due comes, unless something outside gives out
-    ensures comes { let run = the_run (texts words.entry.now) (told S.held S.failed S.seen shelf.old shelf.new) (took K.taken K.faults out.old out.new) (took E.taken E.faults err.old err.new) in
-        (line : Line) (sources : List Text) (r : Response) → Holds run line sources → Answers line.task sources r → EndsWith run (status_in r) result }
+    // each answer that is due comes, in mode `verify` some report, unless something outside gives out
+    ensures comes { Comes (the_run (texts words.entry.now) (told S.held S.failed S.seen shelf.old shelf.new)
+        (took K.taken K.faults out.old out.new) (took E.taken E.faults err.old err.new)) result }
+    ensures reports { Verifies (the_run (texts words.entry.now) (told S.held S.failed S.seen shelf.old shelf.new)
+        (took K.taken K.faults out.old out.new) (took E.taken E.faults err.old err.new)) result }
 
-    // functions are called valid only where each is good, and invalid only with arguments that fail the named check
-    ensures valid { SaysGood (the_run (texts words.entry.now) (told S.held S.failed S.seen shelf.old shelf.new) (took K.taken K.faults out.old out.new) (took E.taken E.faults err.old err.new)) result }
-    ensures invalid { SaysFailed (the_run (texts words.entry.now) (told S.held S.failed S.seen shelf.old shelf.new) (took K.taken K.faults out.old out.new) (took E.taken E.faults err.old err.new)) result }
+    // each function gets one printed line, which says `valid` only where every call that meets the precondition
+    // evaluates, with some fuel, to a value that meets the postcondition
+    ensures valid { ValidAreGood (the_run (texts words.entry.now) (told S.held S.failed S.seen shelf.old shelf.new)
+        (took K.taken K.faults out.old out.new) (took E.taken E.faults err.old err.new)) result }
+    // `invalid` only with arguments whose run fails the named check
+    ensures invalid { InvalidFail (the_run (texts words.entry.now) (told S.held S.failed S.seen shelf.old shelf.new)
+        (took K.taken K.faults out.old out.new) (took E.taken E.faults err.old err.new)) result }
+    // and `open at round n` only where no arguments up to the stated depth fail that check with calls nested at most n
+    // deep
+    ensures open_at { OpenAreSearched (the_run (texts words.entry.now) (told S.held S.failed S.seen shelf.old shelf.new)
+        (took K.taken K.faults out.old out.new) (took E.taken E.faults err.old err.new)) result }
 
     // nothing but the files of the words is fetched, and the shelf holds what it held
     ensures fetched { Fetched (texts words.entry.now) (told S.held S.failed S.seen shelf.old shelf.new) }
     ensures kept { (p : List ℕ) → S.held shelf.new p ≡ S.held shelf.old p }
 {
     one_status();
+    one_line_each();
     valid_means_good();
     invalid_means_failed();
+    open_means_searched();
     carry_out(alloc, words, shelf, out, err)
 }

@@ -1,4 +1,4 @@
-use Rattle.pp_answers.proofs.Meaning.{invalid_means_failed}
+use Rattle.pp_answers.proofs.Claimed.{invalid_means_failed}
 use Rattle.pp_answers.proofs.laws.invalid_means_failed.Goals as goal
 
 pub returns : goal.returns

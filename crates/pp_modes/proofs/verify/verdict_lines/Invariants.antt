@@ -4,4 +4,4 @@ use Rattle.pp_modes.proofs.verify.verdict_lines.Given as goal
 
 abbrev pub invariant-loop-i : goal.invariant-loop-i
 invariant-loop-i l = map string_bytes l.lines.items
-    ≡ verdict_lines l.program 0 (take l.i l.program.functions) (take l.i l.verdicts)
+    ≡ verdict_lines l.program l.ends 0 (take l.i l.program.functions) (take l.i l.verdicts)

@@ -2,7 +2,7 @@ use Rattle.std.proofs.Common.{length, Err, refl, sym, ap, ◌∙◌, subst, arit
 use Rattle.std.proofs.lemmas.List.{length-map}
 use Rattle.pp_modes.proofs.Asked.{if_ok}
 use Rattle.pp_words.specs.Told.{line_told, texts}
-use Rattle.pureproof.proofs.Ranges.{line_fits}
+use Rattle.pp_modes.proofs.Ranges.{line_fits}
 use Rattle.pureproof.specs.Dues.{IsDue, no_line}
 use Rattle.pureproof.specs.Fetched.{told}
 use Rattle.pureproof.proofs.responding.due.Goals as goal

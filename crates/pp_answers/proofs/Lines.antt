@@ -1,0 +1,206 @@
+-- What the line of each function tells, by its verdict.
+use Rattle.std.proofs.Common.{◌≡◌, ◌<◌, ◌+◌, ℕ, zero, suc, Bool, true, false, List, [], ◌∷◌, ◌++◌, codes}
+use Rattle.std.proofs.Common.{length, refl, sym, ap, ◌∙◌, subst, arith}
+use Rattle.std.specs.Prelude.{Option, None, Some, nat_eq, slice_get}
+use Rattle.std.proofs.lemmas.Bool.{and_parts, eqb-true}
+use Rattle.std.proofs.lemmas.Option.{slice_get_within}
+use Rattle.pp_answers.specs.Claims.{Says}
+use Rattle.pp_induct.specs.Reports.{AreEnds, IsInvalidIn, IsSearched}
+use Rattle.pp_induct.specs.Verdicts.{IsFirstEnded, IsVerdict, ended, is_invalid, is_of, is_open}
+use Rattle.pp_induct.specs.declared.ends.CheckEnd.{CheckEnd}
+use Rattle.pp_induct.specs.declared.ends.CheckEnd.TheVariants as end
+use Rattle.pp_induct.specs.declared.ends.Why.{Why}
+use Rattle.pp_induct.specs.declared.limits.Limits.{Limits}
+use Rattle.pp_induct.specs.declared.verdict.Verdict.{Verdict}
+use Rattle.pp_induct.specs.declared.verdict.Verdict.TheVariants.{Valid, Depends, Invalid, Open}
+use Rattle.pp_modes.specs.Lists.{own_checks}
+use Rattle.pp_modes.specs.Responses.{Response, lines_in}
+use Rattle.pp_modes.specs.Verdicts.{AnswersVerify, check_text, depending_text, reason_of, summary_by, verdict_lines}
+use Rattle.pp_modes.specs.Verdicts.{verdict_text}
+use Rattle.pp_print.specs.Lines.{depends_text, invalid_text, open_text, valid_text}
+use Rattle.pp_prog.specs.declared.check.Check.{Check}
+use Rattle.pp_prog.specs.declared.expr.Function.{Function}
+use Rattle.pp_prog.specs.declared.id.CheckId.{CheckId}
+use Rattle.pp_prog.specs.declared.program.Program.{Program}
+use Rattle.pp_prog.specs.declared.value.Value.{Value}
+use Rattle.pp_sound.specs.Sound.{IsCheckOf}
+
+some_same : {A : Type 0} {x y : A} → Some x ≡ Some y → x ≡ y
+some_same h = cc
+
+none_some : {A : Type 0} {x : A} → None ≡ Some x → ⊥
+none_some h = cc
+
+false_true : false ≡ true → ⊥
+false_true h = cc
+
+pub within : {A : Type 0} (xs : List A) (n : ℕ) → n < length xs → (x : A) × (slice_get xs n ≡ Some x)
+within [] n lt = absurd (omega (arith, lt))
+within (x ∷ xs) zero lt = (x, refl)
+within (x ∷ xs) (suc n) lt = within xs n (omega arith)
+
+-- ---- what a line tells
+
+module _ (p : Program) (limits : Limits) (i : ℕ) (f : Function) (line : List ℕ) where
+  pub record IsFailed (c : CheckId) : Type 0 where
+    pub own : IsCheckOf p i c.0
+    pub args : List Value
+    pub round : ℕ
+    pub ended : IsInvalidIn p limits i c args round
+    pub text : line ≡ invalid_text p.types.ctors f.name own.check.kind own.check.place f.params args
+
+  pub record IsOpen (c : CheckId) : Type 0 where
+    pub own : IsCheckOf p i c.0
+    pub searched : Option ℕ
+    pub why : Why
+    pub ended : IsSearched p limits i c searched
+    pub text : line ≡ open_text f.name searched own.check.kind own.check.place (reason_of why)
+
+  pub record IsDepending : Type 0 where
+    pub on : Function
+    pub text : line ≡ depends_text f.name on.name (own_checks i p.checks)
+
+  abbrev pub Tells : Verdict → Type 0
+  Tells Valid = line ≡ valid_text f.name (own_checks i p.checks)
+  Tells (Depends g) = IsDepending
+  Tells (Invalid c) = IsFailed c
+  Tells (Open c) = IsOpen c
+
+-- ---- the words behind the name
+
+pub says_valid : (f : Function) (line : List ℕ) (checks : ℕ) → line ≡ valid_text f.name checks
+    → Says (codes ": valid, ") f line
+says_valid f line checks is = (_, is)
+
+pub says_depends : (p : Program) (limits : Limits) (i : ℕ) (f : Function) (line : List ℕ)
+    → IsDepending p limits i f line → Says (codes ": depends on ") f line
+says_depends p limits i f line t = (_, t.text)
+
+pub says_invalid : (p : Program) (limits : Limits) (i : ℕ) (f : Function) (line : List ℕ) (c : CheckId)
+    → IsFailed p limits i f line c → Says (codes ": invalid, ") f line
+says_invalid p limits i f line c t = (_, t.text)
+
+pub says_open : (p : Program) (limits : Limits) (i : ℕ) (f : Function) (line : List ℕ) (c : CheckId)
+    → IsOpen p limits i f line c → Says (codes ": open ") f line
+says_open p limits i f line c t = (_, t.text)
+
+-- ---- the named check
+
+-- the check and its end are there, it is one of function number i, and the end passes the test
+record HasEnd (i : ℕ) (test : CheckEnd → Bool) (found : Option Check) (ends : Option CheckEnd) : Type 0 where
+  pub check : Check
+  pub listed : found ≡ Some check
+  pub owner : check.function.0 ≡ i
+  pub end : CheckEnd
+  pub here : ends ≡ Some end
+  pub so : test end ≡ true
+
+has_end : (i : ℕ) (w : _) (found : Option Check) (ends : Option CheckEnd) → ended w i found ends ≡ true
+    → HasEnd i (is_of w) found ends
+has_end i w None ends h = absurd (false_true h)
+has_end i w (Some check) None h = absurd (false_true h)
+has_end i w (Some check) (Some e) h =
+    let both = and_parts (nat_eq check.function.0 i) (is_of w e) h in
+    let owner = eqb-true check.function.0 i both.0 in
+    record { check = check; listed = refl; owner = owner; end = e; here = refl; so = both.1 }
+
+first_end : (checks : List Check) (ends : List CheckEnd) (w : _) (i c : ℕ) → IsFirstEnded checks ends w i c
+    → HasEnd i (is_of w) (slice_get checks c) (slice_get ends c)
+first_end checks ends w i c first = has_end i w (slice_get checks c) (slice_get ends c) first.has
+
+module _ (p : Program) (limits : Limits) (ends : List CheckEnd) (are : AreEnds p limits ends) (i : ℕ) (f : Function)
+    (line : List ℕ) where
+  failed : (c : CheckId) (found : HasEnd i is_invalid (slice_get p.checks c.0) (slice_get ends c.0)) (e : CheckEnd)
+      → found.end ≡ e → line ≡ verdict_text p ends i f (Invalid c) → IsFailed p limits i f line c
+  failed c found (end.Proved n) at is =
+      absurd (false_true (ap is_invalid (sym at) ∙ found.so))
+  failed c found (end.Exhausted n) at is =
+      absurd (false_true (ap is_invalid (sym at) ∙ found.so))
+  failed c found (end.Open searched w) at is =
+      absurd (false_true (ap is_invalid (sym at) ∙ found.so))
+  failed c found (end.Invalid args n) at is =
+      let here : slice_get ends c.0 ≡ Some (end.Invalid args n) = found.here ∙ ap Some at in
+      record {
+        own = record { check = found.check; listed = found.listed; owner = found.owner };
+        args = args;
+        round = n;
+        ended = subst (λ k. IsInvalidIn p limits k c args n) found.owner
+            (are c.0 found.check (end.Invalid args n) found.listed here);
+        text = is ∙ ap (λ o. check_text p f o (slice_get ends c.0)) found.listed
+            ∙ ap (check_text p f (Some found.check)) here;
+      }
+
+  left_open : (c : CheckId) (found : HasEnd i is_open (slice_get p.checks c.0) (slice_get ends c.0)) (e : CheckEnd)
+      → found.end ≡ e → line ≡ verdict_text p ends i f (Open c) → IsOpen p limits i f line c
+  left_open c found (end.Proved n) at is = absurd (false_true (ap is_open (sym at) ∙ found.so))
+  left_open c found (end.Exhausted n) at is = absurd (false_true (ap is_open (sym at) ∙ found.so))
+  left_open c found (end.Invalid args n) at is = absurd (false_true (ap is_open (sym at) ∙ found.so))
+  left_open c found (end.Open searched w) at is =
+      let here : slice_get ends c.0 ≡ Some (end.Open searched w) = found.here ∙ ap Some at in
+      record {
+        own = record { check = found.check; listed = found.listed; owner = found.owner };
+        searched = searched;
+        why = w;
+        ended = subst (λ k. IsSearched p limits k c searched) found.owner
+            (are c.0 found.check (end.Open searched w) found.listed here).0;
+        text = is ∙ ap (λ o. check_text p f o (slice_get ends c.0)) found.listed
+            ∙ ap (check_text p f (Some found.check)) here;
+      }
+
+  tells : (v : Verdict) → IsVerdict p ends i v → line ≡ verdict_text p ends i f v → Tells p limits i f line v
+  tells Valid so is = is
+  tells (Depends g) so is =
+      let on = within p.functions g.0 so.2.undone.0 in
+      record { on = on.0; text = is ∙ ap (depending_text f (own_checks i p.checks)) on.1 }
+  tells (Invalid c) so is =
+      let found = first_end p.checks ends _ i c.0 so in
+      failed c found found.end refl is
+  tells (Open c) so is =
+      let found = first_end p.checks ends _ i c.0 so.1 in
+      left_open c found found.end refl is
+
+-- ---- the line of each function
+
+line_at : (p : Program) (ends : List CheckEnd) (rest : List (List ℕ)) (n i : ℕ) (fs : List Function) (vs : List Verdict)
+    (f : Function) (v : Verdict) → slice_get fs i ≡ Some f → slice_get vs i ≡ Some v
+    → slice_get (verdict_lines p ends n fs vs ++ rest) i ≡ Some (verdict_text p ends (n + i) f v)
+line_at p ends rest n i [] vs f v at also = absurd (omega (arith, slice_get_within [] i f at))
+line_at p ends rest n i (g ∷ fs) [] f v at also = absurd (omega (arith, slice_get_within [] i v also))
+line_at p ends rest n zero (g ∷ fs) (w ∷ vs) f v at also =
+    let same : n ≡ n + 0 = omega arith in
+    ap (λ z. Some (verdict_text p ends n z w)) (some_same at)
+    ∙ ap (λ z. Some (verdict_text p ends n f z)) (some_same also) ∙ ap (λ k. Some (verdict_text p ends k f v)) same
+line_at p ends rest n (suc i) (g ∷ fs) (w ∷ vs) f v at also =
+    let same : suc n + i ≡ n + suc i = omega arith in
+    line_at p ends rest (suc n) i fs vs f v at also ∙ ap (λ k. Some (verdict_text p ends k f v)) same
+
+module _ (p : Program) (limits : Limits) (r : Response) (a : AnswersVerify p limits r) where
+  -- the verdict of a function, and its line
+  pub record IsTold (i : ℕ) (f : Function) : Type 0 where
+    pub verdict : Verdict
+    pub here : slice_get a.found.verdicts i ≡ Some verdict
+    pub line : List ℕ
+    pub there : slice_get (lines_in r) i ≡ Some line
+    pub tells : Tells p limits i f line verdict
+
+  pub told : (i : ℕ) (f : Function) → slice_get p.functions i ≡ Some f → IsTold i f
+  told i f at =
+      let ends = a.found.checks in
+      let are = a.holds.verdicts in
+      let v = within a.found.verdicts i (omega (arith, are.size, slice_get_within p.functions i f at)) in
+      let text = verdict_text p ends i f v.0 in
+      let first : 0 + i ≡ i = omega arith in
+      record {
+        verdict = v.0;
+        here = v.1;
+        line = text;
+        there = ap (λ s. slice_get (lines_in s) i) a.says
+            ∙ line_at p ends (summary_by a.found.verdicts ∷ []) 0 i p.functions a.found.verdicts f v.0 at v.1
+            ∙ ap (λ k. Some (verdict_text p ends k f v.0)) first;
+        tells = tells p limits ends a.holds.ends i f text v.0 (are.each i v.0 v.1) refl;
+      }
+
+  -- the line that stands there is the one that is told
+  pub same_line : (i : ℕ) (f : Function) (t : IsTold i f) (line : List ℕ) → slice_get (lines_in r) i ≡ Some line
+      → t.line ≡ line
+  same_line i f t line there = some_same (sym t.there ∙ there)

@@ -1,3 +1,0 @@
-pub mod Flat
-pub mod Verdicts
-pub mod Searching
