@@ -37,7 +37,8 @@ module _ (functions : List Function) (lines : List (List ℕ)) where
     some_open : ((i : ℕ) → LineSays (codes ": invalid, ") i → ⊥) → (i : ℕ)
         → LineSays (codes ": open ") i ⊎ LineSays (codes ": depends on ") i → IsStatusOf status.SomeOpen
 
--- a line for each function of the program, in order, and then the summary; the status is by these lines
+-- a line for each function of the program, in order, and one more, the summary, behind them; the status is by the lines
+-- of the functions
 pub record AreLinesOf (p : Program) (lines : List (List ℕ)) (s : Status) : Type 0 where
   pub size : length lines ≡ length p.functions + 1
   pub names : (i : ℕ) → i < length p.functions → LineSays p.functions lines (codes ": ") i

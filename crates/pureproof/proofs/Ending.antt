@@ -13,7 +13,7 @@ use Rattle.pp_answers.specs.Laws.{Agree, IsAlwaysTrue, IsVerdict, IsVerify, OneL
 use Rattle.pp_answers.specs.Laws.{is_verify, some_invalid, some_open, verify_within}
 use Rattle.pp_induct.specs.declared.limits.Limits.{Limits}
 use Rattle.pp_modes.specs.Codes.{code_of}
-use Rattle.pp_modes.specs.Responses.{Response, lines_in, status_in}
+use Rattle.pp_modes.specs.Responses.{Response, lines_in, report, status_in}
 use Rattle.pp_modes.specs.declared.status.Status.{Status}
 use Rattle.pp_modes.specs.declared.status.Status.TheVariants as status
 use Rattle.pp_prog.specs.declared.program.Program.{Program}
@@ -131,17 +131,22 @@ low s some_open = omega arith
 other : (s t : Status) → s ≡ t → IsVerdict s → 3 ≤ code_of t → ⊥
 other s t same is high = let less = low t (subst IsVerdict same is) in absurd (omega (arith, less, high))
 
--- where it ends so, what is shown has this status, and `out` took it all
+-- where it ends so, what is shown has this status, and as far as it has lines it is a report, of which `out` took all
 record IsPrinted (run : Run) (q : Response) (s : Status) : Type 0 where
   pub same : s ≡ status_in q
+  pub reports : 0 < length (lines_in q) → q ≡ report s (lines_in q)
   pub all : 0 < length (lines_in q) → TookAll run.out (concat (lines_in q))
 
 is_printed : (run : Run) (q : Response) (s : Status) → Shows run.out run.err q s → IsVerdict s → IsPrinted run q s
-is_printed run q s (printed t lines all still) is = record { same = refl; all = λ some. all }
+is_printed run q s (printed t lines all still) is = record { same = refl; reports = λ some. refl; all = λ some. all }
 is_printed run q s (cut t lines front all) is = absurd (other status.WriteFault status.WriteFault refl is (omega arith))
 is_printed run q s (both_cut t lines front again) is =
     absurd (other status.WriteFault status.WriteFault refl is (omega arith))
-is_printed run q s (refused t line still all) is = record { same = refl; all = λ some. absurd (omega (arith, some)) }
+is_printed run q s (refused t line still all) is = record {
+  same = refl;
+  reports = λ some. absurd (omega (arith, some));
+  all = λ some. absurd (omega (arith, some));
+}
 is_printed run q s (refusal_cut t line still front) is =
     absurd (other status.WriteFault status.WriteFault refl is (omega arith))
 
@@ -160,8 +165,8 @@ module _ (each : OneLineEach) (IsTrue : Limits → Claim) (always : IsAlwaysTrue
   reports q s no_memory shown is = absurd (other s status.Memory shown.same is (omega arith))
   reports q s (answered wanted sources at fetched answers) shown is =
       let same = one_line run.words wanted line at words in
-      let here : Answers (verify_within limits) sources q =
-      subst (λ t. Answers t sources q) task (subst (λ (l : Line). Answers l.task sources q) same answers) in
+      let due = subst (λ (l : Line). Answers l.task sources q) same answers in
+      let here : Answers (verify_within limits) sources q = subst (λ t. Answers t sources q) task due in
       let program = is_accepted (verify_within limits) sources q here (subst IsVerdict shown.same is) in
       let size = (each limits sources q here program.0 program.1).size in
       record {
@@ -170,6 +175,7 @@ module _ (each : OneLineEach) (IsTrue : Limits → Claim) (always : IsAlwaysTrue
         program = program.0;
         accepted = program.1;
         lines = lines_in q;
+        answers = subst (Answers line.task sources) (shown.reports (omega (arith, size))) due;
         printed = shown.all (omega (arith, size));
         one_each = λ p there. subst (AreLinesOf p (lines_in q)) (sym shown.same) (each limits sources q here p there);
         claims = always limits sources q here;

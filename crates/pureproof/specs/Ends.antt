@@ -5,7 +5,7 @@ use Rattle.pp_answers.specs.Answers.{Answers, IsAccepted}
 use Rattle.pp_answers.specs.Claims.{AreLinesOf, Claim, InvalidFails, OpenIsSearched, ValidIsGood}
 use Rattle.pp_answers.specs.Laws.{Agree, EachLine, IsVerdict, IsVerify, verify_within}
 use Rattle.pp_induct.specs.declared.limits.Limits.{Limits}
-use Rattle.pp_modes.specs.Responses.{Response, status_in}
+use Rattle.pp_modes.specs.Responses.{Response, report, status_in}
 use Rattle.pp_modes.specs.declared.status.Status.{Status}
 use Rattle.pp_modes.specs.declared.status.Status.TheVariants as status
 use Rattle.pp_prog.specs.declared.program.Program.{Program}
@@ -62,14 +62,15 @@ abbrev pub Verifies : Run → Status → Type 0
 Verifies run s = (line : Line) (sources : List Text) (p : Program) → Holds run line sources → IsVerify line.task
     → IsAccepted sources p → IsVerdict s ⊎ Excuses run s
 
--- `out` took the lines of a report on the fetched sources, which are accepted: one for each function, in program order,
--- and then the summary. The status is by these lines, and the claim is true of each.
+-- `out` took the lines of an answer to the fetched sources, which are accepted: one for each function, in program
+-- order, and one more behind them. The status is by the lines of the functions, and the claim is true of each of these.
 pub record Reports (run : Run) (line : Line) (s : Status) (IsTrue : Claim) : Type 0 where
   pub sources : List Text
   pub fetched : AreFetched run.shelf line sources
   pub program : Program
   pub accepted : IsAccepted sources program
   pub lines : List Text
+  pub answers : Answers line.task sources (report s lines)
   pub printed : TookAll run.out (concat lines)
   pub one_each : (p : Program) → IsAccepted sources p → AreLinesOf p lines s
   pub claims : EachLine sources lines IsTrue
