@@ -1,7 +1,9 @@
 #!/usr/bin/env bash
-# Times the solver beside minisat on the same unsatisfiable clauses: pigeons in holes, random clauses of three literals,
-# two words whose product is a prime number, and two whose product depends on their order. Prints the conflicts of both,
-# their seconds, and how many times longer a conflict takes.
+# Times the solver beside minisat, by conflict: random clauses of three literals, pigeons in holes, and circuits of words
+# (products, their order, sums, order). For each it solves until 1,000, 5,000 and 10,000 lemmas, and prints how many
+# microseconds a lemma took, the processor time of solving alone: what a run with one lemma takes, which is reading, is
+# taken off. Of minisat (-no-pre, at most 20 s) it prints the same of a whole run, without its parsing, and at the end how
+# many times longer our conflicts took at the last number.
 # It wants minisat (apt-get install minisat), python3, and crates/pp_cdcl_bench/out/pp_cdcl_bench, which `rt run` in that
 # crate's folder leaves.
 set -eu
@@ -10,11 +12,11 @@ here=$(mktemp -d)
 trap 'rm -rf "$here"' EXIT
 cd "$here"
 python3 - "$root/crates/pp_cdcl_bench/out/pp_cdcl_bench" <<'PY'
-import random, re, subprocess, sys, time
+import random, re, resource, subprocess, sys
 
 PROGRAM = sys.argv[1]
-LEMMAS = 1_000_000
-SECONDS = 300
+LEMMAS = (1_000, 5_000, 10_000)
+SECONDS = 20
 
 
 def pigeons(count, holes):
@@ -88,6 +90,44 @@ def words(bits):
     return circuit, [circuit.input() for _ in range(bits)], [circuit.input() for _ in range(bits)]
 
 
+def add(circuit, left, right):
+    """The sum, lowest bit first, as long as the words."""
+    total, carry = [], None
+    for a, b in zip(left, right):
+        if carry is None:
+            low, carry = circuit.odd(a, b), circuit.both(a, b)
+        else:
+            low, carry = circuit.sum(a, b, carry)
+        total.append(low)
+    return total
+
+
+def less(circuit, left, right):
+    """Whether the left word is below the right one."""
+    below = circuit.both(-left[0], right[0])
+    for a, b in zip(left[1:], right[1:]):
+        below = circuit.either(circuit.both(-a, b), circuit.both(-circuit.odd(a, b), below))
+    return below
+
+
+def sums(bits):
+    """Three words whose sum depends on the order."""
+    circuit = Circuit()
+    a, b, c = ([circuit.input() for _ in range(bits)] for _ in range(3))
+    one, other = add(circuit, add(circuit, a, b), c), add(circuit, add(circuit, c, a), b)
+    circuit.clauses.append([circuit.odd(x, y) for x, y in zip(one, other)])
+    return circuit.clauses
+
+
+def order(bits, count):
+    """Words in a circle, each below the next."""
+    circuit = Circuit()
+    words = [[circuit.input() for _ in range(bits)] for _ in range(count)]
+    for at in range(count):
+        circuit.clauses.append([less(circuit, words[at], words[(at + 1) % count])])
+    return circuit.clauses
+
+
 def product(bits, number):
     """Two words, neither of them 0 or 1, with this product."""
     circuit, left, right = words(bits)
@@ -116,55 +156,51 @@ def write(clauses):
             out.write(" ".join(map(str, clause)) + "\n")
 
 
-def minisat(clauses):
-    """The answer, the conflicts and the seconds."""
-    write(clauses)
-    start = time.monotonic()
-    run = subprocess.run(["minisat", "dimacs"], capture_output=True, text=True, timeout=SECONDS)
-    seconds = time.monotonic() - start
-    conflicts = re.search(r"conflicts\s*:\s*(\d+)", run.stdout)
-    return run.returncode == 20, int(conflicts.group(1)), seconds
+def minisat():
+    """The conflicts, and the microseconds of each."""
+    run = subprocess.run(["minisat", "-no-pre", f"-cpu-lim={SECONDS}", "dimacs"], capture_output=True, text=True)
+    read = float(re.search(r"Parse time:\s*([0-9.]+)", run.stdout).group(1))
+    whole = float(re.search(r"CPU time\s*:\s*([0-9.]+)", run.stdout).group(1))
+    conflicts = int(re.search(r"conflicts\s*:\s*(\d+)", run.stdout).group(1))
+    return conflicts, 1e6 * max(whole - read, 0) / max(conflicts, 1)
 
 
-def ours(clauses):
-    write(clauses)
-    start = time.monotonic()
-    try:
-        with open("lines") as lines:
-            run = subprocess.run([PROGRAM, str(LEMMAS)], stdin=lines, capture_output=True, text=True, timeout=SECONDS, check=True)
-    except subprocess.TimeoutExpired:
-        return None
-    seconds = time.monotonic() - start
-    answer, lemmas = re.fullmatch(r"(unsat|spent), (\d+) lemmas\n", run.stdout).groups()
-    return answer, int(lemmas), seconds
-
-
-def first_unsatisfiable(variables):
-    seed = 1
-    while not minisat(three(seed, variables))[0]:
-        seed += 1
-    return three(seed, variables)
+def ours(lemmas):
+    """The lemmas and the seconds."""
+    before = resource.getrusage(resource.RUSAGE_CHILDREN).ru_utime
+    with open("lines") as lines:
+        run = subprocess.run([PROGRAM, str(lemmas)], stdin=lines, capture_output=True, text=True, check=True)
+    seconds = resource.getrusage(resource.RUSAGE_CHILDREN).ru_utime - before
+    found = re.search(r"(\d+) lemmas", run.stdout)
+    return (int(found.group(1)) if found else None), seconds
 
 
 instances = [
-    ("7 pigeons in 6 holes", pigeons(7, 6)),
-    ("8 pigeons in 7 holes", pigeons(8, 7)),
-    ("random, 100 variables", first_unsatisfiable(100)),
-    ("random, 150 variables", first_unsatisfiable(150)),
-    ("8 bits by 8 is 16381", product(8, 16381)),
+    ("random, 150 variables", three(2, 150)),
+    ("random, 200 variables", three(1, 200)),
+    ("random, 250 variables", three(1, 250)),
+    ("9 pigeons in 8 holes", pigeons(9, 8)),
     ("12 bits by 12 is 4194301", product(12, 4194301)),
-    ("4 bits by 4, both ways", both_ways(4)),
-    ("5 bits by 5, both ways", both_ways(5)),
+    ("6 bits by 6, both ways", both_ways(6)),
+    ("24 bits, sums", sums(24)),
+    ("16 bits, order of 8", order(16, 8)),
+    ("48 bits by 48 is a prime", product(48, 2**61 - 1)),
+    ("64 bits, order of 200", order(64, 200)),
 ]
-print(f"{'instance':28} {'minisat':>9} {'seconds':>8} {'lemmas':>9} {'seconds':>8} {'ratio':>7}")
+print(f"{'instance':26} {'clauses':>8} {'minisat':>9} {'us':>7} " + " ".join(f"{n:>8}" for n in LEMMAS) + f" {'ratio':>6}")
 for name, clauses in instances:
-    answer, conflicts, seconds = minisat(clauses)
-    assert answer, name
-    found = ours(clauses)
-    if found is None:
-        print(f"{name:28} {conflicts:9} {seconds:8.3f} {'-':>9} {'>' + str(SECONDS):>8} {'-':>7}")
-        continue
-    answer, lemmas, own = found
-    ratio = (own / lemmas) / (seconds / max(conflicts, 1))
-    print(f"{name:28} {conflicts:9} {seconds:8.3f} {lemmas:9} {own:8.3f} {ratio:7.1f}" + ("" if answer == "unsat" else " spent"), flush=True)
+    write(clauses)
+    conflicts, each = minisat()
+    _, reading = ours(1)
+    row, last = [], None
+    for lemmas in LEMMAS:
+        count, seconds = ours(lemmas)
+        if count is not None and count > 1:
+            last = 1e6 * max(seconds - reading, 0) / count
+        row.append("-" if count is None or count < lemmas else f"{last:.1f}")
+        if count is None or count < lemmas:
+            break
+    row += ["-"] * (len(LEMMAS) - len(row))
+    ratio = f"{last / each:6.1f}" if last and each else "     -"
+    print(f"{name:26} {len(clauses):8} {conflicts:9} {each:7.1f} " + " ".join(f"{x:>8}" for x in row) + f" {ratio}", flush=True)
 PY

@@ -1,7 +1,7 @@
 pub mod Closed
 pub mod Logs
 pub mod Over
-pub mod Standing
+pub mod Kept
 pub mod Learning
 pub mod Reading
-pub mod Turns
+pub mod Moves

@@ -1,5 +1,5 @@
 pub mod Answer
-pub mod Standing
-pub mod Turn
+pub mod Invariant
+pub mod Step
 pub mod Reading
 pub mod Order

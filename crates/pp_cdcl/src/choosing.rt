@@ -3,7 +3,7 @@ ghost use Rattle.std.specs.Prelude.{◌≡◌, ◌≢◌, ◌≤◌, ◌^◌, tr
 ghost use Rattle.pp_clause.specs.Clause.{has};
 ghost use Rattle.pp_trail.specs.Trail.{lits};
 ghost use Rattle.pp_cdcl.specs.Reading.{IsFull, IsFree, Reads};
-ghost use Rattle.pp_cdcl.specs.Turn.{IsMissing};
+ghost use Rattle.pp_cdcl.specs.Step.{IsMissing};
 
 use crate::NoMemory;
 use crate::order::Order;

@@ -92,13 +92,13 @@ impl Order {
     /// Lets the variables of steps wait again, which are taken off the trail.
     pub fn release(&mut self, steps: &[Step]) -> Result<(), NoMemory> {
         for step in steps {
-            self.keep(step.lit)?;
+            self.requeue(step.lit)?;
         }
         Ok(())
     }
 
     /// Lets the variable of a literal wait again, with its sign.
-    fn keep(&mut self, lit: Lit) -> Result<(), NoMemory> {
+    fn requeue(&mut self, lit: Lit) -> Result<(), NoMemory> {
         let var = lit.var() as usize;
         if var < self.preferred.len() {
             self.preferred[var] = lit;
@@ -108,7 +108,7 @@ impl Order {
     }
 
     /// Makes the variables more active that a conflict met. Later conflicts count more than earlier ones.
-    pub fn meet(&mut self, vars: &[u32]) {
+    pub fn bump_all(&mut self, vars: &[u32]) {
         for var in vars {
             self.bump(*var);
         }

@@ -1,8 +1,15 @@
 //! A solver at work.
-use crate::answer::Answer;
+ghost use Rattle.std.specs.Prelude.{◌≡◌, ◌+◌, ◌≤◌, IfOk};
+ghost use Rattle.pp_cdcl.specs.Invariant.{Invariant};
+
+use crate::NoMemory;
 use crate::order::Order;
 use pp_clause::{Clauses, Lit, Log};
+use pp_learn::Analysis;
+use pp_trail::{greatest_var, raised};
 use pp_watch::Watch;
+use std::alloc::Global;
+use std::mem;
 
 /// What is to be solved.
 #[derive(Clone, Copy)]
@@ -27,13 +34,36 @@ pub struct Search {
     pub base: Option<usize>,
     /// In which order variables are decided.
     pub order: Order,
+    /// What conflicts are analyzed with.
+    pub analysis: Analysis,
 }
 
-/// What a turn of a solver came to.
-#[derive(Drop)]
-pub enum Turn {
-    /// The answer.
-    Done(Answer),
-    /// There is more to do.
-    Next(Search),
+impl Search {
+    /// A solver that has done nothing yet.
+    pub fn new(alloc: Global, problem: Problem<'_>) -> Result<Search, NoMemory>
+        requires { 1 ≤ problem.lemmas }
+        ensures invariant { IfOk result (λ s. Invariant problem.entry.clauses.now problem.entry.assumptions.now
+            problem.entry.lemmas s.watch s.log s.base) }
+        ensures sized { IfOk result (λ s. s.analysis ≡ s.watch.vars + 1) }
+    {
+        let vars = raised(greatest_var(problem.clauses), problem.assumptions);
+        let watch = Watch::over(alloc, problem.clauses, vars)?;
+        let order = Order::new(alloc, vars)?;
+        let analysis = Analysis::new(alloc, vars)?;
+        Ok(Search {
+            watch,
+            log: Log::new(alloc),
+            base: None,
+            order,
+            analysis,
+        })
+    }
+
+    /// Takes the log out, at the end.
+    pub fn take_log(&mut self, alloc: Global) -> Log
+        ensures log { result ≡ self.old.log }
+        ensures watch { self.new.watch ≡ self.old.watch }
+    {
+        mem::replace(&mut self.log, Log::new(alloc))
+    }
 }

@@ -11,8 +11,8 @@ ghost use Rattle.pp_cdcl.specs.Answer.{IfSat, IfUnsat, IfSpent, IsSpent};
 
 use crate::NoMemory;
 use crate::answer::Answer;
-use crate::search::{Problem, Turn};
-use crate::turning::{start, turn};
+use crate::propagate::step;
+use crate::search::{Problem, Search};
 use pp_clause::{Clauses, Lit};
 use std::alloc::Global;
 
@@ -41,18 +41,18 @@ pub fn solve(
 
     // a log of exactly the lemmas, each new, and none of them refutes
     ensures spent { IfOk result (λ a. IfSpent a (IsSpentLog clauses.now assumptions.now lemmas)) }
-    ensures never { IfOk result (λ a. (variables : List ℕ) → length variables ≤ 20 → All (IsOver variables) clauses.now → 3 ^ length variables ≤ lemmas → ¬ IsSpent a) }
+    ensures never { IfOk result (λ a. (variables : List ℕ) → length variables ≤ 20 → All (IsOver variables) clauses.now
+        → 3 ^ length variables ≤ lemmas → ¬ IsSpent a) }
 {
     let problem = Problem {
         clauses,
         assumptions,
         lemmas,
     };
-    let mut search = start(alloc, problem)?;
+    let mut search = Search::new(alloc, problem)?;
     loop {
-        match turn(alloc, problem, search)? {
-            Turn::Done(answer) => return Ok(answer),
-            Turn::Next(next) => search = next,
+        if let Some(answer) = step(alloc, problem, &mut search)? {
+            return Ok(answer);
         }
     }
 }

@@ -1,4 +1,5 @@
 pub mod Places
+pub mod MetMarks
 pub mod Chains
 pub mod Turning
 pub mod Reasons
@@ -6,4 +7,4 @@ pub mod Walks
 pub mod Showing
 pub mod Points
 pub mod Beginning
-pub mod Deciding
+pub mod FirstPoint

@@ -1,5 +1,6 @@
 -- Marks by variable, and the steps of a trail whose variables are marked. (own)
-use Rattle.std.specs.Prelude.{ℕ, ◌+◌, ◌≡◌, ◌≢◌, ◌<◌, ◌≤◌, ◌==◌, ◌&&◌, ◌||◌, Bool, true, false, List, slice_index_or, length, All}
+use Rattle.std.specs.Prelude.{ℕ, ◌+◌, ◌≡◌, ◌≢◌, ◌<◌, ◌≤◌, ◌==◌, ◌&&◌, ◌||◌, Bool, true, false, List, slice_index_or}
+use Rattle.std.specs.Prelude.{length, All}
 use Rattle.std.specs.List.{list_any}
 use Rattle.pp_clause.specs.Literal.{Literal, opposite}
 use Rattle.pp_clause.specs.Clause.{has}
@@ -26,9 +27,14 @@ pub record MarksAll (old new : List Bool) (clause : List Literal) : Type 0 where
 abbrev pub Fits : ℕ → List Literal → Type 0
 Fits bound clause = All (λ l. l.var < bound) clause
 
--- variables that marks of this length have a place for
-abbrev pub AreMet : ℕ → List ℕ → Type 0
-AreMet bound xs = All (λ x. (1 ≤ x) × (x < bound)) xs
+-- whether the variable is one of these
+abbrev pub is_met : List ℕ → ℕ → Bool
+is_met xs x = list_any (λ y. y == x) xs
+
+-- variables that have a place in the marks, with each marked one among them
+pub record AreMet (marks : List Bool) (xs : List ℕ) : Type 0 where
+  pub in_range : All (λ x. x < length marks) xs
+  pub all : (x : ℕ) → is_marked marks x ≡ true → is_met xs x ≡ true
 
 -- the step at this place is marked
 pub record MarkedAt (steps : List Step) (marks : List Bool) (place : ℕ) : Type 0 where
@@ -65,7 +71,8 @@ pub record FitAll (bound : ℕ) (steps : List Step) : Type 0 where
 -- the step at this place isn't marked any more, what else was marked still is, and later steps are marked as before
 pub record Turns (steps : List Step) (place : ℕ) (old new : List Bool) : Type 0 where
   pub keeps : KeepsFrom steps (place + 1) old new
-  pub still : (i : ℕ) (s : Step) → i ≢ place → StandsAt steps i s → is_marked old s.lit.var ≡ true → is_marked new s.lit.var ≡ true
+  pub still : (i : ℕ) (s : Step) → i ≢ place → StandsAt steps i s → is_marked old s.lit.var ≡ true
+      → is_marked new s.lit.var ≡ true
   pub cleared : (s : Step) → StandsAt steps place s → is_marked new s.lit.var ≡ false
 
 -- a marked step among those from the one place on, and before the other
@@ -83,3 +90,14 @@ pub record FollowsLast (steps : List Step) (marks : List Bool) (end length : ℕ
 -- no variable is marked
 pub record AreBlank (marks : List Bool) : Type 0 where
   pub blank : (x : ℕ) → is_marked marks x ≡ false
+
+-- the variable's step stands at this place, and is marked
+pub record IsMarkedPlace (steps : List Step) (marks : List Bool) (var place : ℕ) : Type 0 where
+  pub step : Step
+  pub at : StandsAt steps place step
+  pub is : step.lit.var ≡ var
+  pub marked : is_marked marks var ≡ true
+
+-- the variable has no step that is marked
+pub record IsUnmarked (steps : List Step) (marks : List Bool) (var : ℕ) : Type 0 where
+  pub unmarked : (i : ℕ) (s : Step) → StandsAt steps i s → s.lit.var ≡ var → is_marked marks var ≡ false

@@ -1,12 +1,13 @@
 //! Walks down the trail, from its end.
-ghost use Rattle.std.specs.Prelude.{◌≡◌, ◌+◌, ◌<◌, ◌≤◌, length, OnOk, IfOk, IfSome, IfNone};
+ghost use Rattle.std.specs.Prelude.{◌≡◌, ◌+◌, ◌<◌, ◌≤◌, length, take, OnOk, IfOk, IfSome, IfNone};
 ghost use Rattle.pp_trail.specs.Trail.{IsFalse, lits};
-ghost use Rattle.pp_learn.specs.Marks.{AreMet, MarkedAt, IsClear, IsMarkedIn, IsPoint, KeepsFrom, FitAll};
+ghost use Rattle.pp_learn.specs.Marks.{AreMet, MarkedAt, IsClear, IsMarkedIn, IsPoint, FitAll};
+ghost use Rattle.pp_learn.specs.Conflict.{AreBeforePoint};
 ghost use Rattle.pp_learn.specs.Reached.{IsTrailFor, Reached, AreForced, AreDecisions};
 
 use crate::NoMemory;
 use crate::marks::last_marked;
-use crate::resolving::{minimize, resolve};
+use crate::resolving::resolve;
 use pp_clause::Clauses;
 use pp_trail::Step;
 
@@ -24,10 +25,12 @@ pub fn first_point(
     requires forced { AreForced trail.now start }
     requires some { ¬ IsClear trail.now marks.old start (length trail.now) }
     requires reached { Reached clauses.now trail.now marks.old chain.old.items }
-    requires met { AreMet (length marks.old) met.old.items }
+    requires begun { length chain.old.items ≡ 1 }
+    requires met { AreMet marks.old met.old.items }
     ensures reached { OnOk result (Reached clauses.now trail.now marks.new chain.new.items) }
     ensures point { IfOk result (IsPoint trail.now marks.new start) }
-    ensures met { OnOk result (AreMet (length marks.old) met.new.items) }
+    ensures first { OnOk result (AreBeforePoint clauses.now (lits (take start trail.now)) chain.new.items) }
+    ensures met { OnOk result (AreMet marks.new met.new.items) }
 {
     let mut place = last_marked(trail, marks, start, trail.len()).unwrap();
     let mut other = place;
@@ -61,34 +64,6 @@ fn marked_before(
     last_marked(trail, marks, start, place)
 }
 
-/// Takes away, of the literals before this place, those that follow from the others by one reason, and those that no
-/// decision led to.
-pub fn minimize_before(
-    clauses: &Clauses,
-    trail: &[Step],
-    end: usize,
-    marks: &mut [bool],
-    met: &mut Vec<u32>,
-    chain: &mut Vec<u32>,
-) -> Result<(), NoMemory>
-    requires trail { IsTrailFor clauses.now trail.now marks.old }
-    requires end { end ≤ length trail.now }
-    requires reached { Reached clauses.now trail.now marks.old chain.old.items }
-    requires met { AreMet (length marks.old) met.old.items }
-    ensures reached { OnOk result (Reached clauses.now trail.now marks.new chain.new.items) }
-    ensures keeps { OnOk result (KeepsFrom trail.now end marks.old marks.new) }
-    ensures met { OnOk result (AreMet (length marks.old) met.new.items) }
-{
-    let ground = trail
-        .iter()
-        .take_while(|step| step.reason.is_some())
-        .count();
-    for place in (0..end).rev() {
-        minimize(clauses, trail, place, ground, marks, met, chain)?;
-    }
-    Ok(())
-}
-
 /// Resolves until decisions alone are marked.
 pub fn to_decisions(
     clauses: &Clauses,
@@ -99,9 +74,10 @@ pub fn to_decisions(
 ) -> Result<(), NoMemory>
     requires trail { IsTrailFor clauses.now trail.now marks.old }
     requires reached { Reached clauses.now trail.now marks.old chain.old.items }
-    requires met { AreMet (length marks.old) met.old.items }
+    requires met { AreMet marks.old met.old.items }
     ensures reached { OnOk result (Reached clauses.now trail.now marks.new chain.new.items) }
     ensures decided { OnOk result (AreDecisions trail.now marks.new 0) }
+    ensures met { OnOk result (AreMet marks.new met.new.items) }
 {
     for place in (0..trail.len()).rev() {
         resolve_marked(clauses, trail, place, marks, met, chain)?;
@@ -121,11 +97,11 @@ fn resolve_marked(
     requires trail { IsTrailFor clauses.now trail.now marks.old }
     requires within { place < length trail.now }
     requires reached { Reached clauses.now trail.now marks.old chain.old.items }
-    requires met { AreMet (length marks.old) met.old.items }
+    requires met { AreMet marks.old met.old.items }
     requires decided { AreDecisions trail.now marks.old (place + 1) }
     ensures reached { OnOk result (Reached clauses.now trail.now marks.new chain.new.items) }
     ensures decided { OnOk result (AreDecisions trail.now marks.new place) }
-    ensures met { OnOk result (AreMet (length marks.old) met.new.items) }
+    ensures met { OnOk result (AreMet marks.new met.new.items) }
 {
     let step = trail[place];
     if !marks[step.lit.var() as usize] {

@@ -1,7 +1,6 @@
 pub mod Places
 pub mod Marking
-pub mod States
+pub mod Negated
 pub mod Growing
 pub mod Sound
-pub mod Passing
 pub mod Bounds

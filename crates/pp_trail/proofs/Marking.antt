@@ -1,12 +1,14 @@
 -- What the marks of a trail say of its literals.
-use Rattle.std.proofs.Common.{ℕ, suc, ◌+◌, ◌≡◌, ◌≢◌, ◌<◌, ◌≤◌, Bool, true, false, cond, List, [], ◌∷◌, Option, Some, None, sym, refl, ap, ◌∙◌, subst, inl, inr, arith, eqb, not}
+use Rattle.std.proofs.Common.{ℕ, suc, ◌+◌, ◌≡◌, ◌≢◌, ◌<◌, ◌≤◌, Bool, true, false, cond, List, [], ◌∷◌, Option, Some}
+use Rattle.std.proofs.Common.{None, sym, refl, ap, ◌∙◌, subst, inl, inr, arith, eqb, not}
 use Rattle.std.specs.Bool.{beq}
 use Rattle.std.proofs.lemmas.Bool.{cond-true, cond-false, ne_eqb}
 use Rattle.std.proofs.lemmas.Bool.Decides.{eqb_tells}
 use Rattle.std.proofs.lemmas.List.Elements.{All-nil, All-cons, All-head, All-tail}
 use Rattle.pp_clause.specs.Literal.{Literal, opposite}
 use Rattle.pp_clause.specs.Clause.{has}
-use Rattle.pp_clause.proofs.Has.{has-All, beq-same, has-cases, has-there, has-at_head, same_bool, same_var_cases, false_not_true}
+use Rattle.pp_clause.proofs.Has.{has-All, beq-same, has-cases, has-there, has-at_head, same_bool, same_var_cases}
+use Rattle.pp_clause.proofs.Has.{false_not_true}
 use Rattle.pp_trail.specs.declared.step.Step.{Step}
 use Rattle.pp_trail.specs.declared.marks.Mark.{Mark}
 use Rattle.pp_trail.specs.Trail.{lits, StandsAt, IsPlaceOf, IsTrail, value_in}
@@ -16,7 +18,8 @@ use Rattle.pp_trail.proofs.Places.{AreDistinct, IsAbsent, distinct_tail, distinc
 pub mark_absent : (from : ℕ) (ss : List Step) (x : ℕ) → IsAbsent x ss → mark_from from ss x ≡ None
 mark_absent from [] x a = refl
 mark_absent from (s ∷ ss) x a =
-    cond-false (eqb s.lit.var x) _ (mark_from (suc from) ss x) (ne_eqb s.lit.var x (All-head (λ t. t.lit.var ≢ x) s ss a))
+    cond-false (eqb s.lit.var x) _ (mark_from (suc from) ss x)
+    (ne_eqb s.lit.var x (All-head (λ t. t.lit.var ≢ x) s ss a))
     ∙ mark_absent (suc from) ss x (All-tail (λ t. t.lit.var ≢ x) s ss a)
 
 pub absent_from_mark : (from : ℕ) (ss : List Step) (x : ℕ) → mark_from from ss x ≡ None → IsAbsent x ss
@@ -24,7 +27,8 @@ absent_from_mark from [] x h = All-nil (λ t. t.lit.var ≢ x)
 absent_from_mark from (s ∷ ss) x h =
     elim (eqb_tells s.lit.var x) [
       | inl p ↦ absurd (let e : Some (record { positive = s.lit.positive; place = from }) ≡ None = sym (cond-true (eqb s.lit.var x) (Some (record { positive = s.lit.positive; place = from })) (mark_from (suc from) ss x) p.0) ∙ h in cc)
-      | inr p ↦ All-cons (λ t. t.lit.var ≢ x) s ss p.1 (absent_from_mark (suc from) ss x (sym (cond-false (eqb s.lit.var x) _ (mark_from (suc from) ss x) p.0) ∙ h))
+      | inr p ↦ All-cons (λ t. t.lit.var ≢ x) s ss p.1 (absent_from_mark (suc from) ss x
+          (sym (cond-false (eqb s.lit.var x) _ (mark_from (suc from) ss x) p.0) ∙ h))
     ]
 
 -- where a mark says that the variable stands
@@ -68,18 +72,22 @@ beq_opposite false = refl
 pub value_true : (set : List Literal) (l : Literal) → has set l ≡ true → value_in set l ≡ Some true
 value_true set l h = cond-true (has set l) (Some true) _ h
 
-pub value_false : (set : List Literal) (l : Literal) → has set l ≡ false → has set (opposite l) ≡ true → value_in set l ≡ Some false
+pub value_false : (set : List Literal) (l : Literal) → has set l ≡ false → has set (opposite l) ≡ true
+    → value_in set l ≡ Some false
 value_false set l h k = cond-false (has set l) (Some true) _ h ∙ cond-true (has set (opposite l)) (Some false) None k
 
 -- values by the marks
-pub value_shown : (from : ℕ) (ss : List Step) (l : Literal) → AreDistinct ss → value_in (lits ss) l ≡ mark_value (mark_from from ss l.var) l.positive
+pub value_shown : (from : ℕ) (ss : List Step) (l : Literal) → AreDistinct ss
+    → value_in (lits ss) l ≡ mark_value (mark_from from ss l.var) l.positive
 value_shown from [] l d = refl
 value_shown from (s ∷ ss) l d =
     elim (eqb_tells s.lit.var l.var) [
       | inr p ↦ (
           let mark : mark_from from (s ∷ ss) l.var ≡ mark_from (suc from) ss l.var = cond-false (eqb s.lit.var l.var) _ (mark_from (suc from) ss l.var) p.0 in
-          ap (λ (b : Bool). cond b (Some true) (cond (has (lits (s ∷ ss)) (opposite l)) (Some false) None)) (has_skip s.lit (lits ss) l p.1)
-          ∙ ap (λ (b : Bool). cond (has (lits ss) l) (Some true) (cond b (Some false) None)) (has_skip s.lit (lits ss) (opposite l) p.1)
+          ap (λ (b : Bool). cond b (Some true) (cond (has (lits (s ∷ ss)) (opposite l)) (Some false) None))
+          (has_skip s.lit (lits ss) l p.1)
+          ∙ ap (λ (b : Bool). cond (has (lits ss) l) (Some true) (cond b (Some false) None))
+          (has_skip s.lit (lits ss) (opposite l) p.1)
           ∙ value_shown (suc from) ss l (distinct_tail s ss d)
           ∙ ap (λ (o : Option Mark). mark_value o l.positive) (sym mark))
       | inl p ↦ (
@@ -88,14 +96,17 @@ value_shown from (s ∷ ss) l d =
           elim (same_var_cases s.lit l p.1) [
             | inl e ↦ (
                 let sign : true ≡ beq s.lit.positive l.positive = sym (ap (λ (z : Literal). beq z.positive l.positive) e ∙ beq-same l.positive) in
-                value_true (lits (s ∷ ss)) l (has-at_head s.lit (lits ss) l (sym e)) ∙ ap (λ (b : Bool). Some b) sign ∙ by_mark)
+                value_true (lits (s ∷ ss)) l (has-at_head s.lit (lits ss) l (sym e)) ∙ ap (λ (b : Bool). Some b) sign
+                ∙ by_mark)
             | inr e ↦ (
                 let sign : false ≡ beq s.lit.positive l.positive = sym (ap (λ (z : Literal). beq z.positive l.positive) e ∙ beq_opposite l.positive) in
                 let free : has (lits (s ∷ ss)) l ≡ false = not_there (has (lits (s ∷ ss)) l) (λ h. elim (has-cases s.lit (lits ss) l h) [
-                  | inl f ↦ false_not_true (sign ∙ ap (λ (z : Literal). beq z.positive l.positive) (sym f) ∙ beq-same l.positive)
+                  | inl f ↦ false_not_true (sign ∙ ap (λ (z : Literal). beq z.positive l.positive) (sym f)
+                      ∙ beq-same l.positive)
                   | inr k ↦ absent_lits s.lit.var ss l (distinct_head s ss d) k (sym p.1)
                 ]) in
-                value_false (lits (s ∷ ss)) l free (has-at_head s.lit (lits ss) (opposite l) (sym e)) ∙ ap (λ (b : Bool). Some b) sign ∙ by_mark)
+                value_false (lits (s ∷ ss)) l free (has-at_head s.lit (lits ss) (opposite l) (sym e))
+                ∙ ap (λ (b : Bool). Some b) sign ∙ by_mark)
           ])
     ]
 
@@ -110,7 +121,8 @@ place_shown ss x m e =
     }
 
 -- a variable above all that a trail may have
-pub mark_past : (cs : List (List Literal)) (vars : ℕ) (ss : List Step) (x : ℕ) → IsTrail cs vars ss → vars < x → mark_from 0 ss x ≡ None
+pub mark_past : (cs : List (List Literal)) (vars : ℕ) (ss : List Step) (x : ℕ) → IsTrail cs vars ss → vars < x
+    → mark_from 0 ss x ≡ None
 mark_past cs vars ss x t lt = mark_absent 0 ss x (absent_from_lits x ss (λ m h e.
     let le : m.var ≤ vars = has-All (λ l. l.var ≤ vars) (lits ss) m t.up_to h in
     absurd (omega arith)))

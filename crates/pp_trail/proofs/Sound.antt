@@ -1,5 +1,6 @@
--- What holds of the parts of a scan goes on to hold.
-use Rattle.std.proofs.Common.{ℕ, ◌≡◌, ◌≤◌, List, [], ◌∷◌, ◌++◌, Option, Some, None, refl, ◌∙◌, subst, arith, length, take, set, length-set}
+-- What holds of the parts of a trail goes on to hold.
+use Rattle.std.proofs.Common.{ℕ, ◌≡◌, ◌≤◌, List, [], ◌∷◌, ◌++◌, Option, Some, None, refl, ◌∙◌, subst, arith, length}
+use Rattle.std.proofs.Common.{take, set, length-set}
 use Rattle.std.specs.Prelude.{IfSome}
 use Rattle.std.proofs.lemmas.List.{take_at, length_push}
 use Rattle.std.proofs.lemmas.List.Elements.{All-push, All-tail}
@@ -7,11 +8,12 @@ use Rattle.pp_clause.specs.Literal.{Literal}
 use Rattle.pp_trail.specs.declared.step.Step.{Step}
 use Rattle.pp_trail.specs.declared.marks.Mark.{Mark}
 use Rattle.pp_trail.specs.Trail.{lits, IsUpTo, IsReason, IsTrail}
-use Rattle.pp_trail.specs.Marks.{Shows, IsSound}
+use Rattle.pp_trail.specs.Marks.{ArePlaces, IsSound}
 use Rattle.pp_trail.proofs.Places.{IsAbsent}
 use Rattle.pp_trail.proofs.Growing.{trail_push, shows_push, trail_take, shows_pop, absent_in_front, trail_append}
 
-pub sound_add : (cs : List (List Literal)) (ss : List Step) (marks : List (Option Mark)) (vars cap : ℕ) (c : List Literal) → IsSound cs ss marks vars cap → IsUpTo vars c → IsSound (cs ++ c ∷ []) ss marks vars cap
+pub sound_add : (cs : List (List Literal)) (ss : List Step) (marks : List (Option Mark)) (vars cap : ℕ)
+    (c : List Literal) → IsSound cs ss marks vars cap → IsUpTo vars c → IsSound (cs ++ c ∷ []) ss marks vars cap
 sound_add cs ss marks vars cap c s u = record {
   clauses = All-push (IsUpTo vars) cs c s.clauses u;
   trail = trail_append cs (c ∷ []) vars ss s.trail;
@@ -20,13 +22,17 @@ sound_add cs ss marks vars cap c s u = record {
   room = s.room;
 }
 
-reason_at : (cs : List (List Literal)) (before : List Literal) (l : Literal) (o : Option ℕ) → IfSome o (IsReason cs before l) → (n : ℕ) → o ≡ Some n → IsReason cs before l n
+reason_at : (cs : List (List Literal)) (before : List Literal) (l : Literal) (o : Option ℕ)
+    → IfSome o (IsReason cs before l) → (n : ℕ) → o ≡ Some n → IsReason cs before l n
 reason_at cs before l None h n e = absurd (let f : None ≡ Some n = e in cc)
 reason_at cs before l (Some m) h n e = let f : Some m ≡ Some n = e in let g : m ≡ n = cc in subst (λ (k : ℕ). IsReason cs before l k) g h
 
-pub sound_push : (cs : List (List Literal)) (ss : List Step) (marks : List (Option Mark)) (vars cap new : ℕ) (s : Step) (place : ℕ) → IsSound cs ss marks vars cap → cap ≤ new →
-    1 ≤ s.lit.var → s.lit.var ≤ vars → IsAbsent s.lit.var ss → IfSome s.reason (IsReason cs (lits ss) s.lit) → place ≡ length ss →
-    IsSound cs (ss ++ s ∷ []) (set marks s.lit.var (Some (record { positive = s.lit.positive; place = place }))) vars new
+pub sound_push : (cs : List (List Literal)) (ss : List Step) (marks : List (Option Mark)) (vars cap new : ℕ) (s : Step)
+    (place : ℕ) → IsSound cs ss marks vars cap → cap ≤ new →
+    1 ≤ s.lit.var → s.lit.var ≤ vars → IsAbsent s.lit.var ss → IfSome s.reason (IsReason cs (lits ss) s.lit)
+    → place ≡ length ss →
+    IsSound cs (ss ++ s ∷ []) (set marks s.lit.var (Some (record { positive = s.lit.positive; place = place }))) vars
+    new
 sound_push cs ss marks vars cap new s place h le low high absent reason at = record {
   clauses = h.clauses;
   trail = trail_push cs vars ss s h.trail low high absent (reason_at cs (lits ss) s.lit s.reason reason);
@@ -35,11 +41,12 @@ sound_push cs ss marks vars cap new s place h le low high absent reason at = rec
   room = (let r = h.room in omega arith);
 }
 
-pub sound_pop : (cs : List (List Literal)) (ss front : List Step) (marks : List (Option Mark)) (vars cap new : ℕ) (s : Step) → IsSound cs ss marks vars cap → ss ≡ front ++ s ∷ [] → new ≡ cap → s.lit.var ≤ vars →
+pub sound_pop : (cs : List (List Literal)) (ss front : List Step) (marks : List (Option Mark)) (vars cap new : ℕ)
+    (s : Step) → IsSound cs ss marks vars cap → ss ≡ front ++ s ∷ [] → new ≡ cap → s.lit.var ≤ vars →
     IsSound cs front (set marks s.lit.var None) vars new
 sound_pop cs ss front marks vars cap new s h e same high =
     let t : IsTrail cs vars (front ++ s ∷ []) = subst (λ (z : List Step). IsTrail cs vars z) e h.trail in
-    let w : Shows marks (front ++ s ∷ []) = subst (λ (z : List Step). Shows marks z) e h.shows in
+    let w : ArePlaces marks (front ++ s ∷ []) = subst (λ (z : List Step). ArePlaces marks z) e h.shows in
     let cut : take (length front) (front ++ s ∷ []) ≡ front = take_at front (s ∷ []) (length front) refl in
     record {
       clauses = h.clauses;
@@ -54,5 +61,6 @@ last_within : (vars : ℕ) (front : List Step) (s : Step) → IsUpTo vars (lits 
 last_within vars [] s h = h 0 s.lit (omega arith)
 last_within vars (f ∷ fs) s h = last_within vars fs s (All-tail (λ l. l.var ≤ vars) f.lit (lits (fs ++ s ∷ [])) h)
 
-pub last_up_to : (cs : List (List Literal)) (vars : ℕ) (ss front : List Step) (s : Step) → IsTrail cs vars ss → ss ≡ front ++ s ∷ [] → s.lit.var ≤ vars
+pub last_up_to : (cs : List (List Literal)) (vars : ℕ) (ss front : List Step) (s : Step) → IsTrail cs vars ss
+    → ss ≡ front ++ s ∷ [] → s.lit.var ≤ vars
 last_up_to cs vars ss front s t e = last_within vars front s (subst (λ (z : List Step). IsTrail cs vars z) e t).up_to

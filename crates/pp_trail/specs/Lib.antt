@@ -1,4 +1,2 @@
 pub mod Trail
 pub mod Marks
-pub mod State
-pub mod Pass

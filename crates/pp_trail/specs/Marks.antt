@@ -1,5 +1,6 @@
 -- The trail by variable: whether and how each variable stands there. (own)
-use Rattle.std.specs.Prelude.{ℕ, suc, ◌≡◌, ◌+◌, ◌<◌, ◌≤◌, ◌==◌, Bool, List, [], ◌∷◌, Option, Some, None, All, length, slice_index_or, if◌then◌else◌}
+use Rattle.std.specs.Prelude.{ℕ, suc, ◌≡◌, ◌+◌, ◌<◌, ◌≤◌, ◌==◌, Bool, List, [], ◌∷◌, Option, Some, None, All, length}
+use Rattle.std.specs.Prelude.{slice_index_or, if◌then◌else◌}
 use Rattle.std.specs.Bool.{beq}
 use Rattle.std.specs.Option.{option_map}
 use Rattle.pp_clause.specs.Literal.{Literal}
@@ -10,21 +11,22 @@ use Rattle.pp_trail.specs.declared.marks.Mark.{Mark}
 -- the sign of the variable among these steps, and its place, where the first of them has place `from`
 abbrev pub mark_from : ℕ → List Step → ℕ → Option Mark
 mark_from from [] x = None
-mark_from from (s ∷ ss) x = if s.lit.var == x then Some (record { positive = s.lit.positive; place = from }) else mark_from (suc from) ss x
+mark_from from (s ∷ ss) x = if s.lit.var == x then Some (record { positive = s.lit.positive; place = from }) else
+    mark_from (suc from) ss x
 
 -- the marks show the steps, variable by variable
-pub record Shows (marks : List (Option Mark)) (steps : List Step) : Type 0 where
+pub record ArePlaces (marks : List (Option Mark)) (steps : List Step) : Type 0 where
   pub shown : (x : ℕ) → x < length marks → slice_index_or marks x None ≡ mark_from 0 steps x
 
 -- whether the mark makes a literal of this sign true
 abbrev pub mark_value : Option Mark → Bool → Option Bool
 mark_value o positive = option_map (λ m. beq m.positive positive) o
 
--- what holds of the parts of a scan: no variable of the clauses is above `vars`, the steps are a trail over them,
+-- what holds of the parts of a trail: no variable of the clauses is above `vars`, the steps are a trail over them,
 -- the marks show it, and there is room for a step for each variable
 pub record IsSound (cs : List (List Literal)) (steps : List Step) (marks : List (Option Mark)) (vars capacity : ℕ) : Type 0 where
   pub clauses : All (IsUpTo vars) cs
   pub trail : IsTrail cs vars steps
-  pub shows : Shows marks steps
+  pub shows : ArePlaces marks steps
   pub every : length marks ≡ vars + 1
   pub room : vars ≤ capacity

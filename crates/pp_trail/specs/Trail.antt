@@ -1,6 +1,7 @@
 -- Trails over clauses: the literals that are made true, one after another, and what stands behind each. (own; the
 -- trail of the usual solvers that learn clauses)
-use Rattle.std.specs.Prelude.{ℕ, ◌≡◌, ◌≢◌, ◌<◌, ◌≤◌, ◌++◌, true, false, List, Bool, Option, Some, None, IsSome, All, AllPairs, length, take, map, slice_index_or, if◌then◌else◌}
+use Rattle.std.specs.Prelude.{ℕ, ◌≡◌, ◌≢◌, ◌<◌, ◌≤◌, ◌++◌, true, false, List, Bool, Option, Some, None, IsSome, All}
+use Rattle.std.specs.Prelude.{AllPairs, length, take, map, slice_index_or, if◌then◌else◌}
 use Rattle.pp_clause.specs.Literal.{Literal, opposite}
 use Rattle.pp_clause.specs.Clause.{has}
 use Rattle.pp_clause.specs.Derivation.{numbered}
@@ -34,7 +35,8 @@ pub record IsTrail (cs : List (List Literal)) (vars : ℕ) (steps : List Step) :
   pub distinct : AllPairs (λ s t. s.lit.var ≢ t.lit.var) steps
   pub from_one : All (λ s. 1 ≤ s.lit.var) steps
   pub up_to : IsUpTo vars (lits steps)
-  pub reasons : (place : ℕ) (step : Step) → StandsAt steps place step → (number : ℕ) → step.reason ≡ Some number → IsReason cs (lits (take place steps)) step.lit number
+  pub reasons : (place : ℕ) (step : Step) → StandsAt steps place step → (number : ℕ) → step.reason ≡ Some number
+      → IsReason cs (lits (take place steps)) step.lit number
 
 -- the clause with this number is false under the literals: it has only negations of them
 pub record IsFalse (cs : List (List Literal)) (set : List Literal) (number : ℕ) : Type 0 where

@@ -1,3 +1,4 @@
+//! The steps of a trail.
 use pp_clause::Lit;
 
 /// A literal that is made true.

@@ -38,58 +38,58 @@ bound_guard ss c h bound n nf b lt =
     (λ k. false_not_true (sym (b.before n lt) ∙ k)) (b.differ n lt)
 
 -- both literals aren't false
-pub settle_free : (s : State) (h : Head) → IsSound s → length s.heads.items < length s.scan.clauses → IsChoice
-    (lits s.scan.steps) (clause_at s.scan.clauses (length s.heads.items)) h → IsFree s.scan.steps h → Settles s h s
+pub settle_free : (s : State) (h : Head) → IsSound s → length s.heads.items < length s.trail.clauses → IsChoice
+    (lits s.trail.steps) (clause_at s.trail.clauses (length s.heads.items)) h → IsFree s.trail.steps h → Settles s h s
 settle_free s h i few c f =
-    let own : (n : ℕ) → IsGuarded (lits (take n s.scan.steps)) (lits (take n s.scan.steps))
-    (clause_at s.scan.clauses (length s.heads.items)) h = λ n.
-    free_guard _ _ _ h (not_before s.scan.steps n (opposite h.first) c.not_false)
-    (not_before s.scan.steps n (opposite h.second) f.not_false) f.differ in
+    let own : (n : ℕ) → IsGuarded (lits (take n s.trail.steps)) (lits (take n s.trail.steps))
+    (clause_at s.trail.clauses (length s.heads.items)) h = λ n.
+    free_guard _ _ _ h (not_before s.trail.steps n (opposite h.first) c.not_false)
+    (not_before s.trail.steps n (opposite h.second) f.not_false) f.differ in
     record {
-      attaches = record { grows = grows_none s.scan; visited = refl; sound = i };
+      attaches = record { grows = grows_none s.trail; visited = refl; sound = i };
       heads = refl;
       next = record {
         few = few;
         first_held = c.first_held;
         second_held = c.second_held;
-        guarded = free_guard _ _ _ h (not_before s.scan.steps s.visited (opposite h.first) c.not_false)
-            (not_before s.scan.steps s.visited (opposite h.second) f.not_false) f.differ;
+        guarded = free_guard _ _ _ h (not_before s.trail.steps s.visited (opposite h.first) c.not_false)
+            (not_before s.trail.steps s.visited (opposite h.second) f.not_false) f.differ;
         kept = λ k d lt. own (get_or s.levels.items k d);
       };
     }
 
 -- the first literal is true
 pub settle_true : (s : State) (h : Head) (v : Vec ℕ Global) (bound : ℕ) → IsSound s →
-    length s.heads.items < length s.scan.clauses → IsChoice (lits s.scan.steps)
-    (clause_at s.scan.clauses (length s.heads.items)) h → IsBound s.scan.steps h bound →
-    IsCut s.levels.items bound v.items → has (lits s.scan.steps) h.first ≡ true → Settles s h (with_levels s v)
+    length s.heads.items < length s.trail.clauses → IsChoice (lits s.trail.steps)
+    (clause_at s.trail.clauses (length s.heads.items)) h → IsBound s.trail.steps h bound →
+    IsCut s.levels.items bound v.items → has (lits s.trail.steps) h.first ≡ true → Settles s h (with_levels s v)
 settle_true s h v bound i few c b cut t =
-    let held : HasTrue (lits s.scan.steps) (clause_at s.scan.clauses (length s.heads.items)) =
+    let held : HasTrue (lits s.trail.steps) (clause_at s.trail.clauses (length s.heads.items)) =
     record { literal = h.first; held = c.first_held; itself = t } in
     record {
-      attaches = record { grows = grows_none s.scan; visited = refl; sound = sound_levels s v bound i cut };
+      attaches = record { grows = grows_none s.trail; visited = refl; sound = sound_levels s v bound i cut };
       heads = refl;
       next = record {
         few = few;
         first_held = c.first_held;
         second_held = c.second_held;
         guarded = guarded_true _ _ _ h held;
-        kept = λ k d lt. bound_guard s.scan.steps _ h bound (get_or v.items k d) c.not_false b (cut.below k d lt);
+        kept = λ k d lt. bound_guard s.trail.steps _ h bound (get_or v.items k d) c.not_false b (cut.below k d lt);
       };
     }
 
 -- the first literal becomes true
 pub settle_step : (s : State) (h : Head) (v : Vec ℕ Global) (bound : ℕ) (step : Step) → IsSound s →
-    length s.heads.items < length s.scan.clauses → IsChoice (lits s.scan.steps)
-    (clause_at s.scan.clauses (length s.heads.items)) h →
-    IsBound s.scan.steps h bound → IsCut s.levels.items bound v.items → step.lit ≡ h.first → IsSome step.reason →
+    length s.heads.items < length s.trail.clauses → IsChoice (lits s.trail.steps)
+    (clause_at s.trail.clauses (length s.heads.items)) h →
+    IsBound s.trail.steps h bound → IsCut s.levels.items bound v.items → step.lit ≡ h.first → IsSome step.reason →
     Settles s h (with_step (with_levels s v) step)
 settle_step s h v bound step i few c b cut is r =
-    let steps : List Step = s.scan.steps in
-    let cs : List (List Literal) = s.scan.clauses in
-    let now : has (lits (s.scan.steps ++ step ∷ [])) h.first ≡ true = ap (λ (z : List Literal). has z h.first)
-    (lits_push s.scan.steps step) ∙ has-push_last (lits s.scan.steps) step.lit h.first (sym is) in
-    let held : HasTrue (lits (s.scan.steps ++ step ∷ [])) (clause_at s.scan.clauses (length s.heads.items)) =
+    let steps : List Step = s.trail.steps in
+    let cs : List (List Literal) = s.trail.clauses in
+    let now : has (lits (s.trail.steps ++ step ∷ [])) h.first ≡ true = ap (λ (z : List Literal). has z h.first)
+    (lits_push s.trail.steps step) ∙ has-push_last (lits s.trail.steps) step.lit h.first (sym is) in
+    let held : HasTrue (lits (s.trail.steps ++ step ∷ [])) (clause_at s.trail.clauses (length s.heads.items)) =
     record { literal = h.first; held = c.first_held; itself = now } in
     let sound : IsSound (with_levels s v) = sound_levels s v bound i cut in
     record {
@@ -106,30 +106,30 @@ settle_step s h v bound step i few c b cut is r =
         second_held = c.second_held;
         guarded = guarded_true _ _ _ h held;
         kept = λ k d lt.
-            (let l : IsLevel s.scan.clauses s.heads.items s.scan.steps (get_or v.items k d) =
+            (let l : IsLevel s.trail.clauses s.heads.items s.trail.steps (get_or v.items k d) =
             sound.visited.kept k d lt in
             let w = l.within in
             subst (λ (z : List Step). IsGuarded (lits z) (lits z)
-            (clause_at s.scan.clauses (length s.heads.items)) h)
-            (sym (take-append-le (get_or v.items k d) s.scan.steps (step ∷ []) w))
-            (bound_guard s.scan.steps _ h bound (get_or v.items k d) c.not_false b (cut.below k d lt)));
+            (clause_at s.trail.clauses (length s.heads.items)) h)
+            (sym (take-append-le (get_or v.items k d) s.trail.steps (step ∷ []) w))
+            (bound_guard s.trail.steps _ h bound (get_or v.items k d) c.not_false b (cut.below k d lt)));
       };
     }
 
 -- the first clause without a head gets one
 pub sound_watch : (s t : State) (h : Head) (n : ℕ) (mid : List (List Watcher)) → IsSound s → CanWatch s h → n
     ≡ length s.heads.items + 1 → code h.first < length s.lists → code h.second < length s.lists →
-    t.scan ≡ s.scan → t.levels ≡ s.levels → t.visited ≡ s.visited → t.heads.items ≡ s.heads.items ++ h ∷ [] →
+    t.trail ≡ s.trail → t.levels ≡ s.levels → t.visited ≡ s.visited → t.heads.items ≡ s.heads.items ++ h ∷ [] →
     mid ≡ with_watchers s.lists h.first
     (watchers_of s.lists h.first ++ record { number = n; blocker = h.second } ∷ []) →
     t.lists ≡ with_watchers mid h.second
     (watchers_of mid h.second ++ record { number = n; blocker = h.first } ∷ []) → IsSound t
-sound_watch s t h n mid i can is lt1 lt2 scan levels visited heads first second = record {
-  watching = rw (scan, heads, second, first)
-      (watching_attach s.scan.clauses s.scan.vars s.heads.items s.lists h n i.watching can.few is can.first_held
+sound_watch s t h n mid i can is lt1 lt2 trail levels visited heads first second = record {
+  watching = rw (trail, heads, second, first)
+      (watching_attach s.trail.clauses s.trail.vars s.heads.items s.lists h n i.watching can.few is can.first_held
       can.second_held lt1 lt2);
-  visited = rw (scan, heads, levels, visited)
-      (visited_attach s.scan.clauses s.heads.items s.scan.steps s.visited s.levels.items h i.visited can.guarded
+  visited = rw (trail, heads, levels, visited)
+      (visited_attach s.trail.clauses s.heads.items s.trail.steps s.visited s.levels.items h i.visited can.guarded
       can.kept);
 }
 
@@ -139,7 +139,7 @@ long_after lists mid l m ws e lt = let k = ap length e ∙ length-set lists (cod
 
 pub attaches_along : (r s t : State) → Attaches r s → Attaches s t → Attaches r t
 attaches_along r s t a b = record {
-  grows = grows_along r.scan s.scan t.scan a.grows b.grows;
+  grows = grows_along r.trail s.trail t.trail a.grows b.grows;
   visited = b.visited
       ∙ a.visited;
   sound = b.sound;

@@ -1,22 +1,27 @@
 -- Where all steps are visited and each clause is guarded, the trail is closed.
-use Rattle.std.proofs.Common.{ℕ, ◌≡◌, ◌≢◌, ◌<◌, true, List, [], sym, ap, ◌∙◌, subst, inl, inr, ◌⊎◌}
+use Rattle.std.proofs.Common.{ℕ, ◌≡◌, ◌≢◌, ◌<◌, true, false, List, [], sym, ap, ◌∙◌, subst, inl, inr, ◌⊎◌}
 use Rattle.std.proofs.Common.{arith, length, get_or, take}
 use Rattle.std.proofs.lemmas.Bool.{cases_Bool, false_from_ne_true}
 use Rattle.std.proofs.lemmas.List.{take_all, get_or_default}
 use Rattle.pp_clause.specs.Literal.{Literal, opposite}
 use Rattle.pp_clause.specs.Clause.{has, HasBoth, literal_eq}
 use Rattle.pp_clause.specs.Log.{all_negated}
-use Rattle.pp_clause.specs.New.{IsClosed}
+use Rattle.pp_clause.specs.New.{IsClosed, IsOpen, OthersNegated}
 use Rattle.pp_clause.proofs.Has.{false_not_true, literal_eq-true, literal_eq-same}
 use Rattle.pp_trail.specs.declared.step.Step.{Step}
 use Rattle.pp_trail.specs.Trail.{lits, IsTrail}
 use Rattle.pp_trail.proofs.Places.{distinct_apart}
-use Rattle.pp_trail.proofs.States.{negated_at, IsSettled}
+use Rattle.pp_trail.proofs.Negated.{negated_at}
 use Rattle.pp_watch.specs.Lists.{code}
 use Rattle.pp_watch.specs.Watching.{clause_at, head_at, HasTrue, IsGuarded, IsWatching, IsVisited}
 use Rattle.pp_watch.specs.declared.head.Head.{Head}
 use Rattle.pp_watch.specs.declared.watcher.Watcher.{Watcher}
 use Rattle.pp_watch.proofs.Watched.{same_or_not}
+
+-- what a clause without need of a look says for closed sets
+pub record IsSettled (set c : List Literal) : Type 0 where
+  pub not_false : all_negated set c ≡ false
+  pub not_unit : (l : Literal) → has c l ≡ true → OthersNegated set c l → IsOpen set l → ⊥
 
 pub same_literal : (l m : Literal) → (l ≡ m) ⊎ (l ≢ m)
 same_literal l m =

@@ -98,7 +98,8 @@ among_more_cases n ws i w lt is h =
     among_push_cases n (take i ws) w (ap (is_among n) (sym e) ∙ h)
 
 -- one watcher for another of the same clause
-pub among_set : (n : ℕ) (ws : List Watcher) (i : ℕ) (w : Watcher) → ((d : Watcher) → (get_or ws i d).number ≡ w.number) →
+pub among_set : (n : ℕ) (ws : List Watcher) (i : ℕ) (w : Watcher)
+    → ((d : Watcher) → (get_or ws i d).number ≡ w.number) →
     is_among n (set ws i w) ≡ is_among n ws
 among_set n [] i w e = refl
 among_set n (x ∷ xs) zero w e = ap (λ (k : ℕ). eqb k n || is_among n xs) (sym (e w))

@@ -12,7 +12,7 @@ use Rattle.pp_clause.proofs.Has.{has-nil, has-push_cases, literal_eq-same}
 use Rattle.pp_trail.specs.declared.step.Step.{Step}
 use Rattle.pp_trail.specs.Trail.{lits, IsTrail, IsPlaceOf}
 use Rattle.pp_trail.proofs.Places.{AreDistinct, literal_at}
-use Rattle.pp_trail.proofs.States.{all_negated_from, negated_at}
+use Rattle.pp_trail.proofs.Negated.{all_negated_from, negated_at}
 use Rattle.pp_watch.specs.declared.head.Head.{Head}
 use Rattle.pp_watch.specs.Lists.{code}
 use Rattle.pp_watch.specs.Looking.{IsBound}

@@ -13,8 +13,8 @@ use Rattle.pp_clause.proofs.Has.{has-All, same_var_cases, opposite_twice}
 use Rattle.pp_trail.specs.declared.step.Step.{Step}
 use Rattle.pp_trail.specs.Trail.{Trail, Extends, IsFalse, IsReason, lits}
 use Rattle.pp_trail.proofs.Places.{IsAbsent, absent_from_lits}
-use Rattle.pp_trail.proofs.States.{all_negated_from}
-use Rattle.pp_trail.proofs.Passing.{extends_push}
+use Rattle.pp_trail.proofs.Negated.{all_negated_from}
+use Rattle.pp_trail.proofs.Growing.{extends_push}
 use Rattle.pp_watch.specs.Lists.{code}
 use Rattle.pp_watch.specs.Watching.{clause_at, IsWatching}
 use Rattle.pp_watch.specs.Watching.{IsSound, Grows}
@@ -29,7 +29,7 @@ use Rattle.pp_watch.proofs.Closed.{same_literal}
 -- the state with one step more
 abbrev pub with_step : State → Step → State
 with_step s step = record {
-  scan = record { clauses = s.scan.clauses; steps = s.scan.steps ++ step ∷ []; vars = s.scan.vars };
+  trail = record { clauses = s.trail.clauses; steps = s.trail.steps ++ step ∷ []; vars = s.trail.vars };
   heads = s.heads;
   lists = s.lists;
   levels = s.levels;
@@ -38,19 +38,19 @@ with_step s step = record {
 
 -- the state with these levels
 abbrev pub with_levels : State → Vec ℕ Global → State
-with_levels s v = record { scan = s.scan; heads = s.heads; lists = s.lists; levels = v; visited = s.visited }
+with_levels s v = record { trail = s.trail; heads = s.heads; lists = s.lists; levels = v; visited = s.visited }
 
 pub sound_step : (s : State) (step : Step) → IsSound s → IsSound (with_step s step)
 sound_step s step h = record {
   watching = h.watching;
-  visited = visited_push s.scan.clauses s.heads.items s.scan.steps s.visited s.levels.items step h.visited;
+  visited = visited_push s.trail.clauses s.heads.items s.trail.steps s.visited s.levels.items step h.visited;
 }
 
 pub sound_levels : (s : State) (v : Vec ℕ Global) (bound : ℕ) → IsSound s → IsCut s.levels.items bound v.items →
     IsSound (with_levels s v)
 sound_levels s v bound h c = record {
   watching = h.watching;
-  visited = visited_cut s.scan.clauses s.heads.items s.scan.steps s.visited s.levels.items bound v.items h.visited c;
+  visited = visited_cut s.trail.clauses s.heads.items s.trail.steps s.visited s.levels.items bound v.items h.visited c;
 }
 
 -- trails grow
@@ -75,12 +75,12 @@ grows_along r s t g h = record {
       extends_along r.steps s.steps t.steps g.steps h.steps;
 }
 
-pub grows_step : (s : State) (step : Step) → IsSome step.reason → Grows s.scan (with_step s step).scan
+pub grows_step : (s : State) (step : Step) → IsSome step.reason → Grows s.trail (with_step s step).trail
 grows_step s step r = record {
   clauses = refl;
   vars = refl;
-  steps = extends_push s.scan.steps s.scan.steps step
-      (extends_none s.scan.steps) r;
+  steps = extends_push s.trail.steps s.trail.steps step
+      (extends_none s.trail.steps) r;
 }
 
 pub has_grown : (s t : Trail) (m : Literal) → Grows s t → has (lits s.steps) m ≡ true → has (lits t.steps) m ≡ true

@@ -55,12 +55,12 @@ Watches h l = (code h.first ≡ code l) ⊎ (code h.second ≡ code l)
 -- each clause that watches the literal has a true one, or is among the first `count` watchers of it
 pub record AreLookedAt (s : State) (l : Literal) (count : ℕ) : Type 0 where
   pub each : (k : ℕ) → k < length s.heads.items → Watches (head_at s.heads.items k) l →
-      HasTrue (lits s.scan.steps) (clause_at s.scan.clauses k) ⊎
+      HasTrue (lits s.trail.steps) (clause_at s.trail.clauses k) ⊎
       (is_among (k + 1) (take count (watchers_of s.lists l)) ≡ true)
 
 -- the trail grows, and nothing is forgotten
 pub record Advances (old new : State) : Type 0 where
-  pub grows : Grows old.scan new.scan
+  pub grows : Grows old.trail new.trail
   pub heads : length new.heads.items ≡ length old.heads.items
   pub visited : new.visited ≡ old.visited
   pub sound : IsSound new
@@ -87,4 +87,4 @@ pub record IsBeside (s : State) (l : Literal) (place number : ℕ) (other : Lite
 -- all literals of the clause with this number are false but this one
 abbrev pub AreOthersFalse : State → ℕ → Literal → Type 0
 AreOthersFalse s number other =
-    OthersNegated (lits s.scan.steps) (clause_at s.scan.clauses (number - 1)) other
+    OthersNegated (lits s.trail.steps) (clause_at s.trail.clauses (number - 1)) other

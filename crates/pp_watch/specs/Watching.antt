@@ -76,8 +76,12 @@ pub record IsVisited (cs : List (List Literal)) (heads : List Head) (steps : Lis
 
 -- what holds of a state all the time
 pub record IsSound (s : State) : Type 0 where
-  pub watching : IsWatching s.scan.clauses s.scan.vars s.heads.items s.lists
-  pub visited : IsVisited s.scan.clauses s.heads.items s.scan.steps s.visited s.levels.items
+  pub watching : IsWatching s.trail.clauses s.trail.vars s.heads.items s.lists
+  pub visited : IsVisited s.trail.clauses s.heads.items s.trail.steps s.visited s.levels.items
+
+-- there is a list for each literal
+abbrev pub IsSized : State → Type 0
+IsSized s = length s.lists ≡ 2 * s.trail.vars + 2
 
 -- the clauses and the greatest variable stay, and the trail gets steps with reasons
 pub record Grows (old new : Trail) : Type 0 where

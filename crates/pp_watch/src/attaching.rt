@@ -1,7 +1,7 @@
 //! Lets clauses that wait watch two of their literals.
-ghost use Rattle.std.specs.Prelude.{◌≡◌, ◌+◌, ◌<◌, ◌^◌, length, IfSome, IfNone, IfOk};
+ghost use Rattle.std.specs.Prelude.{◌≡◌, ◌+◌, ◌<◌, ◌^◌, length, IfSome, IfNone, IfOk, OnErr};
 ghost use Rattle.pp_trail.specs.Trail.{lits, IsFalse};
-ghost use Rattle.pp_watch.specs.Watching.{IsSound};
+ghost use Rattle.pp_watch.specs.Watching.{IsSound, IsSized};
 ghost use Rattle.pp_watch.specs.Looking.{IsChoice};
 ghost use Rattle.pp_watch.specs.Attaching.{Attaches, CanWatch, Settles, waiting};
 
@@ -19,10 +19,11 @@ impl State {
     pub fn attach_all(&mut self) -> Result<Option<u32>, NoMemory>
         requires { IsSound self.old }
         ensures attaches { IfOk result (λ _. Attaches self.old self.new) }
-        ensures all { IfOk result (λ o. IfNone o (length self.new.heads.items ≡ length self.new.scan.clauses)) }
-        ensures conflict { IfOk result (λ o. IfSome o (IsFalse self.new.scan.clauses (lits self.new.scan.steps))) }
+        ensures all { IfOk result (λ o. IfNone o (length self.new.heads.items ≡ length self.new.trail.clauses)) }
+        ensures sized { OnErr result (IsSized self.new) }
+        ensures conflict { IfOk result (λ o. IfSome o (IsFalse self.new.trail.clauses (lits self.new.trail.steps))) }
     {
-        while self.heads.len() < self.scan.clauses().len() {
+        while self.heads.len() < self.trail.clauses().len() {
             if let Some(number) = self.attach()? {
                 return Ok(Some(number));
             }
@@ -33,14 +34,15 @@ impl State {
     /// Lets the first clause that waits watch two of its literals.
     fn attach(&mut self) -> Result<Option<u32>, NoMemory>
         requires sound { IsSound self.old }
-        requires some { length self.old.heads.items < length self.old.scan.clauses }
+        requires some { length self.old.heads.items < length self.old.trail.clauses }
         ensures attaches { IfOk result (λ _. Attaches self.old self.new) }
         ensures more { IfOk result (λ o. IfNone o (length self.new.heads.items ≡ length self.old.heads.items + 1)) }
-        ensures conflict { IfOk result (λ o. IfSome o (IsFalse self.new.scan.clauses (lits self.new.scan.steps))) }
+        ensures sized { OnErr result (IsSized self.new) }
+        ensures conflict { IfOk result (λ o. IfSome o (IsFalse self.new.trail.clauses (lits self.new.trail.steps))) }
     {
-        let _few = self.scan.clauses().len();
+        let _few = self.trail.clauses().len();
         let number = self.heads.len() as u32 + 1;
-        let head = choose(&self.scan, lits_of(&self.scan, number));
+        let head = choose(&self.trail, lits_of(&self.trail, number));
         match head {
             Some(head) => {
                 self.settle(&head, number);
@@ -55,15 +57,15 @@ impl State {
     fn settle(&mut self, head: &Head, number: u32)
         requires sound { IsSound self.old }
         requires next { number ≡ length self.old.heads.items + 1 }
-        requires some { length self.old.heads.items < length self.old.scan.clauses }
-        requires choice { IsChoice (lits self.old.scan.steps) (waiting self.old) head.now }
+        requires some { length self.old.heads.items < length self.old.trail.clauses }
+        requires choice { IsChoice (lits self.old.trail.steps) (waiting self.old) head.now }
         ensures { Settles self.old head.now self.new }
     {
-        if let Some(bound) = bound(&self.scan, head) {
+        if let Some(bound) = bound(&self.trail, head) {
             cut(&mut self.levels, bound);
-            if !is_true(&self.scan, head.first) {
-                let _lits = lits_of(&self.scan, number);
-                self.scan.push(Step {
+            if !is_true(&self.trail, head.first) {
+                let _lits = lits_of(&self.trail, number);
+                self.trail.push(Step {
                     lit: head.first,
                     reason: Some(number),
                 });
@@ -76,12 +78,13 @@ impl State {
         requires sound { IsSound self.old }
         requires next { number ≡ length self.old.heads.items + 1 }
         requires can { CanWatch self.old head.now }
-        ensures scan { self.new.scan ≡ self.old.scan }
+        ensures trail { self.new.trail ≡ self.old.trail }
         ensures visited { self.new.visited ≡ self.old.visited }
         ensures sound { IfOk result (λ _. IsSound self.new) }
         ensures more { IfOk result (λ _. length self.new.heads.items ≡ length self.old.heads.items + 1) }
+        ensures sized { OnErr result (IsSized self.new) }
     {
-        let _lits = lits_of(&self.scan, number);
+        let _lits = lits_of(&self.trail, number);
         self.lists.push(
             head.first,
             Watcher {

@@ -1,8 +1,8 @@
 //! Propagation from end to end, and the way back.
-ghost use Rattle.std.specs.Prelude.{◌≡◌, ◌≤◌, [], length, take, IfSome, IfNone, IfOk};
+ghost use Rattle.std.specs.Prelude.{◌≡◌, ◌≤◌, length, take, IfSome, IfNone, IfOk, OnErr};
 ghost use Rattle.pp_clause.specs.New.{IsClosed};
 ghost use Rattle.pp_trail.specs.Trail.{lits, IsFalse};
-ghost use Rattle.pp_watch.specs.Watching.{IsSound, IsWatching, Grows};
+ghost use Rattle.pp_watch.specs.Watching.{IsSound, IsSized, Grows};
 
 use crate::NoMemory;
 use crate::levels::cut;
@@ -13,10 +13,11 @@ impl State {
     /// of a false clause, if there is one.
     pub fn close(&mut self) -> Result<Option<u32>, NoMemory>
         requires { IsSound self.old }
-        ensures grows { IfOk result (λ _. Grows self.old.scan self.new.scan) }
+        ensures grows { IfOk result (λ _. Grows self.old.trail self.new.trail) }
         ensures sound { IfOk result (λ _. IsSound self.new) }
-        ensures closed { IfOk result (λ o. IfNone o (IsClosed self.new.scan.clauses (lits self.new.scan.steps))) }
-        ensures conflict { IfOk result (λ o. IfSome o (IsFalse self.new.scan.clauses (lits self.new.scan.steps))) }
+        ensures closed { IfOk result (λ o. IfNone o (IsClosed self.new.trail.clauses (lits self.new.trail.steps))) }
+        ensures conflict { IfOk result (λ o. IfSome o (IsFalse self.new.trail.clauses (lits self.new.trail.steps))) }
+        ensures sized { OnErr result (IsSized self.new) }
     {
         if let Some(number) = self.attach_all()? {
             return Ok(Some(number));
@@ -31,13 +32,14 @@ impl State {
     /// Notes that nothing more is to do at this length of the trail.
     fn note_level(&mut self) -> Result<(), NoMemory>
         requires sound { IsSound self.old }
-        requires heads { length self.old.heads.items ≡ length self.old.scan.clauses }
-        requires visited { self.old.visited ≡ length self.old.scan.steps }
-        ensures scan { self.new.scan ≡ self.old.scan }
+        requires heads { length self.old.heads.items ≡ length self.old.trail.clauses }
+        requires visited { self.old.visited ≡ length self.old.trail.steps }
+        ensures trail { self.new.trail ≡ self.old.trail }
         ensures sound { IfOk result (λ _. IsSound self.new) }
-        ensures closed { IfOk result (λ _. IsClosed self.new.scan.clauses (lits self.new.scan.steps)) }
+        ensures closed { IfOk result (λ _. IsClosed self.new.trail.clauses (lits self.new.trail.steps)) }
+        ensures sized { OnErr result (IsSized self.new) }
     {
-        let len = self.scan.trail().len();
+        let len = self.trail.steps().len();
         cut(&mut self.levels, len);
         self.levels.push(len)?;
         Ok(())
@@ -46,12 +48,12 @@ impl State {
     /// Keeps the first `len` steps of the trail.
     pub fn undo(&mut self, len: usize)
         requires sound { IsSound self.old }
-        requires within { len ≤ length self.old.scan.steps }
-        ensures scan { self.new.scan ≡ record self.old.scan { steps = take len self.old.scan.steps } }
+        requires within { len ≤ length self.old.trail.steps }
+        ensures trail { self.new.trail ≡ record self.old.trail { steps = take len self.old.trail.steps } }
         ensures sound { IsSound self.new }
     {
-        let _few = self.scan.trail();
-        self.scan.undo(len);
+        let _few = self.trail.steps();
+        self.trail.undo(len);
         cut(&mut self.levels, len + 1);
         match self.levels.last() {
             Some(level) => self.visited = *level,
@@ -60,12 +62,13 @@ impl State {
     }
 
     /// Lets all clauses wait again.
-    fn forget(&mut self)
-        requires { IsWatching self.old.scan.clauses self.old.scan.vars self.old.heads.items self.old.lists }
-        ensures scan { self.new.scan ≡ self.old.scan }
-        ensures sound { self.old.levels.items ≡ [] → IsSound self.new }
+    pub fn forget(&mut self)
+        requires { IsSized self.old }
+        ensures trail { self.new.trail ≡ self.old.trail }
+        ensures sound { IsSound self.new }
     {
         self.visited = 0;
+        self.levels.clear();
         self.heads.clear();
         self.lists.clear();
     }

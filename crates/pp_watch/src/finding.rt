@@ -10,41 +10,41 @@ ghost use Rattle.pp_watch.specs.Looking.{IsClauseOf, IsNotFalse, IsOther, IsChoi
 
 use crate::head::Head;
 use pp_clause::Lit;
-use pp_trail::Scan;
+use pp_trail::Trail;
 
 /// Whether the literal is true.
-pub fn is_true(scan: &Scan, lit: Lit) -> bool
-    ensures { result ≡ has (lits scan.now.steps) lit }
+pub fn is_true(trail: &Trail, lit: Lit) -> bool
+    ensures { result ≡ has (lits trail.now.steps) lit }
 {
-    match scan.value(lit) {
+    match trail.value(lit) {
         Some(value) => value,
         None => false,
     }
 }
 
 /// Whether the literal is false.
-pub fn is_false(scan: &Scan, lit: Lit) -> bool
-    ensures { result ≡ has (lits scan.now.steps) (opposite lit) }
+pub fn is_false(trail: &Trail, lit: Lit) -> bool
+    ensures { result ≡ has (lits trail.now.steps) (opposite lit) }
 {
-    is_true(scan, lit.negated())
+    is_true(trail, lit.negated())
 }
 
 /// The literals of the clause with this number.
-pub fn lits_of(scan: &Scan, number: u32) -> &[Lit]
+pub fn lits_of(trail: &Trail, number: u32) -> &[Lit]
     requires low { 1 ≤ number }
-    requires high { number ≤ length scan.now.clauses }
-    ensures { IsClauseOf scan.now.clauses scan.now.vars number result.now }
+    requires high { number ≤ length trail.now.clauses }
+    ensures { IsClauseOf trail.now.clauses trail.now.vars number result.now }
 {
-    scan.clauses().get(number).lits()
+    trail.clauses().get(number).lits()
 }
 
 /// A literal that isn't false.
-pub fn not_false(scan: &Scan, clause: &[Lit]) -> Option<Lit>
-    ensures some { IfSome result (IsNotFalse (lits scan.now.steps) clause.now) }
-    ensures none { IfNone result (all_negated (lits scan.now.steps) clause.now ≡ true) }
+pub fn not_false(trail: &Trail, clause: &[Lit]) -> Option<Lit>
+    ensures some { IfSome result (IsNotFalse (lits trail.now.steps) clause.now) }
+    ensures none { IfNone result (all_negated (lits trail.now.steps) clause.now ≡ true) }
 {
     for lit in clause {
-        if !is_false(scan, *lit) {
+        if !is_false(trail, *lit) {
             return Some(*lit);
         }
     }
@@ -52,13 +52,13 @@ pub fn not_false(scan: &Scan, clause: &[Lit]) -> Option<Lit>
 }
 
 /// A literal besides this one that isn't false.
-pub fn other_not_false(scan: &Scan, clause: &[Lit], lit: Lit) -> Option<Lit>
-    ensures some { IfSome result (IsOther (lits scan.now.steps) clause.now lit) }
-    ensures none { IfNone result (OthersNegated (lits scan.now.steps) clause.now lit) }
+pub fn other_not_false(trail: &Trail, clause: &[Lit], lit: Lit) -> Option<Lit>
+    ensures some { IfSome result (IsOther (lits trail.now.steps) clause.now lit) }
+    ensures none { IfNone result (OthersNegated (lits trail.now.steps) clause.now lit) }
 {
     let index = lit.index();
     for other in clause {
-        if other.index() != index && !is_false(scan, *other) {
+        if other.index() != index && !is_false(trail, *other) {
             return Some(*other);
         }
     }
@@ -66,7 +66,7 @@ pub fn other_not_false(scan: &Scan, clause: &[Lit], lit: Lit) -> Option<Lit>
 }
 
 /// The literal besides this one that became false last, or this one where there is no other.
-pub fn latest_other(scan: &Scan, clause: &[Lit], lit: Lit) -> Lit
+pub fn latest_other(trail: &Trail, clause: &[Lit], lit: Lit) -> Lit
     requires { has clause.now lit ≡ true }
     ensures { has clause.now result ≡ true }
 {
@@ -74,7 +74,7 @@ pub fn latest_other(scan: &Scan, clause: &[Lit], lit: Lit) -> Lit
     let mut greatest = 0;
     for other in clause {
         if other.index() != lit.index() {
-            if let Some(place) = scan.place(other.var()) {
+            if let Some(place) = trail.place(other.var()) {
                 if greatest <= place {
                     latest = *other;
                     greatest = place;
@@ -86,32 +86,32 @@ pub fn latest_other(scan: &Scan, clause: &[Lit], lit: Lit) -> Lit
 }
 
 /// The two literals that a clause is to watch. `None` where all its literals are false.
-pub fn choose(scan: &Scan, clause: &[Lit]) -> Option<Head>
-    ensures some { IfSome result (IsChoice (lits scan.now.steps) clause.now) }
-    ensures none { IfNone result (all_negated (lits scan.now.steps) clause.now ≡ true) }
+pub fn choose(trail: &Trail, clause: &[Lit]) -> Option<Head>
+    ensures some { IfSome result (IsChoice (lits trail.now.steps) clause.now) }
+    ensures none { IfNone result (all_negated (lits trail.now.steps) clause.now ≡ true) }
 {
-    let first = not_false(scan, clause)?;
-    let second = match other_not_false(scan, clause, first) {
+    let first = not_false(trail, clause)?;
+    let second = match other_not_false(trail, clause, first) {
         Some(other) => other,
-        None => latest_other(scan, clause, first),
+        None => latest_other(trail, clause, first),
     };
     Some(Head { first, second })
 }
 
 /// The length before which levels stay, where a clause watches these literals from now on. `None` where they are two
 /// that aren't false: then all levels stay.
-pub fn bound(scan: &Scan, head: &Head) -> Option<usize>
-    ensures some { IfSome result (IsBound scan.now.steps head.now) }
-    ensures none { IfNone result (IsFree scan.now.steps head.now) }
+pub fn bound(trail: &Trail, head: &Head) -> Option<usize>
+    ensures some { IfSome result (IsBound trail.now.steps head.now) }
+    ensures none { IfNone result (IsFree trail.now.steps head.now) }
 {
-    let _trail = scan.trail();
+    let _trail = trail.steps();
     if head.first.index() == head.second.index() {
         return Some(0);
     }
-    if !is_false(scan, head.second) {
+    if !is_false(trail, head.second) {
         return None;
     }
-    match scan.place(head.second.var()) {
+    match trail.place(head.second.var()) {
         Some(place) => Some(place as usize + 1),
         None => Some(0),
     }

@@ -60,7 +60,8 @@ impl Lists {
     /// Adds a watcher of the literal, at the end.
     pub fn push(&mut self, lit: Lit, watcher: Watcher) -> Result<(), NoMemory>
         requires { code lit < length self.old }
-        ensures { OnOk result (self.new ≡ with_watchers self.old lit (watchers_of self.old lit ++ watcher ∷ [])) }
+        ensures ok { OnOk result (self.new ≡ with_watchers self.old lit (watchers_of self.old lit ++ watcher ∷ [])) }
+        ensures len { length self.new ≡ length self.old }
     {
         self.items[lit.index()].push(watcher)?;
         Ok(())

@@ -1,13 +1,13 @@
 //! The parts of a watch.
 use crate::head::Head;
 use crate::lists::Lists;
-use pp_trail::Scan;
+use pp_trail::Trail;
 
 /// A trail over clauses, and what is known of the clauses' watched literals.
 #[derive(Drop)]
 pub struct State {
     /// The clauses and the trail.
-    pub scan: Scan,
+    pub trail: Trail,
     /// What the clauses watch, by number less one. The clauses past these wait to be read.
     pub heads: Vec<Head>,
     /// For each literal the clauses that watch it.

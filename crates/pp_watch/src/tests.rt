@@ -57,7 +57,7 @@ fn steps(alloc: Global, wanted: &[(i32, Option<u32>)]) -> Result<Vec<Step>, Allo
 fn units_follow_a_decision(rt: HostRuntime) -> Result<(), AllocError> {
     let mut watch = watch(rt.alloc(), &[&[1, 2], &[-2, 3]])?;
     decide(&mut watch, -1);
-    let (mut watch, conflict) = watch.propagate()?;
+    let conflict = watch.propagate()?;
     assert_eq!(rt; conflict, None);
     let want = steps(rt.alloc(), &[(-1, None), (2, Some(1)), (3, Some(2))])?;
     assert_eq!(rt; watch.trail(), want.as_slice());
@@ -77,9 +77,9 @@ fn units_follow_a_decision(rt: HostRuntime) -> Result<(), AllocError> {
 
 #[test]
 fn a_false_clause_is_named(rt: HostRuntime) -> Result<(), AllocError> {
-    let (_, conflict) = watch(rt.alloc(), &[&[1], &[-1]])?.propagate()?;
+    let conflict = watch(rt.alloc(), &[&[1], &[-1]])?.propagate()?;
     assert!(rt; conflict == Some(1) || conflict == Some(2));
-    let (_, conflict) = watch(rt.alloc(), &[&[5], &[]])?.propagate()?;
+    let conflict = watch(rt.alloc(), &[&[5], &[]])?.propagate()?;
     assert_eq!(rt; conflict, Some(2));
     Ok(())
 }
@@ -88,13 +88,13 @@ fn a_false_clause_is_named(rt: HostRuntime) -> Result<(), AllocError> {
 fn an_added_clause_is_read(rt: HostRuntime) -> Result<(), AllocError> {
     let mut watch = watch(rt.alloc(), &[&[1, 2, 3]])?;
     decide(&mut watch, -3);
-    let (watch, _) = watch.propagate()?;
+    watch.propagate()?;
     assert_eq!(rt; watch.trail().len(), 1);
     if let Some(clause) = clause(rt.alloc(), &[-2, 3])? {
         if raised(0, clause.lits()) <= watch.vars() && watch.clauses().len() < 100 {
-            let (watch, number) = watch.add(clause)?;
+            let number = watch.add(clause)?;
             assert_eq!(rt; number, 2);
-            let (watch, conflict) = watch.propagate()?;
+            let conflict = watch.propagate()?;
             assert_eq!(rt; conflict, None);
             let want = steps(rt.alloc(), &[(-3, None), (-2, Some(2)), (1, Some(1))])?;
             assert_eq!(rt; watch.trail(), want.as_slice());

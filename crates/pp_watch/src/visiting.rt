@@ -1,9 +1,9 @@
 //! Visits what watches false literals.
-ghost use Rattle.std.specs.Prelude.{◌≡◌, ◌≢◌, ◌+◌, ◌-◌, ◌<◌, ◌≤◌, true, false, length, IfSome, IfNone, IfOk};
+ghost use Rattle.std.specs.Prelude.{◌≡◌, ◌≢◌, ◌+◌, ◌-◌, ◌<◌, ◌≤◌, true, false, length, IfSome, IfNone, IfOk, OnErr};
 ghost use Rattle.pp_clause.specs.Literal.{opposite};
 ghost use Rattle.pp_clause.specs.Clause.{has};
 ghost use Rattle.pp_trail.specs.Trail.{lits, IsFalse};
-ghost use Rattle.pp_watch.specs.Watching.{IsSound, Grows, clause_at};
+ghost use Rattle.pp_watch.specs.Watching.{IsSound, IsSized, Grows, clause_at};
 ghost use Rattle.pp_watch.specs.Lists.{code, watchers_of};
 ghost use Rattle.pp_watch.specs.Looking.{AreLookedAt, AreOthersFalse, Advances, IsBeside, IsOther};
 
@@ -20,14 +20,15 @@ impl State {
     /// false clause, if there is one.
     pub fn visit_all(&mut self) -> Result<Option<u32>, NoMemory>
         requires { IsSound self.old }
-        ensures grows { IfOk result (λ _. Grows self.old.scan self.new.scan) }
+        ensures grows { IfOk result (λ _. Grows self.old.trail self.new.trail) }
         ensures sound { IfOk result (λ _. IsSound self.new) }
         ensures heads { IfOk result (λ _. length self.new.heads.items ≡ length self.old.heads.items) }
-        ensures all { IfOk result (λ o. IfNone o (self.new.visited ≡ length self.new.scan.steps)) }
-        ensures conflict { IfOk result (λ o. IfSome o (IsFalse self.new.scan.clauses (lits self.new.scan.steps))) }
+        ensures all { IfOk result (λ o. IfNone o (self.new.visited ≡ length self.new.trail.steps)) }
+        ensures conflict { IfOk result (λ o. IfSome o (IsFalse self.new.trail.clauses (lits self.new.trail.steps))) }
+        ensures sized { OnErr result (IsSized self.new) }
     {
-        while self.visited < self.scan.trail().len() {
-            let lit = self.scan.trail()[self.visited].lit.negated();
+        while self.visited < self.trail.steps().len() {
+            let lit = self.trail.steps()[self.visited].lit.negated();
             if let Some(number) = self.visit(lit)? {
                 return Ok(Some(number));
             }
@@ -39,12 +40,13 @@ impl State {
     /// Looks at the clauses that watch a false literal.
     fn visit(&mut self, lit: Lit) -> Result<Option<u32>, NoMemory>
         requires sound { IsSound self.old }
-        requires negated { has (lits self.old.scan.steps) (opposite lit) ≡ true }
+        requires negated { has (lits self.old.trail.steps) (opposite lit) ≡ true }
         ensures advances { IfOk result (λ _. Advances self.old self.new) }
         ensures looked { IfOk result (λ o. IfNone o (AreLookedAt self.new lit 0)) }
-        ensures conflict { IfOk result (λ o. IfSome o (IsFalse self.new.scan.clauses (lits self.new.scan.steps))) }
+        ensures conflict { IfOk result (λ o. IfSome o (IsFalse self.new.trail.clauses (lits self.new.trail.steps))) }
+        ensures sized { OnErr result (IsSized self.new) }
     {
-        let _trail = self.scan.trail();
+        let _trail = self.trail.steps();
         let mut place = self.lists.count(lit);
         while place > 0 {
             place -= 1;
@@ -58,16 +60,17 @@ impl State {
     /// Looks at the clause that watches a false literal at this place of the literal's list.
     fn look(&mut self, lit: Lit, place: usize) -> Result<Option<u32>, NoMemory>
         requires sound { IsSound self.old }
-        requires negated { has (lits self.old.scan.steps) (opposite lit) ≡ true }
+        requires negated { has (lits self.old.trail.steps) (opposite lit) ≡ true }
         requires place { place < length (watchers_of self.old.lists lit) }
         requires looked { AreLookedAt self.old lit (place + 1) }
         ensures advances { IfOk result (λ _. Advances self.old self.new) }
         ensures looked { IfOk result (λ o. IfNone o (AreLookedAt self.new lit place)) }
         ensures within { IfOk result (λ o. IfNone o (place ≤ length (watchers_of self.new.lists lit))) }
-        ensures conflict { IfOk result (λ o. IfSome o (IsFalse self.new.scan.clauses (lits self.new.scan.steps))) }
+        ensures conflict { IfOk result (λ o. IfSome o (IsFalse self.new.trail.clauses (lits self.new.trail.steps))) }
+        ensures sized { OnErr result (IsSized self.new) }
     {
         let watcher = self.lists.get(lit, place);
-        if is_true(&self.scan, watcher.blocker) {
+        if is_true(&self.trail, watcher.blocker) {
             return Ok(None);
         }
         let head = self.heads[watcher.number as usize - 1];
@@ -90,35 +93,47 @@ impl State {
         other: Lit,
     ) -> Result<Option<u32>, NoMemory>
         requires sound { IsSound self.old }
-        requires negated { has (lits self.old.scan.steps) (opposite lit) ≡ true }
+        requires negated { has (lits self.old.trail.steps) (opposite lit) ≡ true }
         requires looked { AreLookedAt self.old lit (place + 1) }
         requires beside { IsBeside self.old lit place number other }
         ensures advances { IfOk result (λ _. Advances self.old self.new) }
         ensures looked { IfOk result (λ o. IfNone o (AreLookedAt self.new lit place)) }
         ensures within { IfOk result (λ o. IfNone o (place ≤ length (watchers_of self.new.lists lit))) }
-        ensures conflict { IfOk result (λ o. IfSome o (IsFalse self.new.scan.clauses (lits self.new.scan.steps))) }
+        ensures conflict { IfOk result (λ o. IfSome o (IsFalse self.new.trail.clauses (lits self.new.trail.steps))) }
+        ensures sized { OnErr result (IsSized self.new) }
     {
         if other.index() == lit.index() {
             return Ok(None);
         }
-        if is_true(&self.scan, other) {
-            self.lists.set(
-                lit,
-                place,
-                Watcher {
-                    number,
-                    blocker: other,
-                },
-            );
+        if is_true(&self.trail, other) {
+            self.block(lit, place, number, other, other);
             return Ok(None);
         }
-        match other_not_false(&self.scan, lits_of(&self.scan, number), other) {
+        match other_not_false(&self.trail, lits_of(&self.trail, number), other) {
             Some(new) => {
+                if is_true(&self.trail, new) {
+                    self.block(lit, place, number, other, new);
+                    return Ok(None);
+                }
                 self.rewatch(lit, place, number, other, new)?;
                 Ok(None)
             }
             None => Ok(self.force(lit, place, number, other)),
         }
+    }
+
+    /// Notes a true literal of a clause that watches a false one, so that the next look at it can be short.
+    fn block(&mut self, lit: Lit, place: usize, number: u32, other: Lit, blocker: Lit)
+        requires sound { IsSound self.old }
+        requires looked { AreLookedAt self.old lit (place + 1) }
+        requires beside { IsBeside self.old lit place number other }
+        requires held { has (clause_at self.old.trail.clauses (number - 1)) blocker ≡ true }
+        requires itself { has (lits self.old.trail.steps) blocker ≡ true }
+        ensures advances { Advances self.old self.new }
+        ensures looked { AreLookedAt self.new lit place }
+        ensures within { place ≤ length (watchers_of self.new.lists lit) }
+    {
+        self.lists.set(lit, place, Watcher { number, blocker });
     }
 
     /// Lets a clause watch a literal in place of a false one.
@@ -131,16 +146,17 @@ impl State {
         new: Lit,
     ) -> Result<(), NoMemory>
         requires sound { IsSound self.old }
-        requires negated { has (lits self.old.scan.steps) (opposite lit) ≡ true }
+        requires negated { has (lits self.old.trail.steps) (opposite lit) ≡ true }
         requires looked { AreLookedAt self.old lit (place + 1) }
         requires beside { IsBeside self.old lit place number other }
         requires apart { code other ≢ code lit }
-        requires new { IsOther (lits self.old.scan.steps) (clause_at self.old.scan.clauses (number - 1)) other new }
+        requires new { IsOther (lits self.old.trail.steps) (clause_at self.old.trail.clauses (number - 1)) other new }
         ensures advances { IfOk result (λ _. Advances self.old self.new) }
         ensures looked { IfOk result (λ _. AreLookedAt self.new lit place) }
         ensures within { IfOk result (λ _. place ≤ length (watchers_of self.new.lists lit)) }
+        ensures sized { OnErr result (IsSized self.new) }
     {
-        let _lits = lits_of(&self.scan, number);
+        let _lits = lits_of(&self.trail, number);
         self.lists.push(
             new,
             Watcher {
@@ -162,18 +178,18 @@ impl State {
         requires sound { IsSound self.old }
         requires looked { AreLookedAt self.old lit (place + 1) }
         requires beside { IsBeside self.old lit place number other }
-        requires not_true { has (lits self.old.scan.steps) other ≡ false }
+        requires not_true { has (lits self.old.trail.steps) other ≡ false }
         requires others { AreOthersFalse self.old number other }
         ensures advances { Advances self.old self.new }
         ensures looked { IfNone result (AreLookedAt self.new lit place) }
         ensures within { IfNone result (place ≤ length (watchers_of self.new.lists lit)) }
-        ensures conflict { IfSome result (IsFalse self.new.scan.clauses (lits self.new.scan.steps)) }
+        ensures conflict { IfSome result (IsFalse self.new.trail.clauses (lits self.new.trail.steps)) }
     {
-        let _lits = lits_of(&self.scan, number);
-        if is_false(&self.scan, other) {
+        let _lits = lits_of(&self.trail, number);
+        if is_false(&self.trail, other) {
             return Some(number);
         }
-        self.scan.push(Step {
+        self.trail.push(Step {
             lit: other,
             reason: Some(number),
         });

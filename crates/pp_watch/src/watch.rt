@@ -1,14 +1,16 @@
 //! A trail over clauses, which propagates units.
 ghost use Rattle.std.specs.Prelude.{ℕ, ◌≡◌, ◌≢◌, ◌+◌, ◌-◌, ◌^◌, ◌<◌, ◌≤◌, [], ◌∷◌, ◌++◌, None};
-ghost use Rattle.std.specs.Prelude.{length, take, All, IfSome, IfNone, IfOk};
+ghost use Rattle.std.specs.Prelude.{length, take, All, IfSome, IfNone, IfOk, OnOk, OnErr};
 ghost use Rattle.pp_clause.specs.New.{IsClosed};
-ghost use Rattle.pp_trail.specs.Trail.{lits, IsUpTo, IsTrail, IsFalse, Extends, value_in, IsPlaceOf};
+ghost use Rattle.pp_trail.specs.Marks.{ArePlaces};
+ghost use Rattle.pp_trail.specs.Trail.{lits, IsUpTo, IsTrail, IsFalse, value_in, IsPlaceOf};
+ghost use Rattle.pp_watch.specs.Watching.{Grows};
 
 use crate::NoMemory;
 use crate::lists::Lists;
 use crate::state::State;
 use pp_clause::{Clause, Clauses, Lit};
-use pp_trail::{Scan, Step};
+use pp_trail::{Mark, Step, Trail};
 use std::alloc::Global;
 use std::marker::Model;
 
@@ -25,7 +27,7 @@ impl Model for Watch {
 
     ghost Value = { Trail };
 
-    ghost view = { λ w. w.state.scan };
+    ghost view = { λ w. w.state.trail };
 
     ghost invariant = { λ w. IsSound w.state };
 }
@@ -36,11 +38,11 @@ impl Watch {
         requires { All (IsUpTo vars) clauses.now }
         ensures { IfOk result (λ s. s ≡ record { clauses = clauses.now; steps = []; vars = vars }) }
     {
-        let scan = Scan::over(alloc, clauses, vars)?;
+        let trail = Trail::over(alloc, clauses, vars)?;
         let lists = Lists::new(alloc, vars)?;
         Ok(Watch {
             state: State {
-                scan,
+                trail,
                 heads: Vec::new(alloc),
                 lists,
                 levels: Vec::new(alloc),
@@ -55,7 +57,7 @@ impl Watch {
         requires absent { All (λ s. s.lit.var ≢ lit.var) self.old.steps }
         ensures { self.new ≡ record self.old { steps = self.old.steps ++ record { lit = lit; reason = None } ∷ [] } }
     {
-        self.state.scan.decide(lit);
+        self.state.trail.decide(lit);
     }
 
     /// Keeps the first `len` steps of the trail.
@@ -66,53 +68,34 @@ impl Watch {
         self.state.undo(len);
     }
 
-    /// Adds a clause, and answers its number. The trail stays. On `NoMemory` the watch is given up.
-    pub fn add(self, clause: Clause) -> Result<(Watch, u32), NoMemory>
-        requires up_to { IsUpTo self.vars clause }
-        requires few { length self.clauses < 2 ^ 32 - 1 }
-        ensures watch { IfOk result (λ r. r.0 ≡ record self { clauses = self.clauses ++ clause ∷ [] }) }
-        ensures number { IfOk result (λ r. r.1 ≡ length self.clauses + 1) }
+    /// Adds a clause, and answers its number. The trail stays. On `NoMemory` nothing has changed.
+    pub fn add(&mut self, clause: Clause) -> Result<u32, NoMemory>
+        requires up_to { IsUpTo self.old.vars clause }
+        requires few { length self.old.clauses < 2 ^ 32 - 1 }
+        ensures ok { OnOk result (self.new ≡ record self.old { clauses = self.old.clauses ++ clause ∷ [] }) }
+        ensures err { OnErr result (self.new ≡ self.old) }
+        ensures number { IfOk result (λ n. n ≡ length self.old.clauses + 1) }
     {
-        let State {
-            scan,
-            heads,
-            lists,
-            levels,
-            visited,
-        } = self.state;
-        let (scan, number) = scan.add(clause)?;
-        let watch = Watch {
-            state: State {
-                scan,
-                heads,
-                lists,
-                levels,
-                visited,
-            },
-        };
-        Ok((watch, number))
+        let number = self.state.trail.add(clause)?;
+        Ok(number)
     }
 
     /// Makes literals true that clauses leave no other choice for, as long as there are such. The clauses and the steps
     /// stay, and each new step has a reason. `None` says that then no clause is false, and none has only false literals
-    /// but for an open one; otherwise the answer is the number of a false clause. On `NoMemory` the watch is given up.
-    pub fn propagate(self) -> Result<(Watch, Option<u32>), NoMemory>
-        ensures clauses { IfOk result (λ r. r.0.clauses ≡ self.clauses) }
-        ensures vars { IfOk result (λ r. r.0.vars ≡ self.vars) }
-        ensures steps { IfOk result (λ r. Extends self.steps r.0.steps) }
-        ensures closed { IfOk result (λ r. IfNone r.1 (IsClosed r.0.clauses (lits r.0.steps))) }
-        ensures conflict { IfOk result (λ r. IfSome r.1 (IsFalse r.0.clauses (lits r.0.steps))) }
+    /// but for an open one; otherwise the answer is the number of a false clause. On `NoMemory` steps may have been made,
+    /// but nothing is said of them.
+    pub fn propagate(&mut self) -> Result<Option<u32>, NoMemory>
+        ensures grows { OnOk result (Grows self.old self.new) }
+        ensures closed { IfOk result (λ o. IfNone o (IsClosed self.new.clauses (lits self.new.steps))) }
+        ensures conflict { IfOk result (λ o. IfSome o (IsFalse self.new.clauses (lits self.new.steps))) }
     {
-        let mut state = self.state;
-        let conflict = state.close()?;
-        Ok((Watch { state }, conflict))
-    }
-
-    /// The clauses and the trail.
-    pub fn scan(&self) -> &Scan
-        ensures { result.now ≡ self.now }
-    {
-        &self.state.scan
+        match self.state.close() {
+            Ok(conflict) => Ok(conflict),
+            Err(error) => {
+                self.state.forget();
+                Err(error)
+            }
+        }
     }
 
     /// The clauses of `over`, and then those of `add`, in order. No variable is above `vars`.
@@ -120,7 +103,7 @@ impl Watch {
         ensures value { result.now ≡ self.now.clauses }
         ensures up_to { All (IsUpTo self.now.vars) self.now.clauses }
     {
-        self.state.scan.clauses()
+        self.state.trail.clauses()
     }
 
     /// The steps, in the order in which they were made. No variable stands there twice.
@@ -128,21 +111,29 @@ impl Watch {
         ensures value { result.now ≡ self.now.steps }
         ensures trail { IsTrail self.now.clauses self.now.vars self.now.steps }
     {
-        self.state.scan.trail()
+        self.state.trail.steps()
+    }
+
+    /// How each variable stands in the trail.
+    pub fn places(&self) -> &[Option<Mark>]
+        ensures places { ArePlaces result.now self.now.steps }
+        ensures every { length result.now ≡ self.now.vars + 1 }
+    {
+        self.state.trail.places()
     }
 
     /// The greatest variable that may stand in the clauses and the trail.
     pub fn vars(&self) -> u32
         ensures { result ≡ self.now.vars }
     {
-        self.state.scan.vars()
+        self.state.trail.vars()
     }
 
     /// Whether the trail makes the literal true, or false. `None` where its variable isn't in the trail.
     pub fn value(&self, lit: Lit) -> Option<bool>
         ensures { result ≡ value_in (lits self.now.steps) lit }
     {
-        self.state.scan.value(lit)
+        self.state.trail.value(lit)
     }
 
     /// The place of the variable's step in the trail, from 0. `None` where the variable isn't in the trail.
@@ -150,6 +141,6 @@ impl Watch {
         ensures some { IfSome result (IsPlaceOf self.now.steps var) }
         ensures none { IfNone result (All (λ s. s.lit.var ≢ var) self.now.steps) }
     {
-        self.state.scan.place(var)
+        self.state.trail.place(var)
     }
 }

@@ -1,5 +1,5 @@
 use Rattle.std.proofs.Common.{◌≡◌, length}
-use Rattle.pp_cdcl.specs.Standing.{NoDecision}
+use Rattle.pp_cdcl.specs.Invariant.{NoDecision}
 use Rattle.pp_cdcl.proofs.decisions.next_decision.Given as goal
 
 abbrev pub invariant-loop-place : goal.invariant-loop-place

@@ -9,7 +9,8 @@ loop-place-preserved c =
     record {
       end = end;
       greatest = greatest_more _ _ _ _ c.get.result.now c.loop-place.invariant.greatest (omega arith) c.get.ensures c.raised-greatest.ensures.kept
-          (rw c.lits.ensures.value at c.raised-greatest.ensures.up_to) (rw c.lits.ensures.value at c.raised-greatest.ensures.least) c.raised-greatest.ensures.small;
+          (rw c.lits.ensures.value at c.raised-greatest.ensures.up_to)
+          (rw c.lits.ensures.value at c.raised-greatest.ensures.least) c.raised-greatest.ensures.small;
     }
 
 pub returns-clause-up_to : goal.returns-clause-up_to

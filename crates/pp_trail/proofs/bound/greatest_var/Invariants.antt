@@ -3,4 +3,8 @@ use Rattle.pp_trail.proofs.Bounds.{IsGreatest}
 use Rattle.pp_trail.proofs.bound.greatest_var.Given as goal
 
 abbrev pub invariant-loop-place : goal.invariant-loop-place
-invariant-loop-place l = record { end : l.place-end ≡ length l.clauses; greatest : IsGreatest l.clauses l.place l.greatest }
+invariant-loop-place l = record {
+  end : l.place-end ≡ length l.clauses;
+  greatest : IsGreatest l.clauses l.place
+      l.greatest;
+}

@@ -6,4 +6,4 @@ abbrev pub invariant-loop-self : goal.invariant-loop-self
 invariant-loop-self l = Attaches l.initial.self l.self
 
 abbrev pub decreases-loop-self : goal.decreases-loop-self
-decreases-loop-self l = length l.self.scan.clauses - length l.self.heads.items
+decreases-loop-self l = length l.self.trail.clauses - length l.self.heads.items

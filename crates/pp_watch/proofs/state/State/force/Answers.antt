@@ -8,13 +8,13 @@ use Rattle.pp_watch.proofs.state.State.force.Goals as goal
 
 pub returns-then-is_false-clause-conflict : goal.returns-then-is_false-clause-conflict
 returns-then-is_false-clause-conflict c = false_clause _ _ _ _
-    (lits c.args.self.now.scan.steps) c.lits_of-lits.ensures
-    (others_false (lits c.args.self.now.scan.steps) _ c.args.other
-    (subst (λ (z : List Literal). OthersNegated (lits c.args.self.now.scan.steps) z c.args.other)
+    (lits c.args.self.now.trail.steps) c.lits_of-lits.ensures
+    (others_false (lits c.args.self.now.trail.steps) _ c.args.other
+    (subst (λ (z : List Literal). OthersNegated (lits c.args.self.now.trail.steps) z c.args.other)
     c.lits_of-lits.ensures.at c.requires.others) (sym c.is_false.ensures ∙ c.if-is_false.true))
 
 pub push-requires-clause-absent : goal.push-requires-clause-absent
-push-requires-clause-absent c = open_absent c.args.self.now.scan.steps c.args.other c.requires.not_true
+push-requires-clause-absent c = open_absent c.args.self.now.trail.steps c.args.other c.requires.not_true
     (sym c.is_false.ensures ∙ c.if-is_false.false)
 
 pub returns-clause-advances : goal.returns-clause-advances

@@ -11,7 +11,7 @@ use Rattle.pp_watch.proofs.state.State.look.Goals as goal
 -- the state without the watcher, whose clause watches other literals
 dropped : (c : goal.After-remove) → IsDropped c.args.self.now c.args.lit c.args.place
     (record {
-      scan = c.args.self.now.scan;
+      trail = c.args.self.now.trail;
       heads = c.args.self.now.heads;
       lists = c.remove.new.self;
       levels =

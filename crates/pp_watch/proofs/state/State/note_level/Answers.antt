@@ -5,19 +5,19 @@ use Rattle.pp_watch.proofs.state.State.note_level.Goals as goal
 
 pub returns-clause-sound : goal.returns-clause-sound
 returns-clause-sound c =
-    let len : c.args.self.now.visited ≡ length c.trail-len.result.now = c.requires.visited ∙ sym
-    (ap length c.trail-len.ensures.value) in
+    let len : c.args.self.now.visited ≡ length c.steps-len.result.now = c.requires.visited ∙ sym
+    (ap length c.steps-len.ensures.value) in
     record {
       watching = c.requires.sound.watching;
       visited = rw (c.in_ok-push.ensures.items, ← len)
-          (level_more c.args.self.now.scan.clauses c.args.self.now.heads.items c.args.self.now.scan.steps
+          (level_more c.args.self.now.trail.clauses c.args.self.now.heads.items c.args.self.now.trail.steps
           c.args.self.now.visited c.cut.new.levels.items
-          (visited_cut c.args.self.now.scan.clauses c.args.self.now.heads.items c.args.self.now.scan.steps
+          (visited_cut c.args.self.now.trail.clauses c.args.self.now.heads.items c.args.self.now.trail.steps
           c.args.self.now.visited c.args.self.now.levels.items
-          (length c.trail-len.result.now) c.cut.new.levels.items c.requires.sound.visited c.cut.ensures)
+          (length c.steps-len.result.now) c.cut.new.levels.items c.requires.sound.visited c.cut.ensures)
           c.requires.visited);
     }
 
 pub returns-clause-closed : goal.returns-clause-closed
-returns-clause-closed c = closed_from_visited _ _ _ _ c.args.self.now.scan.steps c.args.self.now.visited _
-    c.trail-len.ensures.trail c.requires.sound.watching c.requires.sound.visited c.requires.heads c.requires.visited
+returns-clause-closed c = closed_from_visited _ _ _ _ c.args.self.now.trail.steps c.args.self.now.visited _
+    c.steps-len.ensures.trail c.requires.sound.watching c.requires.sound.visited c.requires.heads c.requires.visited

@@ -12,7 +12,7 @@ push-requires c =
 
 -- the state after the watcher has moved
 moved : (c : goal.After-remove) → IsDropped c.args.self.now c.args.lit c.args.place (record {
-  scan = c.args.self.now.scan;
+  trail = c.args.self.now.trail;
   heads = with_item c.args.self.now.heads (c.args.number - 1) (record { first = c.args.new; second = c.args.other });
   lists = c.remove.new.self;
   levels = c.args.self.now.levels;
@@ -26,7 +26,7 @@ moved c =
     (code_from_watcher c.args.self.now.lists c.args.lit c.args.place c.requires.beside.within)
     (code_of_clause _ _ c.args.number (c.args.number - 1) _ c.args.new _ _ c.lits_of-lits.ensures
     (omega arith) c.requires.new.held c.requires.sound.watching)
-    refl refl refl refl c.in_ok-push.ensures c.remove.ensures.value c.remove.ensures.lists
+    refl refl refl refl c.in_ok-push.ensures.ok c.remove.ensures.value c.remove.ensures.lists
 
 pub returns-clause-advances : goal.returns-clause-advances
 returns-clause-advances c = (moved c).advances

@@ -8,7 +8,7 @@ push-requires-clause-up_to c = var_within _ _ _ _ _ c.args.head.now.first c.lits
     c.requires.choice.first_held
 
 pub push-requires-clause-absent : goal.push-requires-clause-absent
-push-requires-clause-absent c = open_absent c.args.self.now.scan.steps c.args.head.now.first
+push-requires-clause-absent c = open_absent c.args.self.now.trail.steps c.args.head.now.first
     (sym c.is_true.ensures ∙ c.if-not-is_true.true) c.requires.choice.not_false
 
 pub returns-then-not-is_true : goal.returns-then-not-is_true

@@ -9,7 +9,7 @@ returns-in-Some-clause-sound c =
     (c.in-Some.ensures.value ∙ ap (λ (xs : List ℕ). slice_get xs (length xs - 1)) c.deref.ensures.value) in
     rw c.undo.ensures (record {
       watching = c.requires.sound.watching;
-      visited = visited_undo c.args.self.now.scan.clauses c.args.self.now.heads.items c.args.self.now.scan.steps
+      visited = visited_undo c.args.self.now.trail.clauses c.args.self.now.heads.items c.args.self.now.trail.steps
           c.args.self.now.visited c.args.self.now.levels.items c.args.len c.cut.new.levels.items c.in-Some.level.now
           c.requires.sound.visited c.requires.within c.cut.ensures at.0 at.1;
     })

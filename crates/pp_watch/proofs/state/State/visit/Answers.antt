@@ -6,7 +6,7 @@ use Rattle.pp_watch.proofs.Looked.{advances_none, advances_along, looked_all, tr
 use Rattle.pp_watch.proofs.state.State.visit.Goals as goal
 
 pub count-place-requires : goal.count-place-requires
-count-place-requires c = trail_code c.args.self.now c.args.lit c.trail-trail.ensures.trail c.requires.sound
+count-place-requires c = trail_code c.args.self.now c.args.lit c.steps-trail.ensures.trail c.requires.sound
     c.requires.negated
 
 pub loop-place-init : goal.loop-place-init
@@ -25,7 +25,7 @@ loop-place-preserved c =
           next;
       looked = rw c.in_default.is at c.in_ok-number.ensures.looked;
       within = rw c.in_default.is at c.in_ok-number.ensures.within;
-      negated = has_grown c.loop-place.self.scan c.look.new.self.scan
+      negated = has_grown c.loop-place.self.trail c.look.new.self.trail
           (opposite c.args.lit) next.grows c.loop-place.invariant.negated;
     }
 

@@ -11,7 +11,7 @@ invariant-loop-place l = record {
   advances : Advances l.initial.self l.self;
   looked : AreLookedAt l.self l.lit l.place;
   within : l.place ≤ length (watchers_of l.self.lists l.lit);
-  negated : has (lits l.self.scan.steps) (opposite l.lit) ≡ true;
+  negated : has (lits l.self.trail.steps) (opposite l.lit) ≡ true;
 }
 
 abbrev pub decreases-loop-place : goal.decreases-loop-place

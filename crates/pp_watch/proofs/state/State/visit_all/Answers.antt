@@ -7,40 +7,40 @@ use Rattle.pp_watch.proofs.state.State.visit_all.Goals as goal
 
 pub visit-requires-clause-negated : goal.visit-requires-clause-negated
 visit-requires-clause-negated c =
-    let lt : c.loop-self.self.visited < length c.loop-self.self.scan.steps =
-    (let l = ap length c.trail.ensures.value in omega (arith, c.loop-self-test.true)) in
-    let is : c.index-trail-self.result ≡ get_or c.loop-self.self.scan.steps c.loop-self.self.visited
-    c.index-trail-self.result = c.index-trail-self.is ∙ ap
-    (λ (z : List Step). get_or z c.loop-self.self.visited c.index-trail-self.result)
-    c.trail-in-loop-self.ensures.value in
-    negated_step c.loop-self.self.scan.steps c.loop-self.self.visited c.index-trail-self.result
+    let lt : c.loop-self.self.visited < length c.loop-self.self.trail.steps =
+    (let l = ap length c.steps.ensures.value in omega (arith, c.loop-self-test.true)) in
+    let is : c.index-steps-self.result ≡ get_or c.loop-self.self.trail.steps c.loop-self.self.visited
+    c.index-steps-self.result = c.index-steps-self.is ∙ ap
+    (λ (z : List Step). get_or z c.loop-self.self.visited c.index-steps-self.result)
+    c.steps-in-loop-self.ensures.value in
+    negated_step c.loop-self.self.trail.steps c.loop-self.self.visited c.index-steps-self.result
     c.negated-lit.result lt is (c.negated-lit.ensures ∙ ap (λ (z : Step). opposite z.lit)
-    (sym c.index-trail-self.is))
+    (sym c.index-steps-self.is))
 
 pub returns-in-Some-clause-grows : goal.returns-in-Some-clause-grows
-returns-in-Some-clause-grows c = grows_along c.args.self.now.scan c.loop-self.self.scan c.visit.new.self.scan
+returns-in-Some-clause-grows c = grows_along c.args.self.now.trail c.loop-self.self.trail c.visit.new.self.trail
     c.loop-self.invariant.grows c.in_ok-number.ensures.advances.grows
 
 pub loop-self-preserved : goal.loop-self-preserved
 loop-self-preserved c =
-    let lt : c.loop-self.self.visited < length c.loop-self.self.scan.steps =
-    (let l = ap length c.trail.ensures.value in omega (arith, c.loop-self-test.true)) in
-    let is : c.index-trail-self.result ≡ get_or c.loop-self.self.scan.steps c.loop-self.self.visited
-    c.index-trail-self.result = c.index-trail-self.is ∙ ap
-    (λ (z : List Step). get_or z c.loop-self.self.visited c.index-trail-self.result)
-    c.trail-in-loop-self.ensures.value in
+    let lt : c.loop-self.self.visited < length c.loop-self.self.trail.steps =
+    (let l = ap length c.steps.ensures.value in omega (arith, c.loop-self-test.true)) in
+    let is : c.index-steps-self.result ≡ get_or c.loop-self.self.trail.steps c.loop-self.self.visited
+    c.index-steps-self.result = c.index-steps-self.is ∙ ap
+    (λ (z : List Step). get_or z c.loop-self.self.visited c.index-steps-self.result)
+    c.steps-in-loop-self.ensures.value in
     let next = c.in_ok-number.ensures.advances in
     record {
-      grows = grows_along c.args.self.now.scan c.loop-self.self.scan c.visit.new.self.scan
+      grows = grows_along c.args.self.now.trail c.loop-self.self.trail c.visit.new.self.trail
           c.loop-self.invariant.grows next.grows;
-      sound = visit_done c.loop-self.self c.visit.new.self c.index-trail-self.result c.negated-lit.result next lt
-          is (c.negated-lit.ensures ∙ ap (λ (z : Step). opposite z.lit) (sym c.index-trail-self.is))
+      sound = visit_done c.loop-self.self c.visit.new.self c.index-steps-self.result c.negated-lit.result next lt
+          is (c.negated-lit.ensures ∙ ap (λ (z : Step). opposite z.lit) (sym c.index-steps-self.is))
           (rw c.in_default.is at c.in_ok-number.ensures.looked);
       heads = next.heads ∙ c.loop-self.invariant.heads;
     }
 
 pub loop-self-smaller : goal.loop-self-smaller
 loop-self-smaller c =
-    let lt : c.loop-self.self.visited < length c.loop-self.self.scan.steps =
-    (let l = ap length c.trail.ensures.value in omega (arith, c.loop-self-test.true)) in
-    visits_fewer c.loop-self.self c.visit.new.self c.in_ok-number.ensures.advances c.trail.ensures.trail lt
+    let lt : c.loop-self.self.visited < length c.loop-self.self.trail.steps =
+    (let l = ap length c.steps.ensures.value in omega (arith, c.loop-self-test.true)) in
+    visits_fewer c.loop-self.self c.visit.new.self c.in_ok-number.ensures.advances c.steps.ensures.trail lt

@@ -1,0 +1,15 @@
+use Rattle.std.proofs.Common.{arith}
+use Rattle.pp_learn.proofs.MetMarks.{gone_none, gone_more, gone_all}
+use Rattle.pp_learn.proofs.marks.blank_all.Goals as goal
+
+pub loop-var-init : goal.loop-var-init
+loop-var-init c = record { end = omega arith; gone = gone_none c.args.marks.now }
+
+pub loop-var-preserved : goal.loop-var-preserved
+loop-var-preserved c = record {
+  end = c.loop-var.invariant.end;
+  gone = gone_more c.loop-var.marks c.loop-var.var (omega (arith, c.loop-var.invariant.end, c.loop-var.auto.marks)) c.loop-var.invariant.gone;
+}
+
+pub returns : goal.returns
+returns c = gone_all c.loop-var.marks c.loop-var.var (omega (arith, c.loop-var.invariant.end, c.loop-var.auto.marks)) c.loop-var.invariant.gone
