@@ -5,14 +5,17 @@ use Rattle.pp_prog.specs.declared.expr.Case.{Case}
 use Rattle.pp_prog.specs.declared.expr.Expr.{Expr}
 use Rattle.pp_prog.specs.declared.expr.Expr.TheFolds.{fold-roll-Expr, map-Expr}
 use Rattle.pp_prog.specs.declared.expr.Expr.TheOpen as layer
-use Rattle.pp_prog.specs.declared.expr.Expr.TheVariants.{Assert, Binary, Call, Construct, Field, If, Match, Unary, Val, rolls-Assert, rolls-Binary, rolls-Call, rolls-Construct, rolls-Field, rolls-If, rolls-Match, rolls-Unary, rolls-Val}
+use Rattle.pp_prog.specs.declared.expr.Expr.TheVariants.{Assert, Binary, Call, Construct, Field, If, Match, Unary, Val}
+use Rattle.pp_prog.specs.declared.expr.Expr.TheVariants.{rolls-Assert, rolls-Binary, rolls-Call, rolls-Construct}
+use Rattle.pp_prog.specs.declared.expr.Expr.TheVariants.{rolls-Field, rolls-If, rolls-Match, rolls-Unary, rolls-Val}
 use Rattle.pp_prog.specs.declared.expr.Expr.TheViews.{roll-Expr}
 use Rattle.pp_prog.specs.declared.id.CheckId.{CheckId}
 use Rattle.pp_prog.specs.declared.expr.UnaryOp.{UnaryOp}
 use Rattle.pp_prog.specs.declared.id.CtorId.{CtorId}
 use Rattle.pp_prog.specs.declared.id.FunctionId.{FunctionId}
 use Rattle.pp_steps.specs.declared.step.Step.TheVariants as steps
-use Rattle.pp_steps.specs.Compile.{Arm, Compiling, Site, all, arm, arm_step, binary, branches, cases, compile, compile_step, matched, number_or, one, unless, when}
+use Rattle.pp_steps.specs.Compile.{Arm, Compiling, Site, all, arm, arm_step, binary, branches, cases, compile}
+use Rattle.pp_steps.specs.Compile.{compile_step, matched, number_or, one, unless, when}
 use Rattle.pp_steps.specs.Piece.{asks, bind, demand}
 use Rattle.pp_compile.specs.declared.work.Branch.{Branch}
 use Rattle.pp_compile.specs.declared.work.Ends.{Ends}
@@ -148,13 +151,15 @@ module _ (asked : Option CheckId) (site : Site) (o : Work) (env : List ℕ) (rea
       (λ k xs alive. site k alive g pre down xs) x r
       (subst (λ (z : List Expr). AreMade o m (all (map (compile asked site) z) (length o.steps) env reach) x) f h) q)
 
-  pub match_arm : {m n : Work} {e a b : Expr} {check : Option CheckId} {ks js : List Case} {inner : List ℕ} {x r : Ends} {y : Branch}
+  pub match_arm : {m n : Work} {e a b : Expr} {check : Option CheckId} {ks js : List Case} {inner : List ℕ} {x r : Ends}
+      {y : Branch}
       → e ≡ Match a ks check → b ≡ a → js ≡ ks
       → IsMade o m (compile asked site b (length o.steps) env reach) x → inner ≡ env
       → IsCased m n (cases asked (map (arm asked site) js) check x.out (length m.steps) inner x.alive) y
       → r.out ≡ number_or x.out y.out → r.alive ≡ y.alive
       → IsMade o n (compile asked site e (length o.steps) env reach) r
-  match_arm {m = m} {n = n} {e = e} {a = a} {b = b} {check = check} {ks = ks} {js = js} {inner = inner} {x = x} {r = r} {y = y} is f g h i q j j2 =
+  match_arm {m = m} {n = n} {e = e} {a = a} {b = b} {check = check} {ks = ks} {js = js} {inner = inner} {x = x} {r = r}
+      {y = y} is f g h i q j j2 =
       let C = λ (z : List ℕ) (l : List Case). cases asked (map (arm asked site) l) check x.out (length m.steps) z x.alive in
       let q1 = subst (λ (l : List Case). IsCased m n (C env l) y) g (subst (λ (z : List ℕ). IsCased m n (C z js) y) i q) in
       let made : IsMade m n (matched x.out (C env ks)) r = record {
@@ -163,5 +168,6 @@ module _ (asked : Option CheckId) (site : Site) (o : Work) (env : List ℕ) (rea
         alive = j2 ∙ q1.alive;
       } in
       at_form asked site o n e (layer.Match a ks check) (length o.steps) env reach r (is ∙ sym (rolls-Match a ks check))
-      (bind_made o m n (compile asked site a (length o.steps) env reach) (λ k t alive. matched t (cases asked (map (arm asked site) ks) check t k env alive)) x r
+      (bind_made o m n (compile asked site a (length o.steps) env reach)
+      (λ k t alive. matched t (cases asked (map (arm asked site) ks) check t k env alive)) x r
       (subst (λ (z : Expr). IsMade o m (compile asked site z (length o.steps) env reach) x) f h) made)

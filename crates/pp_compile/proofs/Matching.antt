@@ -1,5 +1,6 @@
 -- The cases of a match, as they are written.
-use Rattle.std.proofs.Common.{◌≡◌, ℕ, suc, ◌+◌, List, [], ◌∷◌, ◌++◌, length, map, Option, Some, None, sym, ap, ◌∙◌, subst, arith, append_assoc, append-nil, length-append}
+use Rattle.std.proofs.Common.{◌≡◌, ℕ, suc, ◌+◌, List, [], ◌∷◌, ◌++◌, length, map, Option, Some, None, sym, ap, ◌∙◌}
+use Rattle.std.proofs.Common.{subst, arith, append_assoc, append-nil, length-append}
 use Rattle.std.specs.Option.{option_map}
 use Rattle.pp_prog.specs.declared.expr.Case.{Case}
 use Rattle.pp_prog.specs.declared.expr.Expr.{Expr}
@@ -18,18 +19,29 @@ use Rattle.pp_compile.specs.declared.work.Goes.{Goes}
 use Rattle.pp_compile.specs.declared.work.Tests.{Tests}
 use Rattle.pp_compile.specs.declared.work.Tried.{Tried}
 use Rattle.pp_compile.specs.declared.work.Work.{Work}
-use Rattle.pp_compile.specs.Written.{Attempt, IsCased, IsDecided, IsFitted, IsMade, IsTried, IsWritten, attempting, chosen}
+use Rattle.pp_compile.specs.Written.{Attempt, IsCased, IsDecided, IsFitted, IsMade, IsTried, IsWritten, attempting}
+use Rattle.pp_compile.specs.Written.{chosen}
 use Rattle.pp_compile.proofs.Joining.{end_is, written_join}
 
 arm_parts : (asked : Option CheckId) (site : Site) (p : Pattern) (g : Option Expr) (b : Expr)
     → arm asked site (record { pattern = p; guard = g; body = b })
     ≡ record { pattern = p; guard = option_map (compile asked site) g; body = compile asked site b }
 arm_parts asked site p None b =
-    ap (arm asked site) (sym (rolls-struct-Case (record { pattern = p; guard = None; body = b }))) ∙ fold-roll-Case Compiling Arm (compile_step asked site) arm_step (record { pattern = p; guard = None; body = b })
+    ap (arm asked site) (sym (rolls-struct-Case (record { pattern = p; guard = None; body = b })))
+    ∙ fold-roll-Case Compiling Arm (compile_step asked site) arm_step
+    (record { pattern = p; guard = None; body = b })
 arm_parts asked site p (Some e) b =
-    ap (arm asked site) (sym (rolls-struct-Case (record { pattern = p; guard = Some e; body = b }))) ∙ fold-roll-Case Compiling Arm (compile_step asked site) arm_step (record { pattern = p; guard = Some e; body = b })
+    ap (arm asked site) (sym (rolls-struct-Case (record { pattern = p; guard = Some e; body = b })))
+    ∙ fold-roll-Case Compiling Arm (compile_step asked site) arm_step
+    (record { pattern = p; guard = Some e; body = b })
 
-pub arm_is : (asked : Option CheckId) (site : Site) (k : Case) → arm asked site k ≡ record { pattern = k.pattern; guard = option_map (compile asked site) k.guard; body = compile asked site k.body }
+pub arm_is : (asked : Option CheckId) (site : Site) (k : Case)
+    → arm asked site k ≡ record {
+      pattern = k.pattern;
+      guard = option_map (compile asked site) k.guard;
+      body = compile
+          asked site k.body;
+    }
 arm_is asked site k = arm_parts asked site k.pattern k.guard k.body
 
 after_joined : {A B : Type 0} (k : ℕ) (x : Piece A) (y : Piece B) → after k (joined x y) ≡ after (after k x) y
@@ -40,14 +52,16 @@ after_joined k x y = ap (λ n. k + n) (length-append x.steps y.steps) ∙ add_as
 
 four_assoc : {A : Type 0} (a b c d q : List A) → (a ++ (b ++ (c ++ d))) ++ q ≡ a ++ (b ++ (c ++ (d ++ q)))
 four_assoc a b c d q =
-    append_assoc a (b ++ (c ++ d)) q ∙ ap (λ l. a ++ l) (append_assoc b (c ++ d) q ∙ ap (λ l. b ++ l) (append_assoc c d q))
+    append_assoc a (b ++ (c ++ d)) q ∙ ap (λ l. a ++ l)
+    (append_assoc b (c ++ d) q ∙ ap (λ l. b ++ l) (append_assoc c d q))
 
 pub attempt_made : (asked : Option CheckId) (site : Site) (case : Case) (o : Work) (value : ℕ) (env : List ℕ) (reach : ℕ)
     {m l w n : Work} {p0 p1 : Tests} {ts inner last : List ℕ} {fits : ℕ} {goes : Goes} {left : Ends}
     → p0.tests ≡ [] → p0.bound ≡ [] → IsFitted o m p0 p1 (fitting case.pattern (length o.steps) value)
     → ts ≡ p1.tests → IsWritten m l (all_of (length m.steps) ts reach) → fits ≡ (all_of (length m.steps) ts reach).out
     → inner ≡ env ++ p1.bound
-    → IsDecided l w (deciding (option_map (compile asked site) case.guard) (length l.steps) inner reach fits) goes → last ≡ inner
+    → IsDecided l w (deciding (option_map (compile asked site) case.guard) (length l.steps) inner reach fits) goes
+    → last ≡ inner
     → IsMade w n (compile asked site case.body (length w.steps) last goes.taken) left
     → IsTried o n (arm asked site case) value (length o.steps) env reach (record { taken = goes.taken; missed = goes.missed; left = left })
 attempt_made asked site case o value env reach {m = m} {l = l} {w = w} {n = n} {p0 = p0} {p1 = p1} {ts = ts} {inner = inner} {last = last} {fits = fits} {goes = goes} {left = left} z1 z2 hf e ha hn hi hd hl hb =
@@ -82,21 +96,25 @@ attempt_made asked site case o value env reach {m = m} {l = l} {w = w} {n = n} {
     let hZ : IsWritten w n Z = record { steps = hX.written.steps; fails = hX.written.fails } in
     subst (λ (q : Arm). IsTried o n q value k env reach (record { taken = goes.taken; missed = goes.missed; left = left })) (sym (arm_is asked site case))
     (record {
-      written = written_join o m n P (joined T (joined G Z)) hP (written_join m l n T (joined G Z) hT (written_join l w n G Z hG.written hZ));
+      written = written_join o m n P (joined T (joined G Z)) hP
+          (written_join m l n T (joined G Z) hT (written_join l w n G Z hG.written hZ));
       taken = hG.taken;
       missed = hG.missed;
       out = hX.out;
       alive = hX.alive;
     })
 
-pub case_made : (asked : Option CheckId) (site : Site) (check : Option CheckId) (value : ℕ) (o : Work) (env : List ℕ) (reach : ℕ) (cs : List Case)
+pub case_made : (asked : Option CheckId) (site : Site) (check : Option CheckId) (value : ℕ) (o : Work) (env : List ℕ)
+    (reach : ℕ) (cs : List Case)
     {case : Case} {rest : List Case} {m l n : Work} {inner : List ℕ} {tried : Tried} {right : Branch} {both : Ends}
     → cs ≡ case ∷ rest
     → IsTried o m (arm asked site case) value (length o.steps) env reach tried → inner ≡ env
     → IsCased m l (cases asked (map (arm asked site) rest) check value (length m.steps) inner tried.missed) right
     → IsMade l n (chosen (length l.steps) tried.taken tried.left right.out right.alive) both
-    → IsCased o n (cases asked (map (arm asked site) cs) check value (length o.steps) env reach) (record { out = Some both.out; alive = both.alive })
-case_made asked site check value o env reach cs {case = case} {rest = rest} {m = m} {l = l} {n = n} {inner = inner} {tried = tried} {right = right} {both = both} is ht hi hr hb =
+    → IsCased o n (cases asked (map (arm asked site) cs) check value (length o.steps) env reach)
+    (record { out = Some both.out; alive = both.alive })
+case_made asked site check value o env reach cs {case = case} {rest = rest} {m = m} {l = l} {n = n} {inner = inner}
+    {tried = tried} {right = right} {both = both} is ht hi hr hb =
     let a = arm asked site case in
     let as' = map (arm asked site) rest in
     let k = length o.steps in
@@ -127,12 +145,15 @@ case_made asked site check value o env reach cs {case = case} {rest = rest} {m =
     let hT = subst (λ j. IsMade l n (tail (after i Y) G.out.0 X.out X.alive Y.out j) both) hY.alive t5 in
     let L : Piece ℕ = tail (after i Y) G.out.0 X.out X.alive Y.out Y.alive in
     let whole = written_join o m n (attempting a value k env reach) (joined Y L) ht.written (written_join m l n Y L hY.written hT.written) in
-    subst (λ (q : List Case). IsCased o n (cases asked (map (arm asked site) q) check value k env reach) (record { out = Some both.out; alive = both.alive })) (sym is)
+    subst (λ (q : List Case). IsCased o n (cases asked (map (arm asked site) q) check value k env reach)
+    (record { out = Some both.out; alive = both.alive })) (sym is)
     (record {
       written = record {
-        steps = whole.steps ∙ ap (λ (q : List Step). o.steps ++ q) (four_assoc P.steps T.steps G.steps X.steps (Y.steps ++ L.steps));
+        steps = whole.steps ∙ ap (λ (q : List Step). o.steps ++ q)
+            (four_assoc P.steps T.steps G.steps X.steps (Y.steps ++ L.steps));
         fails = whole.fails ∙ ap (λ (q : List ℕ). o.fails ++ q)
-            (four_assoc P.fails T.fails G.fails X.fails (Y.fails ++ []) ∙ ap (λ (q : List ℕ). P.fails ++ (T.fails ++ (G.fails ++ (X.fails ++ q)))) (append-nil Y.fails));
+            (four_assoc P.fails T.fails G.fails X.fails (Y.fails ++ [])
+            ∙ ap (λ (q : List ℕ). P.fails ++ (T.fails ++ (G.fails ++ (X.fails ++ q)))) (append-nil Y.fails));
       };
       out = ap (λ (j : ℕ). Some j) hT.out;
       alive = hT.alive;

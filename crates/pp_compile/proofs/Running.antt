@@ -1,5 +1,6 @@
 -- The steps of a run, as they are written.
-use Rattle.std.proofs.Common.{◌≡◌, ℕ, ◌+◌, List, [], ◌∷◌, ◌++◌, length, Option, Some, None, refl, ap, ◌∙◌, subst, append_assoc}
+use Rattle.std.proofs.Common.{◌≡◌, ℕ, ◌+◌, List, [], ◌∷◌, ◌++◌, length, Option, Some, None, refl, ap, ◌∙◌, subst}
+use Rattle.std.proofs.Common.{append_assoc}
 use Rattle.pp_prog.specs.declared.expr.Expr.{Expr}
 use Rattle.pp_prog.specs.declared.expr.Function.{Function}
 use Rattle.pp_prog.specs.declared.expr.Param.{Param}
@@ -8,7 +9,8 @@ use Rattle.pp_prog.specs.Sorts.{param_sorts}
 use Rattle.pp_steps.specs.declared.step.Step.{Step}
 use Rattle.pp_steps.specs.declared.step.Step.TheVariants as steps
 use Rattle.pp_steps.specs.Compile.{Site, compile}
-use Rattle.pp_steps.specs.Frames.{Frame, allowing, any_of, arguments, finishing, inlined, measuring, run_steps, running, starting}
+use Rattle.pp_steps.specs.Frames.{Frame, allowing, any_of, arguments, finishing, inlined, measuring, run_steps, running}
+use Rattle.pp_steps.specs.Frames.{starting}
 use Rattle.pp_steps.specs.Piece.{after, bind}
 use Rattle.pp_compile.specs.declared.work.Ends.{Ends}
 use Rattle.pp_compile.specs.declared.work.Framed.{Framed}

@@ -90,7 +90,14 @@ chosen k taken left right alive =
 
 -- no case is left
 abbrev pub no_case : Bool → ℕ → ℕ → Piece (Option ℕ)
-no_case asked k reach = record { steps = steps.Bool false ∷ []; out = None; alive = k; calls = []; fails = failing asked reach }
+no_case asked k reach = record {
+  steps = steps.Bool false ∷ [];
+  out = None;
+  alive = k;
+  calls = [];
+  fails = failing asked
+      reach;
+}
 
 -- `&&` and `||`, and the operators that evaluate both operands
 abbrev pub conjunction : Compiling → Compiling → Compiling

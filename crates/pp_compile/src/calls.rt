@@ -4,7 +4,8 @@ ghost use Rattle.std.specs.Prelude.{◌≡◌, ◌∷◌, [], ℕ, suc, IfOk, Li
 ghost use Rattle.pp_steps.specs.Piece.{plain};
 ghost use Rattle.pp_steps.specs.declared.step.Step.TheVariants as steps;
 ghost use Rattle.pp_steps.specs.Frames as spec;
-ghost use Rattle.pp_steps.specs.Frames.{admitting, descending, entering, falling, inlined, lower, measuring, shaped, stopped};
+ghost use Rattle.pp_steps.specs.Frames.{admitting, descending, entering, falling, inlined, lower, measuring, shaped};
+ghost use Rattle.pp_steps.specs.Frames.{stopped};
 ghost use Rattle.pp_compile.specs.Written.{IsFramed, IsMade};
 
 use crate::NoMemory;

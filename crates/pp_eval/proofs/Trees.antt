@@ -1,5 +1,6 @@
 -- The tests of trees decide equality and subtrees.
-use Rattle.std.proofs.Common.{◌≡◌, ℕ, zero, suc, ℤ, Bool, true, false, ◌&&◌, List, [], ◌∷◌, map, refl, sym, ap, ◌∙◌, subst, arith, eq-eqb, Contains, ◌⊎◌, inl, inr}
+use Rattle.std.proofs.Common.{◌≡◌, ℕ, zero, suc, ℤ, Bool, true, false, ◌&&◌, List, [], ◌∷◌, map, refl, sym, ap, ◌∙◌}
+use Rattle.std.proofs.Common.{subst, arith, eq-eqb, Contains, ◌⊎◌, inl, inr}
 use Rattle.std.specs.Prelude.{◌↔◌, ◌||◌, nat_eq}
 use Rattle.std.specs.Ordering.{int_eq}
 use Rattle.std.proofs.lemmas.Bool.{eqb-true}
@@ -12,7 +13,8 @@ use Rattle.pp_prog.specs.declared.value.Value.TheVariants.{Tree, rolls-Tree}
 use Rattle.pp_prog.specs.declared.value.Value.TheViews.{out-Value, roll-Value, out-roll-Value, roll-out-Value}
 use Rattle.pp_prog.specs.Values.{IsBelow, is_field, is_deeper}
 use Rattle.pp_prog.specs.Fits.{same_truth}
-use Rattle.pp_eval.specs.Equality.{CompareTrees, at_or_under, below, below_step, equal, equal_layer, equal_step, pass_all}
+use Rattle.pp_eval.specs.Equality.{CompareTrees, at_or_under, below, below_step, equal, equal_layer, equal_step}
+use Rattle.pp_eval.specs.Equality.{pass_all}
 
 int_same : (a b : ℤ) → int_eq a b ≡ true → a ≡ b
 int_same a b h = grind (arith, Decides-int_eq a b)
@@ -54,7 +56,9 @@ all_self : (ys : List S) → pass_all (map equal (map (λ z. z.0) ys)) (map (λ 
 all_self [] = refl
 all_self (y ∷ ys) = rw (y.1.1, all_self ys) refl
 
-level : (y : layer.Value-F S) (o : layer.Value-F Value) → equal_layer (map-Value Value (Value → Bool) equal (map-Value S Value (λ z. z.0) y)) o ≡ true → map-Value S Value (λ z. z.0) y ≡ o
+level : (y : layer.Value-F S) (o : layer.Value-F Value)
+    → equal_layer (map-Value Value (Value → Bool) equal (map-Value S Value (λ z. z.0) y)) o ≡ true
+    → map-Value S Value (λ z. z.0) y ≡ o
 level (layer.Int n) (layer.Int m) h = ap layer.Int (int_same n m h)
 level (layer.Int n) (layer.Bool b) h = cc
 level (layer.Int n) (layer.Tree c ws) h = cc
@@ -80,7 +84,8 @@ at_level y =
       λ w h.
           let e = level y (out-Value w) (sym (ap (λ (f : Value → Bool). f w) one) ∙ h) in
           ap roll-Value e ∙ roll-out-Value w,
-      ap (λ (f : Value → Bool). f (roll-Value z)) one ∙ ap (λ o. equal_layer (map-Value Value (Value → Bool) equal z) o) (out-roll-Value z) ∙ self_level y,
+      ap (λ (f : Value → Bool). f (roll-Value z)) one ∙ ap (λ o. equal_layer (map-Value Value (Value → Bool) equal z) o)
+          (out-roll-Value z) ∙ self_level y,
     )
 
 sure : (v : Value) → Sure v
@@ -114,7 +119,8 @@ module _ (t : Value) where
   or_left false b h = cc
 
   -- a field that passes, or passes below, makes the test true
-  passes : (fields : List Value) (v : Value) → Contains fields v → ((equal t v ≡ true) ⊎ (below t v ≡ true)) → at_or_under (equal t) (map pair fields) ≡ true
+  passes : (fields : List Value) (v : Value) → Contains fields v → ((equal t v ≡ true) ⊎ (below t v ≡ true))
+      → at_or_under (equal t) (map pair fields) ≡ true
   passes [] v (k, lt, is) h = absurd (omega (arith, lt))
   passes (x ∷ xs) v (zero, lt, is) (inl h) = or_left _ _ (ap (equal t) is ∙ h)
   passes (x ∷ xs) v (zero, lt, is) (inr h) = or_right (equal t x) _ (or_left _ _ (ap (below t) is ∙ h))
@@ -162,7 +168,9 @@ module _ (t : Value) where
   in_tree c fields (v, has, inl same) = subst (λ w. IsBelow w (Tree c fields)) (sym same) (is_field c fields refl has)
   in_tree c fields (v, has, inr deep) = is_deeper c fields refl has deep
 
-  below_level : (y : layer.Value-F U) → below_step (equal t) (map-Value Value (Value × Bool) pair (map-Value U Value (λ z. z.0) y)) ≡ true → IsBelow t (roll-Value (map-Value U Value (λ z. z.0) y))
+  below_level : (y : layer.Value-F U) → below_step (equal t)
+      (map-Value Value (Value × Bool) pair (map-Value U Value (λ z. z.0) y)) ≡ true
+      → IsBelow t (roll-Value (map-Value U Value (λ z. z.0) y))
   below_level (layer.Int n) h = cc
   below_level (layer.Bool b) h = cc
   below_level (layer.Tree c ys) h =

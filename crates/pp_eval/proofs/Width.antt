@@ -1,5 +1,6 @@
 -- How deep calls and expressions go: the measure of the evaluator.
-use Rattle.std.proofs.Common.{◌≡◌, ℕ, zero, suc, ◌+◌, ◌-◌, ◌*◌, ◌<◌, ◌≤◌, max, List, [], ◌∷◌, length, get_or, Option, Some, None, arith, ap}
+use Rattle.std.proofs.Common.{◌≡◌, ℕ, zero, suc, ◌+◌, ◌-◌, ◌*◌, ◌<◌, ◌≤◌, max, List, [], ◌∷◌, length, get_or, Option}
+use Rattle.std.proofs.Common.{Some, None, arith, ap}
 use Rattle.std.specs.Prelude.{slice_get}
 use Rattle.pp_prog.specs.declared.expr.Case.{Case, size-Case}
 use Rattle.pp_prog.specs.declared.expr.Expr.{Expr, size-Expr}
@@ -50,10 +51,12 @@ item_case cs i c lt is = omega (arith, at_most size-Case cs i c lt, ap size-Case
 pub args_of_construct : (e : Expr) (c : CtorId) (es : List Expr) → e ≡ Construct c es → most_size es < size-Expr e
 args_of_construct e c es is = omega (arith, ap size-Expr is, sized-Construct c es)
 
-pub args_of_call : (e : Expr) (g : FunctionId) (es : List Expr) (p m : Option CheckId) → e ≡ Call g es p m → most_size es < size-Expr e
+pub args_of_call : (e : Expr) (g : FunctionId) (es : List Expr) (p m : Option CheckId) → e ≡ Call g es p m
+    → most_size es < size-Expr e
 args_of_call e g es p m is = omega (arith, ap size-Expr is, sized-Call g es p m)
 
-pub cases_of_match : (e s : Expr) (cs : List Case) (check : Option CheckId) → e ≡ Match s cs check → most_case cs < size-Expr e
+pub cases_of_match : (e s : Expr) (cs : List Case) (check : Option CheckId) → e ≡ Match s cs check
+    → most_case cs < size-Expr e
 cases_of_match e s cs check is = omega (arith, ap size-Expr is, sized-Match s cs check)
 
 found_size : (fs : List Function) (i : ℕ) (f : Function) → slice_get fs i ≡ Some f → function_size f ≤ reach fs
@@ -62,7 +65,8 @@ found_size (g ∷ fs) zero f is = let e : g ≡ f = cc in omega (arith, ap funct
 found_size (g ∷ fs) (suc i) f is = omega (arith, found_size fs i f is)
 
 -- a call with one unit less goes less deep
-pub call_falls : (fs : List Function) (i : ℕ) (f : Function) (n : ℕ) → slice_get fs i ≡ Some f → 0 < n → (n - 1) * width fs + (4 * function_size f + 4) < n * width fs
+pub call_falls : (fs : List Function) (i : ℕ) (f : Function) (n : ℕ) → slice_get fs i ≡ Some f → 0 < n
+    → (n - 1) * width fs + (4 * function_size f + 4) < n * width fs
 call_falls fs i f zero is lt = absurd (omega arith)
 call_falls fs i f (suc n) is lt =
     let less : suc n - 1 ≡ n = omega arith in

@@ -1,6 +1,6 @@
 -- When two values are the same tree, and when one is a proper subtree of another, as tests that evaluation can use. The
--- law `compare_trees` ties them to equality and to `IsBelow`. Source: Scala Language Specification 5.3.2 for the equality
--- of case classes; subtrees are own.
+-- law `compare_trees` ties them to equality and to `IsBelow`. Source: Scala Language Specification 5.3.2 for the
+-- equality of case classes; subtrees are own.
 use Rattle.std.specs.Prelude.{◌≡◌, ◌↔◌, nat_eq, Bool, true, false, ◌&&◌, ◌||◌, IsTrue, List, [], ◌∷◌}
 use Rattle.std.specs.Ordering.{int_eq}
 use Rattle.pp_prog.specs.declared.value.Value.{Value}

@@ -3,7 +3,8 @@ pub mod Equality
 pub mod Operators
 pub mod Measure
 pub mod Meaning
-pub mod Calls
+pub mod Invocation
+pub mod Callees
 pub mod Runs
 pub mod Laws
 pub mod Halts

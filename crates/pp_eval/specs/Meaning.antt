@@ -1,8 +1,8 @@
--- What an expression means: big-step evaluation, where what a call does is a parameter. Operands, arguments and fields go
--- from left to right, `&&` and `||` skip the right side where the left decides, `val` is strict, and a match takes the
--- first case whose pattern fits and whose guard is true. Source: Scala Language Specification 6.6, 6.12, 8.4 and 12.2.2.
--- Where a form has no meaning, as an operator for values of other sorts, it is Deep. A valid program never comes there:
--- `pp_sound` has that law. (own)
+-- What an expression means: big-step evaluation, where what a call does is a parameter. Operands, arguments and fields
+-- go from left to right, `&&` and `||` skip the right side where the left decides, `val` is strict, and a match takes
+-- the first case whose pattern fits and whose guard is true. Source: Scala Language Specification 6.6, 6.12, 8.4 and
+-- 12.2.2. Where a form has no meaning, as an operator for values of other sorts, it is Stuck. A valid program never
+-- comes there: `pp_sound` has that law. (own)
 use Rattle.std.specs.Prelude.{ℕ, Bool, true, false, List, [], ◌∷◌, ◌++◌, Option, Some, None, Ok, Err, slice_get}
 use Rattle.pp_prog.specs.declared.expr.BinaryOp.{BinaryOp}
 use Rattle.pp_prog.specs.declared.expr.BinaryOp.TheVariants.{AndAlso, OrElse}
@@ -17,7 +17,7 @@ use Rattle.pp_prog.specs.declared.value.Value.TheOpen as value
 use Rattle.pp_prog.specs.declared.value.Value.TheVariants.{Int, Bool as Truth, Tree}
 use Rattle.pp_prog.specs.declared.value.Value.TheViews.{out-Value}
 use Rattle.pp_prog.specs.Fits.{fit}
-use Rattle.pp_eval.specs.declared.outcome.Stop.TheVariants.{Fails, Deep}
+use Rattle.pp_eval.specs.declared.outcome.Stop.TheVariants.{Fails, Stuck}
 use Rattle.pp_eval.specs.Operators.{operated, truth, unary}
 use Rattle.pp_eval.specs.Part.{Part, and_then, either, failed, found}
 
@@ -35,8 +35,8 @@ Arm = layer.Case-F Meaning (Unit {0})
 
 -- what a call does: the frame that it comes from, the function, the site's precondition check and measure check, and
 -- the arguments
-abbrev pub Calls : Type 0
-Calls = Frame → FunctionId → Option CheckId → Option CheckId → List Value → Part Value
+abbrev pub CallMeaning : Type 0
+CallMeaning = Frame → FunctionId → Option CheckId → Option CheckId → List Value → Part Value
 
 abbrev pub all_from : List Value → List Meaning → Frame → List Value → Part (List Value)
 all_from done [] frame env = Ok done
@@ -56,8 +56,8 @@ binary OrElse a b check frame env =
 binary op a b check frame env = and_then (a frame env) (λ x. and_then (b frame env) (λ y. operated op check x y))
 
 abbrev pub field_in : value.Value-F Value → ℕ → Part Value
-field_in (value.Int n) k = Err Deep
-field_in (value.Bool b) k = Err Deep
+field_in (value.Int n) k = Err Stuck
+field_in (value.Bool b) k = Err Stuck
 field_in (value.Tree c fields) k = found (slice_get fields k)
 
 -- the field at this place
@@ -96,7 +96,7 @@ first_case (arm ∷ arms) check v frame env =
 abbrev pub arm_step : layer.Case-F Meaning Arm → Arm
 arm_step c = record { pattern = c.pattern; guard = c.guard; body = c.body }
 
-module _ (calls : Calls) where
+module _ (calls : CallMeaning) where
   -- one level of an expression, with the meanings of its parts in their place
   abbrev pub meaning_step : layer.Expr-F Meaning Arm → Meaning
   meaning_step (layer.Int n) frame env = Ok (Int n)

@@ -1,6 +1,7 @@
--- When the measure of a call is below that of its caller. Source: termination by measures as in System FR (Hamza, Voirol,
--- Kuncak, OOPSLA 2019); own: lists of components, and that a datatype goes down by proper subtrees.
-use Rattle.std.specs.Prelude.{pos, int_le, int_lt, nat_eq, Bool, true, false, ◌&&◌, ◌||◌, List, [], ◌∷◌, Option, Some, None, slice_get}
+-- When the measure of a call is below that of its caller. Source: termination by measures as in System FR (Hamza,
+-- Voirol, Kuncak, OOPSLA 2019); own: lists of components, and that a datatype goes down by proper subtrees.
+use Rattle.std.specs.Prelude.{pos, int_le, int_lt, nat_eq, Bool, true, false, ◌&&◌, ◌||◌, List, [], ◌∷◌, Option, Some}
+use Rattle.std.specs.Prelude.{None, slice_get}
 use Rattle.pp_prog.specs.declared.types.Ctor.{Ctor}
 use Rattle.pp_prog.specs.declared.value.Value.{Value}
 use Rattle.pp_prog.specs.declared.value.Value.TheOpen as layer

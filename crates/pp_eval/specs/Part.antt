@@ -5,7 +5,7 @@ use Rattle.pp_prog.specs.declared.id.FunctionId.{FunctionId}
 use Rattle.pp_eval.specs.declared.outcome.Halt.{Halt}
 use Rattle.pp_eval.specs.declared.outcome.Halt.TheVariants.{Memory, Stopped}
 use Rattle.pp_eval.specs.declared.outcome.Stop.{Stop}
-use Rattle.pp_eval.specs.declared.outcome.Stop.TheVariants.{Fails, Inner, Deep}
+use Rattle.pp_eval.specs.declared.outcome.Stop.TheVariants.{Fails, Inner, Deep, Stuck}
 
 -- a part of a run: its value, or how the run stops there
 abbrev pub Part : Type 0 → Type 0
@@ -30,18 +30,19 @@ either false a b = b
 -- the failure of a site's check. In a valid program each site that can fail carries one.
 abbrev pub failed : {A : Type 0} → Option CheckId → Part A
 failed (Some c) = Err (Fails c)
-failed None = Err Deep
+failed None = Err Stuck
 
 -- an item that has to be there
 abbrev pub found : {A : Type 0} → Option A → Part A
 found (Some a) = Ok a
-found None = Err Deep
+found None = Err Stuck
 
 -- how a stop inside a frame of g is seen from outside: a failing check is g's
 abbrev pub raised : FunctionId → Stop → Stop
 raised g (Fails c) = Inner g c
 raised g (Inner h c) = Inner h c
 raised g Deep = Deep
+raised g Stuck = Stuck
 
 -- a part inside a frame of g, seen from outside
 abbrev pub inside : {A : Type 0} → FunctionId → Part A → Part A

@@ -2,14 +2,14 @@
 
 ghost use Rattle.std.specs.Prelude.{◌≡◌, OnOk, map, slice_get, take};
 ghost use Rattle.std.specs.Option.{option_map};
-ghost use Rattle.pp_eval.specs.Calls.{calls_to, eval};
+ghost use Rattle.pp_eval.specs.Callees.{call_meaning, case_meaning, expr_meaning};
 ghost use Rattle.pp_eval.specs.Meaning as spec;
-ghost use Rattle.pp_eval.specs.Meaning.{all, arm, first_case, guarded, meaning};
+ghost use Rattle.pp_eval.specs.Meaning.{all, first_case, guarded};
 ghost use Rattle.pp_eval.specs.Operators.{truth};
 ghost use Rattle.pp_eval.specs.Part.{Tells, and_then, found};
 
-use crate::calls::{Calls, call};
 use crate::fit::bind;
+use crate::invocation::{Callees, call};
 use crate::operators::{failed, operate, truth_of, unary};
 use crate::outcome::{Halt, Stop};
 use pp_list::{Items, at};
@@ -21,12 +21,12 @@ use std::alloc::Global;
 #[cycle(eval)]
 pub(crate) fn value_of(
     alloc: Global,
-    calls: Calls<'_>,
+    callees: Callees<'_>,
     frame: &Option<Values>,
     env: &mut Values,
     e: &Expr,
 ) -> Result<Value, Halt>
-    ensures told { Tells result (eval calls.entry.ctors.now calls.entry.functions.now calls.entry.fuel frame.now env.old e.now) }
+    ensures told { Tells result (expr_meaning callees.entry e.now frame.now env.old) }
     ensures kept { OnOk result (env.new ≡ env.old) }
 {
     match e {
@@ -34,61 +34,61 @@ pub(crate) fn value_of(
         Expr::Bool(b) => Ok(Value::Bool(*b)),
         Expr::Var(i) => variable(alloc, env.as_slice(), *i),
         Expr::Unary(op, a) => {
-            let x = value_of(alloc, calls, frame, env, a.get())?;
+            let x = value_of(alloc, callees, frame, env, a.get())?;
             unary(*op, &x)
         }
         Expr::Binary(BinaryOp::AndAlso, a, b, _) => {
-            let x = value_of(alloc, calls, frame, env, a.get())?;
+            let x = value_of(alloc, callees, frame, env, a.get())?;
             if truth_of(&x)? {
-                value_of(alloc, calls, frame, env, b.get())
+                value_of(alloc, callees, frame, env, b.get())
             } else {
                 Ok(Value::Bool(false))
             }
         }
         Expr::Binary(BinaryOp::OrElse, a, b, _) => {
-            let x = value_of(alloc, calls, frame, env, a.get())?;
+            let x = value_of(alloc, callees, frame, env, a.get())?;
             if truth_of(&x)? {
                 Ok(Value::Bool(true))
             } else {
-                value_of(alloc, calls, frame, env, b.get())
+                value_of(alloc, callees, frame, env, b.get())
             }
         }
         Expr::Binary(op, a, b, check) => {
-            let x = value_of(alloc, calls, frame, env, a.get())?;
-            let y = value_of(alloc, calls, frame, env, b.get())?;
+            let x = value_of(alloc, callees, frame, env, a.get())?;
+            let y = value_of(alloc, callees, frame, env, b.get())?;
             operate(*op, *check, &x, &y)
         }
         Expr::Construct(c, args) => {
-            let fields = values_of(alloc, calls, frame, env, args.as_slice())?;
+            let fields = values_of(alloc, callees, frame, env, args.as_slice())?;
             Ok(Value::Tree(*c, fields))
         }
         Expr::Field(e, k) => {
-            let v = value_of(alloc, calls, frame, env, e.get())?;
+            let v = value_of(alloc, callees, frame, env, e.get())?;
             field(alloc, &v, *k)
         }
         Expr::If(c, a, b) => {
-            let v = value_of(alloc, calls, frame, env, c.get())?;
+            let v = value_of(alloc, callees, frame, env, c.get())?;
             if truth_of(&v)? {
-                value_of(alloc, calls, frame, env, a.get())
+                value_of(alloc, callees, frame, env, a.get())
             } else {
-                value_of(alloc, calls, frame, env, b.get())
+                value_of(alloc, callees, frame, env, b.get())
             }
         }
         Expr::Match(e, cases, check) => {
-            let v = value_of(alloc, calls, frame, env, e.get())?;
-            case_of(alloc, calls, frame, env, cases.as_slice(), *check, &v)
+            let v = value_of(alloc, callees, frame, env, e.get())?;
+            case_of(alloc, callees, frame, env, cases.as_slice(), *check, &v)
         }
         Expr::Val(bound, rest) => {
-            let v = value_of(alloc, calls, frame, env, bound.get())?;
+            let v = value_of(alloc, callees, frame, env, bound.get())?;
             env.push(v)?;
-            let result = value_of(alloc, calls, frame, env, rest.get())?;
+            let result = value_of(alloc, callees, frame, env, rest.get())?;
             let _ = env.pop();
             Ok(result)
         }
         Expr::Assert(check, c, rest) => {
-            let v = value_of(alloc, calls, frame, env, c.get())?;
+            let v = value_of(alloc, callees, frame, env, c.get())?;
             if truth_of(&v)? {
-                value_of(alloc, calls, frame, env, rest.get())
+                value_of(alloc, callees, frame, env, rest.get())
             } else {
                 Err(Halt::Stopped(Stop::Fails(*check)))
             }
@@ -99,8 +99,8 @@ pub(crate) fn value_of(
             pre,
             measure,
         } => {
-            let values = values_of(alloc, calls, frame, env, args.as_slice())?;
-            call(alloc, calls, frame, *callee, *pre, *measure, values)
+            let values = values_of(alloc, callees, frame, env, args.as_slice())?;
+            call(alloc, callees, frame, *callee, *pre, *measure, values)
         }
     }
 }
@@ -109,17 +109,17 @@ pub(crate) fn value_of(
 #[cycle(eval)]
 pub(crate) fn values_of(
     alloc: Global,
-    calls: Calls<'_>,
+    callees: Callees<'_>,
     frame: &Option<Values>,
     env: &mut Values,
     exprs: &[Expr],
 ) -> Result<Values, Halt>
-    ensures told { Tells result (all (map (meaning (calls_to calls.entry.ctors.now calls.entry.functions.now calls.entry.fuel)) exprs.now) frame.now env.old) }
+    ensures told { Tells result (all (map (expr_meaning callees.entry) exprs.now) frame.now env.old) }
     ensures kept { OnOk result (env.new ≡ env.old) }
 {
     let mut values = Items::new(alloc);
     for e in exprs {
-        let v = value_of(alloc, calls, frame, env, e)?;
+        let v = value_of(alloc, callees, frame, env, e)?;
         values.push(v)?;
     }
     Ok(values)
@@ -129,18 +129,19 @@ pub(crate) fn values_of(
 #[cycle(eval)]
 fn case_of(
     alloc: Global,
-    calls: Calls<'_>,
+    callees: Callees<'_>,
     frame: &Option<Values>,
     env: &mut Values,
     cases: &[Case],
     check: Option<CheckId>,
     v: &Value,
 ) -> Result<Value, Halt>
-    ensures told { Tells result (first_case (map (arm (calls_to calls.entry.ctors.now calls.entry.functions.now calls.entry.fuel)) cases.now) check v.now frame.now env.old) }
+    ensures told { Tells result
+        (first_case (map (case_meaning callees.entry) cases.now) check v.now frame.now env.old) }
     ensures kept { OnOk result (env.new ≡ env.old) }
 {
     for case in cases {
-        match attempt(alloc, calls, frame, env, case, v)? {
+        match attempt(alloc, callees, frame, env, case, v)? {
             Some(result) => return Ok(result),
             None => {}
         }
@@ -152,13 +153,13 @@ fn case_of(
 #[cycle(eval)]
 fn attempt(
     alloc: Global,
-    calls: Calls<'_>,
+    callees: Callees<'_>,
     frame: &Option<Values>,
     env: &mut Values,
     case: &Case,
     v: &Value,
 ) -> Result<Option<Value>, Halt>
-    ensures told { Tells result (spec.attempt (arm (calls_to calls.entry.ctors.now calls.entry.functions.now calls.entry.fuel) case.now) v.now frame.now env.old) }
+    ensures told { Tells result (spec.attempt (case_meaning callees.entry case.now) v.now frame.now env.old) }
     ensures kept { OnOk result (env.new ≡ env.old) }
 {
     match bind(alloc, &case.pattern, v)? {
@@ -166,8 +167,8 @@ fn attempt(
         Some(bound) => {
             let depth = env.len();
             env.append(bound)?;
-            let result = if holds(alloc, calls, frame, env, &case.guard)? {
-                Some(value_of(alloc, calls, frame, env, &case.body)?)
+            let result = if holds(alloc, callees, frame, env, &case.guard)? {
+                Some(value_of(alloc, callees, frame, env, &case.body)?)
             } else {
                 None
             };
@@ -181,18 +182,18 @@ fn attempt(
 #[cycle(eval)]
 pub(crate) fn holds(
     alloc: Global,
-    calls: Calls<'_>,
+    callees: Callees<'_>,
     frame: &Option<Values>,
     env: &mut Values,
     condition: &Option<Expr>,
 ) -> Result<bool, Halt>
-    ensures told { Tells result (guarded (option_map (meaning (calls_to calls.entry.ctors.now calls.entry.functions.now calls.entry.fuel)) condition.now) frame.now env.old) }
+    ensures told { Tells result (guarded (option_map (expr_meaning callees.entry) condition.now) frame.now env.old) }
     ensures kept { OnOk result (env.new ≡ env.old) }
 {
     match condition {
         None => Ok(true),
         Some(e) => {
-            let v = value_of(alloc, calls, frame, env, e)?;
+            let v = value_of(alloc, callees, frame, env, e)?;
             truth_of(&v)
         }
     }
@@ -203,7 +204,7 @@ fn variable(alloc: Global, env: &[Value], i: u32) -> Result<Value, Halt>
 {
     match at(env, i as usize) {
         Some(v) => Ok(v.copy(alloc)?),
-        None => Err(Halt::Stopped(Stop::Deep)),
+        None => Err(Halt::Stopped(Stop::Stuck)),
     }
 }
 
@@ -212,8 +213,8 @@ fn field(alloc: Global, v: &Value, k: u32) -> Result<Value, Halt>
     ensures { Tells result (spec.field v.now k) }
 {
     match v {
-        Value::Int(_) => Err(Halt::Stopped(Stop::Deep)),
-        Value::Bool(_) => Err(Halt::Stopped(Stop::Deep)),
+        Value::Int(_) => Err(Halt::Stopped(Stop::Stuck)),
+        Value::Bool(_) => Err(Halt::Stopped(Stop::Stuck)),
         Value::Tree(_, fields) => variable(alloc, fields.as_slice(), k),
     }
 }

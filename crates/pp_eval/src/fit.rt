@@ -9,8 +9,8 @@ use pp_list::Items;
 use pp_prog::{Pattern, Value, Values};
 use std::alloc::Global;
 
-/// The values that the pattern binds, the outer before the inner and from left to right, or none where the value doesn't
-/// fit. The only error is want of memory.
+/// The values that the pattern binds, the outer before the inner and from left to right, or none where the value
+/// doesn't fit. The only error is want of memory.
 #[cycle(fit)]
 pub(crate) fn bind(
     alloc: Global,

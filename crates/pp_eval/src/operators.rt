@@ -19,8 +19,8 @@ pub(crate) fn truth_of(v: &Value) -> Result<bool, Halt>
 {
     match v {
         Value::Bool(b) => Ok(*b),
-        Value::Int(_) => Err(Halt::Stopped(Stop::Deep)),
-        Value::Tree(_, _) => Err(Halt::Stopped(Stop::Deep)),
+        Value::Int(_) => Err(Halt::Stopped(Stop::Stuck)),
+        Value::Tree(_, _) => Err(Halt::Stopped(Stop::Stuck)),
     }
 }
 
@@ -30,8 +30,8 @@ fn number_of(v: &Value) -> Result<i32, Halt>
 {
     match v {
         Value::Int(n) => Ok(*n),
-        Value::Bool(_) => Err(Halt::Stopped(Stop::Deep)),
-        Value::Tree(_, _) => Err(Halt::Stopped(Stop::Deep)),
+        Value::Bool(_) => Err(Halt::Stopped(Stop::Stuck)),
+        Value::Tree(_, _) => Err(Halt::Stopped(Stop::Stuck)),
     }
 }
 
@@ -41,7 +41,7 @@ pub(crate) fn failed<T>(check: Option<CheckId>) -> Result<T, Halt>
 {
     match check {
         Some(c) => Err(Halt::Stopped(Stop::Fails(c))),
-        None => Err(Halt::Stopped(Stop::Deep)),
+        None => Err(Halt::Stopped(Stop::Stuck)),
     }
 }
 
@@ -94,10 +94,10 @@ fn of_numbers(op: BinaryOp, check: Option<CheckId>, a: i32, b: i32) -> Result<Va
         BinaryOp::Shl => Ok(Value::Int(pp_word::shl(a, b))),
         BinaryOp::Shr => Ok(Value::Int(pp_word::shr(a, b))),
         BinaryOp::Ushr => Ok(Value::Int(pp_word::ushr(a, b))),
-        BinaryOp::Equal => Err(Halt::Stopped(Stop::Deep)),
-        BinaryOp::Differ => Err(Halt::Stopped(Stop::Deep)),
-        BinaryOp::AndAlso => Err(Halt::Stopped(Stop::Deep)),
-        BinaryOp::OrElse => Err(Halt::Stopped(Stop::Deep)),
+        BinaryOp::Equal => Err(Halt::Stopped(Stop::Stuck)),
+        BinaryOp::Differ => Err(Halt::Stopped(Stop::Stuck)),
+        BinaryOp::AndAlso => Err(Halt::Stopped(Stop::Stuck)),
+        BinaryOp::OrElse => Err(Halt::Stopped(Stop::Stuck)),
     }
 }
 
@@ -109,7 +109,7 @@ fn of_truths(op: BinaryOp, a: bool, b: bool) -> Result<Value, Halt>
         BinaryOp::And => Ok(Value::Bool(a & b)),
         BinaryOp::Or => Ok(Value::Bool(a | b)),
         BinaryOp::Xor => Ok(Value::Bool(a ^ b)),
-        _ => Err(Halt::Stopped(Stop::Deep)),
+        _ => Err(Halt::Stopped(Stop::Stuck)),
     }
 }
 
@@ -120,7 +120,7 @@ fn of_alike(op: BinaryOp, check: Option<CheckId>, x: &Value, y: &Value) -> Resul
     match (x, y) {
         (Value::Int(a), Value::Int(b)) => of_numbers(op, check, *a, *b),
         (Value::Bool(a), Value::Bool(b)) => of_truths(op, *a, *b),
-        _ => Err(Halt::Stopped(Stop::Deep)),
+        _ => Err(Halt::Stopped(Stop::Stuck)),
     }
 }
 

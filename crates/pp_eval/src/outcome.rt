@@ -3,14 +3,15 @@
 use pp_prog::{CheckId, FunctionId, Value};
 use std::alloc::AllocError;
 
-/// How the evaluation of an expression stops before it has a value: a check of the frame's own function fails; a check
-/// fails inside a called function; calls are nested deeper than the fuel, or the expression has no meaning for its
-/// values, which no valid program meets.
+/// How the evaluation of an expression stops before it has a value: a check of the frame's own function fails; a
+/// check fails inside a called function; calls are nested deeper than the fuel; an expression, a variable, a field, a
+/// function or a site without a check has no meaning for its values, which no run of a valid program meets.
 #[derive(Clone, Copy, PartialEq, Eq, Debug)]
 pub enum Stop {
     Fails(CheckId),
     Inner(FunctionId, CheckId),
     Deep,
+    Stuck,
 }
 
 /// Why an evaluation gives no value: want of memory, or the expression stops.
@@ -33,7 +34,7 @@ impl From<AllocError> for Halt {
 
 /// The outcome of a run: its value, where no check failed; `Outside`, where the precondition is false; a failing check
 /// of the function itself; a failing check inside a called function; calls nested deeper than the fuel, which is all
-/// that `Deep` means in a valid program.
+/// that `Deep` means, since no run of a valid program is stuck.
 #[derive(Drop)]
 pub enum Outcome {
     Done(Value),

@@ -2,14 +2,14 @@
 
 ghost use Rattle.std.specs.Prelude.{◌≡◌, ◌<◌, ◌≤◌, IfOk, length, slice_get};
 ghost use Rattle.pp_eval.specs.declared.outcome.Outcome.{Outcome};
-ghost use Rattle.pp_eval.specs.Calls.{calls_to};
+ghost use Rattle.pp_eval.specs.Callees.{call_meaning};
 ghost use Rattle.pp_eval.specs.Part.{Part, Tells};
 ghost use Rattle.pp_eval.specs.Runs as spec;
-ghost use Rattle.pp_eval.specs.Runs.{AreArguments, outcome, run_at};
+ghost use Rattle.pp_eval.specs.Runs.{AreArguments, outcome, run_in};
 
 use crate::NoMemory;
-use crate::calls::{Calls, frame_of};
 use crate::eval::{holds, value_of};
+use crate::invocation::{Callees, frame_of};
 use crate::operators::truth_of;
 use crate::outcome::{Halt, Outcome, Stop};
 use pp_list::Items;
@@ -28,14 +28,14 @@ pub fn run(
     requires function { f.0 < length program.now.functions }
     requires arguments { AreArguments program.now.types.ctors (slice_get program.now.functions f.0) args.now }
     requires fuel { fuel ≤ 100 }
-    ensures { IfOk result (λ outcome. outcome ≡ run_at program.now.types.ctors program.now.functions (slice_get program.now.functions f.0) args.now fuel) }
+    ensures { IfOk result (λ outcome. outcome ≡ run_in program.now f.0 args.now fuel) }
 {
-    let calls = Calls {
+    let callees = Callees {
         ctors: program.types().ctors.as_slice(),
         functions: program.functions.as_slice(),
         fuel,
     };
-    ended(run_with(alloc, calls, program.function(f), args))
+    ended(run_with(alloc, callees, program.function(f), args))
 }
 
 /// The outcome of a run that came to this.
@@ -48,53 +48,54 @@ pub(crate) fn ended(run: Result<Outcome, Halt>) -> Result<Outcome, NoMemory>
         Err(Halt::Stopped(Stop::Fails(c))) => Ok(Outcome::Fails(c)),
         Err(Halt::Stopped(Stop::Inner(g, c))) => Ok(Outcome::Inner(g, c)),
         Err(Halt::Stopped(Stop::Deep)) => Ok(Outcome::Deep),
+        Err(Halt::Stopped(Stop::Stuck)) => Ok(Outcome::Deep),
     }
 }
 
-/// The run of f, where calls are these.
+/// The run of f, where these are called.
 pub(crate) fn run_with(
     alloc: Global,
-    calls: Calls<'_>,
+    callees: Callees<'_>,
     f: &Function,
     args: &[Value],
 ) -> Result<Outcome, Halt>
-    ensures { Tells result (spec.run_with (calls_to calls.entry.ctors.now calls.entry.functions.now calls.entry.fuel) f.now args.now) }
+    ensures { Tells result (spec.run_with (call_meaning callees.entry) f.now args.now) }
 {
     let mut env = copies(alloc, args)?;
-    if holds(alloc, calls, &None, &mut env, &f.pre)? {
-        start(alloc, calls, f, env)
+    if holds(alloc, callees, &None, &mut env, &f.pre)? {
+        start(alloc, callees, f, env)
     } else {
         Ok(Outcome::Outside)
     }
 }
 
 // The measure list, the body and the postcondition, where the precondition is true.
-fn start(alloc: Global, calls: Calls<'_>, f: &Function, args: Values) -> Result<Outcome, Halt>
-    ensures { Tells result (spec.started (calls_to calls.entry.ctors.now calls.entry.functions.now calls.entry.fuel) f.now args) }
+fn start(alloc: Global, callees: Callees<'_>, f: &Function, args: Values) -> Result<Outcome, Halt>
+    ensures { Tells result (spec.started (call_meaning callees.entry) f.now args) }
 {
     let mut env = args;
-    let frame = frame_of(alloc, calls, f.measure.as_slice(), &mut env)?;
-    let v = value_of(alloc, calls, &frame, &mut env, &f.body)?;
-    finish(alloc, calls, &f.post, &frame, env, v)
+    let frame = frame_of(alloc, callees, f.measure.as_slice(), &mut env)?;
+    let v = value_of(alloc, callees, &frame, &mut env, &f.body)?;
+    finish(alloc, callees, &f.post, &frame, env, v)
 }
 
 // The postcondition, of the arguments and the result.
 fn finish(
     alloc: Global,
-    calls: Calls<'_>,
+    callees: Callees<'_>,
     post: &Option<(CheckId, Expr)>,
     frame: &Option<Values>,
     args: Values,
     v: Value,
 ) -> Result<Outcome, Halt>
-    ensures { Tells result (spec.finished (calls_to calls.entry.ctors.now calls.entry.functions.now calls.entry.fuel) post.now frame.now args v) }
+    ensures { Tells result (spec.finished (call_meaning callees.entry) post.now frame.now args v) }
 {
     match post {
         None => Ok(Outcome::Done(v)),
         Some((check, claim)) => {
             let mut env = args;
             env.push(v.copy(alloc)?)?;
-            let p = value_of(alloc, calls, frame, &mut env, claim)?;
+            let p = value_of(alloc, callees, frame, &mut env, claim)?;
             if truth_of(&p)? {
                 Ok(Outcome::Done(v))
             } else {

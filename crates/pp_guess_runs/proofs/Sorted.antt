@@ -1,5 +1,6 @@
 -- Calls of guess runs have values of their functions' result sorts, or stop.
-use Rattle.std.proofs.Common.{◌≡◌, ℕ, zero, suc, ◌<◌, true, List, [], ◌∷◌, ◌++◌, Option, Some, None, is_some, length, slice_get, refl, sym, ap, ◌∙◌, subst}
+use Rattle.std.proofs.Common.{◌≡◌, ℕ, zero, suc, ◌<◌, true, List, [], ◌∷◌, ◌++◌, Option, Some, None, is_some, length}
+use Rattle.std.proofs.Common.{slice_get, refl, sym, ap, ◌∙◌, subst}
 use Rattle.std.specs.Prelude.{⊤, Bool, false, Err, Ok, if◌then◌else◌, nat_eq}
 use Rattle.std.proofs.lemmas.Option.{slice_get_within}
 use Rattle.pp_prog.specs.declared.expr.Expr.{Expr}
@@ -17,11 +18,11 @@ use Rattle.pp_prog.specs.Valid.{has_precondition}
 use Rattle.pp_eval.specs.declared.outcome.Outcome.{Outcome}
 use Rattle.pp_eval.specs.declared.outcome.Outcome.TheVariants.{Done, Outside, Fails, Inner, Deep}
 use Rattle.pp_eval.specs.declared.outcome.Stop.TheVariants as stop
-use Rattle.pp_eval.specs.Calls.{admits, descends}
+use Rattle.pp_eval.specs.Invocation.{admits, descends}
 use Rattle.pp_eval.specs.Equality.{equal}
 use Rattle.pp_eval.specs.Measure.{is_below}
-use Rattle.pp_eval.specs.Meaning.{Calls, Frame}
-use Rattle.pp_eval.specs.Part.{Part, found}
+use Rattle.pp_eval.specs.Meaning.{CallMeaning, Frame}
+use Rattle.pp_eval.specs.Part.{Part}
 use Rattle.pp_eval.specs.Runs.{run, run_at, run_with}
 use Rattle.pp_sound.specs.Sound.{IsCalled}
 use Rattle.pp_sound.proofs.Calls.{condition_fine, frame_fine, whole}
@@ -29,13 +30,15 @@ use Rattle.pp_sound.proofs.Env.{Has, Have, have_more, have_one}
 use Rattle.pp_sound.proofs.Exprs.{AreGood, expr_sound}
 use Rattle.pp_sound.proofs.Laws.{keep_sorts}
 use Rattle.pp_sound.proofs.Operators.{judged}
-use Rattle.pp_sound.proofs.Parts.{IsAny, IsFine, IsOwn, IsSorted, MayStop, fine_either, fine_failed, fine_inside, fine_stop, fine_then, fine_value}
+use Rattle.pp_sound.proofs.Parts.{IsAny, IsFine, IsOwn, IsSorted, MayStop, fine_either, fine_failed, fine_inside}
+use Rattle.pp_sound.proofs.Parts.{fine_stop, fine_then, fine_value}
 use Rattle.pp_sound.proofs.Runs.{run_fine}
 use Rattle.pp_sound.proofs.Sites.{AreMet, met_left}
 use Rattle.pp_sound.proofs.Sorting.{has_the_sort_is}
 use Rattle.pp_run_laws.proofs.MeasureSorts.{told_value}
 use Rattle.pp_guess_runs.specs.Answers.{Answering, Answers, IsAnswering, answers_of, table, truth, value_done}
-use Rattle.pp_guess_runs.specs.Guess.{agreed, called, compared, done, fails, guess, guessed, held, skip, is_check, one_less, own, own_call, unfolded}
+use Rattle.pp_guess_runs.specs.Guess.{agreed, called, compared, done, fails, guess, guessed, held, skip, is_check}
+use Rattle.pp_guess_runs.specs.Guess.{one_less, or_deep, own, own_call, unfolded}
 use Rattle.pp_guess_runs.specs.Laws.{GuessesKeepSorts}
 use Rattle.pp_guess_runs.proofs.Tables.{tables_answer_once}
 
@@ -46,7 +49,7 @@ module _ (p : Program) (W : Answering) (answering : IsAnswering p W) where
   abbrev U : Type 0
   U = Unit {0}
 
-  abbrev calls_of : ℕ → Calls
+  abbrev calls_of : ℕ → CallMeaning
   calls_of n = called p.functions answer n
 
   -- an answer has the result's sort
@@ -81,7 +84,7 @@ module _ (p : Program) (W : Answering) (answering : IsAnswering p W) where
   agreed_fine i s None v has = fine_value has
   agreed_fine i s (Some w) v has = fine_either (equal w v) (fine_value has) (fine_stop tt)
 
-  held_fine : (i : ℕ) (calls : Calls) → AreGood p U i calls
+  held_fine : (i : ℕ) (calls : CallMeaning) → AreGood p U i calls
       → (f : Function) (post : Option (CheckId × Expr)) (args : List Value)
       → is_sorted_post p.types p.functions post (param_sorts f.params ++ f.result ∷ []) ≡ true
       → AreMet p i (post_sites p.types p.functions post f.result (param_sorts f.params))
@@ -96,7 +99,7 @@ module _ (p : Program) (W : Answering) (answering : IsAnswering p W) where
       (v ∷ []) have (have_one p.types.ctors f.result v has)))
       (λ t. fine_either t (fine_value has) (fine_stop tt))
 
-  unfolded_fine : (i : ℕ) (calls : Calls) (g : FunctionId) → AreGood p U g.0 calls → (f : Function)
+  unfolded_fine : (i : ℕ) (calls : CallMeaning) (g : FunctionId) → AreGood p U g.0 calls → (f : Function)
       → slice_get p.functions g.0 ≡ Some f → (args : List Value) → Have p.types.ctors (param_sorts f.params) args
       → IsSorted p U i f.result (unfolded calls (answer g args) (Some f) g args)
   unfolded_fine i calls g good f is args have =
@@ -113,7 +116,7 @@ module _ (p : Program) (W : Answering) (answering : IsAnswering p W) where
       → IsSorted p U i f.result (calls_of n frame g pre down args)
   called_fine zero i frame g pre down args f is have = by (answer g args) refl
     where
-      by : (o : Option Value) → answer g args ≡ o → IsSorted p U i f.result (found o)
+      by : (o : Option Value) → answer g args ≡ o → IsSorted p U i f.result (or_deep o)
       by None e = fine_stop tt
       by (Some v) e = fine_value (answer_sorted g f args is have v e)
   called_fine (suc n) i frame g pre down args f is have =
@@ -190,6 +193,7 @@ module _ (p : Program) (W : Answering) (answering : IsAnswering p W) where
       by false e = cc
   done_value c (Err (stop.Inner g d)) v e = cc
   done_value c (Err stop.Deep) v e = cc
+  done_value c (Err stop.Stuck) v e = cc
 
   guess_sorted : (i : ℕ) (f : Function) (args : List Value) → IsCalled p i f args → (c : CheckId) (n : ℕ) (v : Value)
       → guess p.types.ctors p.functions f c args n W ≡ done v → Has p.types.ctors f.result v

@@ -1,5 +1,6 @@
 -- Answers that are true.
-use Rattle.std.proofs.Common.{◌≡◌, ◌≤◌, ℕ, zero, suc, Bool, true, false, List, Option, Some, None, Ok, Err, slice_get, refl, sym, ap, ◌∙◌}
+use Rattle.std.proofs.Common.{◌≡◌, ◌≤◌, ℕ, zero, suc, Bool, true, false, List, Option, Some, None, Ok, Err, slice_get}
+use Rattle.std.proofs.Common.{refl, sym, ap, ◌∙◌}
 use Rattle.pp_prog.specs.declared.expr.Function.{Function}
 use Rattle.pp_prog.specs.declared.id.CheckId.{CheckId}
 use Rattle.pp_prog.specs.declared.id.FunctionId.{FunctionId}
@@ -7,15 +8,15 @@ use Rattle.pp_prog.specs.declared.types.Ctor.{Ctor}
 use Rattle.pp_prog.specs.declared.value.Value.{Value}
 use Rattle.pp_eval.specs.declared.outcome.Outcome.TheVariants.{Done}
 use Rattle.pp_eval.specs.declared.outcome.Stop.TheVariants as stop
-use Rattle.pp_eval.specs.Calls.{admits}
+use Rattle.pp_eval.specs.Invocation.{admits}
 use Rattle.pp_eval.specs.Equality.{equal}
-use Rattle.pp_eval.specs.Meaning.{Calls, Frame, meaning}
-use Rattle.pp_eval.specs.Part.{Part, and_then, either, found, inside}
+use Rattle.pp_eval.specs.Meaning.{CallMeaning, Frame, meaning}
+use Rattle.pp_eval.specs.Part.{Part, and_then, either, inside}
 use Rattle.pp_eval.specs.Runs.{run_at}
 use Rattle.pp_eval.proofs.Lasts.{lasts}
 use Rattle.pp_eval.proofs.Trees.{equal_same}
 use Rattle.pp_guess_runs.specs.Answers.{answers_of, truth, value_done}
-use Rattle.pp_guess_runs.specs.Guess.{agreed, called, compared, held, own_call, unfolded}
+use Rattle.pp_guess_runs.specs.Guess.{agreed, called, compared, held, or_deep, own_call, unfolded}
 use Rattle.pp_guess_runs.specs.Laws.{TruthAgrees, TruthGrows}
 
 -- a part that goes on to a value has one
@@ -36,7 +37,7 @@ agreed_value w v u e = by (equal w v) refl e
     by false is e = cc
 
 module _ (ctors : List Ctor) (fs : List Function) (n : ℕ) (g : FunctionId) (args : List Value) (v w : Value) where
-  unfolded_value : (calls : Calls) (o : Option Function) → unfolded calls (Some w) o g args ≡ Ok v → v ≡ w
+  unfolded_value : (calls : CallMeaning) (o : Option Function) → unfolded calls (Some w) o g args ≡ Ok v → v ≡ w
   unfolded_value calls None e = cc
   unfolded_value calls (Some f) e =
       let b = then_value (meaning calls f.body None args) (λ u. and_then (held calls f.post args u) (agreed (Some w)))
@@ -50,14 +51,15 @@ module _ (ctors : List Ctor) (fs : List Function) (n : ℕ) (g : FunctionId) (ar
   called_value : run_at ctors fs (slice_get fs g.0) args n ≡ Done w
       → (m : ℕ) (frame : Frame) (pre down : Option CheckId)
       → called fs (answers_of ctors fs (truth n)) m frame g pre down args ≡ Ok v → v ≡ w
-  called_value e zero frame pre down h = let same : Ok v ≡ Ok w = sym h ∙ ap found (answered e) in cc
+  called_value e zero frame pre down h = let same : Ok v ≡ Ok w = sym h ∙ ap or_deep (answered e) in cc
   called_value e (suc m) frame pre down h =
       unfolded_value (called fs (answers_of ctors fs (truth n)) m) (slice_get fs g.0)
       (sym (ap (λ o. unfolded (called fs (answers_of ctors fs (truth n)) m) o (slice_get fs g.0) g args) (answered e))
       ∙ h)
 
   own_value : run_at ctors fs (slice_get fs g.0) args n ≡ Done w
-      → (c : CheckId) (m : ℕ) (o : Option Function) (contracts : Calls) (frame : Frame) (pre down : Option CheckId)
+      → (c : CheckId) (m : ℕ) (o : Option Function) (contracts : CallMeaning) (frame : Frame)
+      (pre down : Option CheckId)
       → own_call ctors c contracts (called fs (answers_of ctors fs (truth n)) m) o frame g pre down args ≡ Ok v → v ≡ w
   own_value e c m None contracts frame pre down h = cc
   own_value e c m (Some f) contracts frame pre down h =

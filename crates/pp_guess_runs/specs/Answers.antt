@@ -1,7 +1,8 @@
 -- What answers the calls that a guess run doesn't unfold: a finite table of values of the results' sorts, or the
 -- values of the real runs with some fuel. Source: Suter, Köksal, Kuncak, Satisfiability Modulo Recursive Programs,
 -- SAS 2011, where unfinished calls are left uninterpreted; the table of values is own.
-use Rattle.std.specs.Prelude.{◌≡◌, ℕ, nat_eq, Bool, ◌&&◌, if◌then◌else◌, List, [], ◌∷◌, map, Option, Some, None, IsTrue, slice_get, Contains}
+use Rattle.std.specs.Prelude.{◌≡◌, ℕ, nat_eq, Bool, ◌&&◌, if◌then◌else◌, List, [], ◌∷◌, map, Option, Some, None, IsTrue}
+use Rattle.std.specs.Prelude.{slice_get, Contains}
 use Rattle.pp_prog.specs.declared.expr.Function.{Function}
 use Rattle.pp_prog.specs.declared.id.FunctionId.{FunctionId}
 use Rattle.pp_prog.specs.declared.program.Program.{Program}

@@ -1,6 +1,7 @@
 -- A call whose precondition is true and whose own calls are known has a value: the body's, of which the postcondition
 -- is true.
-use Rattle.std.proofs.Common.{◌≡◌, ℕ, zero, suc, Bool, true, false, List, [], ◌∷◌, ◌++◌, Option, Some, None, Ok, Err, map, refl, sym, ap, ◌∙◌, subst, arith}
+use Rattle.std.proofs.Common.{◌≡◌, ℕ, zero, suc, Bool, true, false, List, [], ◌∷◌, ◌++◌, Option, Some, None, Ok, Err}
+use Rattle.std.proofs.Common.{map, refl, sym, ap, ◌∙◌, subst, arith}
 use Rattle.pp_prog.specs.declared.expr.Expr.{Expr}
 use Rattle.pp_prog.specs.declared.expr.Function.{Function}
 use Rattle.pp_prog.specs.declared.id.CheckId.{CheckId}
@@ -13,10 +14,10 @@ use Rattle.pp_prog.specs.Listing.{post_sites}
 use Rattle.pp_prog.specs.Sorts.{param_sorts}
 use Rattle.pp_eval.specs.declared.outcome.Outcome.TheVariants.{Done, Outside}
 use Rattle.pp_eval.specs.declared.outcome.Stop.TheVariants as stop
-use Rattle.pp_eval.specs.Calls.{calls_to}
-use Rattle.pp_eval.specs.Meaning.{Calls, Frame, meaning}
+use Rattle.pp_eval.specs.Invocation.{calls_to}
+use Rattle.pp_eval.specs.Meaning.{CallMeaning, Frame, meaning}
 use Rattle.pp_eval.specs.Operators.{truth}
-use Rattle.pp_eval.specs.Part.{Part, and_then, either, found, inside}
+use Rattle.pp_eval.specs.Part.{Part, and_then, either, inside}
 use Rattle.pp_eval.specs.Runs.{finished, run, run_at, started}
 use Rattle.pp_eval.proofs.Trees.{equal_self}
 use Rattle.pp_sound.specs.Sound.{IsCalled, IsCheckOf}
@@ -31,7 +32,7 @@ use Rattle.pp_run_laws.proofs.Eventually.{Eventually, both_eventually, mapped, t
 use Rattle.pp_run_laws.proofs.Follows.{Comes}
 use Rattle.pp_run_laws.proofs.Parts.{done_run}
 use Rattle.pp_guess_runs.specs.Answers.{answers_of, truth as true_with, value_done}
-use Rattle.pp_guess_runs.specs.Guess.{agreed, held, unfolded}
+use Rattle.pp_guess_runs.specs.Guess.{agreed, held, or_deep, unfolded}
 use Rattle.pp_induction.specs.Ends.{IsSettled}
 use Rattle.pp_induction.proofs.Callees.{AreKnown}
 use Rattle.pp_induction.proofs.Contracts.{Enters}
@@ -40,14 +41,14 @@ use Rattle.pp_induction.proofs.Parts.{claimed, claimed_follows, known_follows}
 use Rattle.pp_induction.proofs.Refuted.{FailIn, Settled, part_settles, refuted, runs_in}
 use Rattle.pp_induction.proofs.Views.{View, called_over, calls_in, frame_in, frame_kept, in_called, in_run}
 
-claimed_same : (c d : Calls) (post : Option (CheckId × Expr)) → SameAt (post_calls post) c d → (frame : Frame)
+claimed_same : (c d : CallMeaning) (post : Option (CheckId × Expr)) → SameAt (post_calls post) c d → (frame : Frame)
     (args : List Value) (v : Value) → claimed c post frame args v ≡ claimed d post frame args v
 claimed_same c d None same frame args v = refl
 claimed_same c d (Some post) same frame args v =
     ap (λ q. and_then q truth) (expr_same c d post.1 same frame (args ++ v ∷ []))
 
 -- the postcondition of a run, and that of a call of a guess run, by whether it is true
-finished_claimed : (c : Calls) (post : Option (CheckId × Expr)) (frame : Frame) (args : List Value) (v : Value)
+finished_claimed : (c : CallMeaning) (post : Option (CheckId × Expr)) (frame : Frame) (args : List Value) (v : Value)
     → claimed c post frame args v ≡ Ok true → finished c post frame args v ≡ Ok (Done v)
 finished_claimed c None frame args v e = refl
 finished_claimed c (Some post) frame args v e = by (meaning c post.1 frame (args ++ v ∷ [])) e
@@ -57,7 +58,7 @@ finished_claimed c (Some post) frame args v e = by (meaning c post.1 frame (args
     by (Ok x) e = ap (λ q. and_then q (λ t. either t (Ok (Done v)) (Err (stop.Fails post.0)))) e
     by (Err s) e = cc
 
-finished_stops : (c : Calls) (post : Option (CheckId × Expr)) (frame : Frame) (args : List Value) (v : Value)
+finished_stops : (c : CallMeaning) (post : Option (CheckId × Expr)) (frame : Frame) (args : List Value) (v : Value)
     (d : CheckId)
     → claimed c post frame args v ≡ Err (stop.Fails d) → finished c post frame args v ≡ Err (stop.Fails d)
 finished_stops c None frame args v d e = cc
@@ -69,7 +70,7 @@ finished_stops c (Some post) frame args v d e = by (meaning c post.1 frame (args
     by (Ok x) e = ap (λ q. and_then q (λ t. either t (Ok (Done v)) (Err (stop.Fails post.0)))) e
     by (Err s) e = ap (λ q. and_then q (λ t. either t (Ok (Done v)) (Err (stop.Fails post.0)))) e
 
-finished_refused : (c : Calls) (post : CheckId × Expr) (frame : Frame) (args : List Value) (v : Value)
+finished_refused : (c : CallMeaning) (post : CheckId × Expr) (frame : Frame) (args : List Value) (v : Value)
     → claimed c (Some post) frame args v ≡ Ok false → finished c (Some post) frame args v ≡ Err (stop.Fails post.0)
 finished_refused c post frame args v e = by (meaning c post.1 frame (args ++ v ∷ [])) e
   where
@@ -79,7 +80,7 @@ finished_refused c post frame args v e = by (meaning c post.1 frame (args ++ v �
     by (Ok x) e = ap (λ q. and_then q (λ t. either t (Ok (Done v)) (Err (stop.Fails post.0)))) e
     by (Err s) e = cc
 
-held_claimed : (c : Calls) (post : Option (CheckId × Expr)) (args : List Value) (v : Value)
+held_claimed : (c : CallMeaning) (post : Option (CheckId × Expr)) (args : List Value) (v : Value)
     → claimed c post None args v ≡ Ok true → held c post args v ≡ Ok v
 held_claimed c None args v e = refl
 held_claimed c (Some post) args v e = by (meaning c post.1 None (args ++ v ∷ [])) e
@@ -92,7 +93,7 @@ held_claimed c (Some post) args v e = by (meaning c post.1 None (args ++ v ∷ [
 module _ (p : Program) (g : FunctionId) (f : Function) (args : List Value) (is_called : IsCalled p g.0 f args)
     (settled : (c : CheckId) → IsCheckOf p g.0 c.0 → IsSettled p g.0 c) (new : Frame) (enters : Enters p g.0 f args new)
     (known : AreKnown p g.0 new (function_calls f)) where
-  abbrev viewed : View → ℕ → Calls
+  abbrev viewed : View → ℕ → CallMeaning
   viewed v m = calls_in p.types.ctors p.functions v m
 
   abbrev BodyComes : Value → Type 0
@@ -139,7 +140,7 @@ module _ (p : Program) (g : FunctionId) (f : Function) (args : List Value) (is_c
       (λ v. known_follows p g.0 new (function_calls f) known v f.body args)
       (λ c is stops. refuted p g.0 f args is_called c (settled c is) (stops_third c stops))
 
-  claimed_fine : (w : Value) → Has p.types.ctors f.result w → (D : Type 0) (cs : Calls) → AreGood p D g.0 cs
+  claimed_fine : (w : Value) → Has p.types.ctors f.result w → (D : Type 0) (cs : CallMeaning) → AreGood p D g.0 cs
       → IsFine (MayStop p D g.0) (IsAny {A = Bool}) (claimed cs f.post new args w)
   claimed_fine w has D cs good = let k = whole p g.0 f is_called.function in by f.post k.post_sorted k.post_met
     where
@@ -204,7 +205,7 @@ module _ (p : Program) (g : FunctionId) (f : Function) (args : List Value) (is_c
 
     called_comes : (n : ℕ) (frame : Frame) (pre down : Option CheckId)
         → Comes (λ m. called_over p.types.ctors p.functions n m frame g pre down args) w
-    called_comes zero frame pre down = mapped answer_comes (λ m e. ap found e)
+    called_comes zero frame pre down = mapped answer_comes (λ m e. ap or_deep e)
     called_comes (suc n) frame pre down =
         both_eventually answer_comes (together (body (in_called n)) (claim (in_called n))) (λ m a k.
         let cs = called_over p.types.ctors p.functions n m in

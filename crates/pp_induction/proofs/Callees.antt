@@ -1,5 +1,6 @@
 -- What is known of the calls of a function: the fate of each, on arguments of the parameters' sorts.
-use Rattle.std.proofs.Common.{◌≡◌, ◌⊎◌, ℕ, true, false, List, Option, Some, None, Ok, Err, is_some, IsTrue, Contains, slice_get, refl, sym, ap, ◌∙◌, subst, inl, inr, arith}
+use Rattle.std.proofs.Common.{◌≡◌, ◌⊎◌, ℕ, true, false, List, Option, Some, None, Ok, Err, is_some, IsTrue, Contains}
+use Rattle.std.proofs.Common.{slice_get, refl, sym, ap, ◌∙◌, subst, inl, inr, arith}
 use Rattle.std.specs.Prelude.{⊤}
 use Rattle.pp_prog.specs.declared.expr.Expr.{Expr}
 use Rattle.pp_prog.specs.declared.expr.Function.{Function}
@@ -13,20 +14,22 @@ use Rattle.pp_prog.specs.Listing.{measure, precondition}
 use Rattle.pp_prog.specs.Sorts.{param_sorts}
 use Rattle.pp_prog.specs.Valid.{has_measure, has_precondition}
 use Rattle.pp_eval.specs.declared.outcome.Stop.TheVariants.{Fails}
-use Rattle.pp_eval.specs.Calls.{descends, calls_to}
-use Rattle.pp_eval.specs.Meaning.{Calls, Frame}
+use Rattle.pp_eval.specs.Invocation.{allowed, calls_to, descends}
+use Rattle.pp_eval.specs.Meaning.{CallMeaning, Frame}
 use Rattle.pp_eval.specs.Measure.{is_below}
-use Rattle.pp_eval.specs.Part.{Part, and_then, either, failed, found}
-use Rattle.pp_eval.specs.Runs.{allowed}
+use Rattle.pp_eval.specs.Part.{Part, and_then, either, failed}
 use Rattle.pp_sound.specs.Sound.{AnswersSorted}
 use Rattle.pp_sound.proofs.Env.{Have}
 use Rattle.pp_sound.proofs.Exprs.{AreGood}
 use Rattle.pp_sound.proofs.Laws.{keep_sorts}
-use Rattle.pp_sound.proofs.Parts.{IsAny, IsFine, IsOwn, IsSorted, MayStop, fine_failed, fine_stop, fine_then, fine_value}
+use Rattle.pp_sound.proofs.Parts.{IsAny, IsFine, IsOwn, IsSorted, MayStop, fine_failed, fine_stop, fine_then}
+use Rattle.pp_sound.proofs.Parts.{fine_value}
 use Rattle.pp_sound.proofs.Sites.{IsMet}
 use Rattle.pp_run_laws.specs.Laws.{SameAt}
 use Rattle.pp_run_laws.proofs.Known.{answers_good, contains_or_not}
-use Rattle.pp_induction.proofs.Fates.{Fate, FailsDescent, IsContract, IsTold, IsToldCall, descent, fate_part, reaches, refused}
+use Rattle.pp_guess_runs.specs.Guess.{or_deep}
+use Rattle.pp_induction.proofs.Fates.{Fate, FailsDescent, IsContract, IsTold, IsToldCall, descent, fate_part, reaches}
+use Rattle.pp_induction.proofs.Fates.{refused}
 use Rattle.pp_induction.proofs.Ready.{IsReady, ready, ready_there}
 
 module _ (p : Program) (i : ℕ) (old : Frame) where
@@ -77,7 +80,7 @@ module _ (p : Program) (i : ℕ) (old : Frame) where
     told_at g args = told_of g args (ready p.types.ctors p.functions gs g args)
 
     -- calls that do what is known of them; what isn't known is Deep
-    abbrev pub known_calls : Calls
+    abbrev pub known_calls : CallMeaning
     known_calls frame g pre down args = fate_part p.types.ctors old (fate_at g args) pre down
 
     -- ---- what these calls come to is fine
@@ -108,18 +111,18 @@ module _ (p : Program) (i : ℕ) (old : Frame) where
 
       not_below_fine : (g : FunctionId) (new : Frame) (down : Option CheckId) (s : Sort) → IsNotBelow g new
           → IsMet p i (measure g down) → IsSorted p D i s (and_then (descends p.types.ctors down old new)
-          (λ _. found None))
+          (λ _. or_deep None))
       not_below_fine g new down s not met = by down (met.carries.1 (not.group, not.mine, not.its)) met.own
         where
           by : (check : Option CheckId) → is_some check ≡ true → IsOwn p i check
-              → IsSorted p D i s (and_then (descends p.types.ctors check old new) (λ _. found None))
+              → IsSorted p D i s (and_then (descends p.types.ctors check old new) (λ _. or_deep None))
           by None some own = cc
           by (Some c) some own =
               subst (λ (o : Frame). IsSorted p D i s (and_then (descends p.types.ctors (Some c) o new)
-              (λ _. found None))) (sym not.old_is)
+              (λ _. or_deep None))) (sym not.old_is)
               (subst (λ (o : Frame). IsSorted p D i s (and_then (descends p.types.ctors (Some c) (Some not.olds) o)
-              (λ _. found None))) (sym not.new_is)
-              (subst (λ t. IsSorted p D i s (and_then (either t (Ok tt) (Err (Fails c))) (λ _. found None)))
+              (λ _. or_deep None))) (sym not.new_is)
+              (subst (λ t. IsSorted p D i s (and_then (either t (Ok tt) (Err (Fails c))) (λ _. or_deep None)))
               (sym not.apart) (fine_stop own)))
 
       fate_fine : (frame : Frame) (g : FunctionId) (pre down : Option CheckId) (args : List Value) (h : Function)
@@ -153,15 +156,15 @@ module _ (p : Program) (i : ℕ) (old : Frame) where
           (fate_fine frame g pre down args r.0.callee r.0.is r.0.have met_pre met_down k.fate k.told k.enough))
 
       -- what isn't known does something else
-      else_calls : Calls → (g : FunctionId) → Contains gs g.0 ⊎ (Contains gs g.0 → ⊥) → Frame → Option CheckId
+      else_calls : CallMeaning → (g : FunctionId) → Contains gs g.0 ⊎ (Contains gs g.0 → ⊥) → Frame → Option CheckId
           → Option CheckId → List Value → Part Value
       else_calls deeper g (inl near) frame pre down args = known_calls frame g pre down args
       else_calls deeper g (inr never) frame pre down args = deeper frame g pre down args
 
-      mixed : Calls → Calls
+      mixed : CallMeaning → CallMeaning
       mixed deeper frame g pre down args = else_calls deeper g (contains_or_not gs g.0) frame pre down args
 
-      mixed_good : (deeper : Calls) → AreGood p D i deeper → AreGood p D i (mixed deeper)
+      mixed_good : (deeper : CallMeaning) → AreGood p D i deeper → AreGood p D i (mixed deeper)
       unfolding mixed else_calls
       mixed_good deeper good =
           record {
@@ -180,7 +183,7 @@ module _ (p : Program) (i : ℕ) (old : Frame) where
           by g (inr never) frame pre down args h is have met_pre met_down =
               good.part frame g pre down args h is have met_pre met_down
 
-      mixed_same : (deeper : Calls) → SameAt gs known_calls (mixed deeper)
+      mixed_same : (deeper : CallMeaning) → SameAt gs known_calls (mixed deeper)
       unfolding mixed else_calls
       mixed_same deeper frame g has pre down args = by (contains_or_not gs g.0)
         where
@@ -217,11 +220,11 @@ module _ (p : Program) (i : ℕ) (old : Frame) where
 
     -- calls of these functions that are known, and others that are answered by values of the sorts, so that none is
     -- Deep
-    pub record Completed (calls : Calls) : Type 0 where
+    pub record Completed (calls : CallMeaning) : Type 0 where
       pub same : SameAt gs known_calls calls
       pub good : AreGood p ⊥ i calls
 
-    pub complete : (deeper : Calls) → AnswersSorted p deeper → (calls : Calls) × Completed calls
+    pub complete : (deeper : CallMeaning) → AnswersSorted p deeper → (calls : CallMeaning) × Completed calls
     complete deeper answers = (
       mixed ⊥ deeper,
       record {

@@ -10,10 +10,10 @@ use Rattle.pp_prog.specs.ExprSorts.{is_sorted_pre}
 use Rattle.pp_prog.specs.Listing.{pre_sites}
 use Rattle.pp_prog.specs.Sorts.{param_sorts}
 use Rattle.pp_eval.specs.declared.outcome.Outcome.TheVariants.{Outside}
-use Rattle.pp_eval.specs.Calls.{frame_of}
-use Rattle.pp_eval.specs.Meaning.{Calls, Frame, meaning}
+use Rattle.pp_eval.specs.Invocation.{allowed, frame_of}
+use Rattle.pp_eval.specs.Meaning.{CallMeaning, Frame, meaning}
 use Rattle.pp_eval.specs.Part.{and_then, either}
-use Rattle.pp_eval.specs.Runs.{allowed, finished, started}
+use Rattle.pp_eval.specs.Runs.{finished, started}
 use Rattle.pp_sound.specs.Sound.{IsCalled, IsCheckOf}
 use Rattle.pp_sound.proofs.Calls.{condition_fine, whole}
 use Rattle.pp_sound.proofs.Exprs.{AreGood}
@@ -45,7 +45,7 @@ module _ (p : Program) (i : ℕ) (f : Function) (args : List Value) where
 
   module _ (called : IsCalled p i f args) (settled : (c : CheckId) → IsCheckOf p i c.0 → IsSettled p i c)
       (known : AreKnown p i None (contract_calls f)) where
-    allowed_fine : (D : Type 0) (cs : Calls) → AreGood p D i cs
+    allowed_fine : (D : Type 0) (cs : CallMeaning) → AreGood p D i cs
         → IsFine (MayStop p D i) (IsAny {A = Bool}) (allowed cs f.pre args)
     allowed_fine D cs good = let w = whole p i f called.function in by f.pre w.pre_sorted w.pre_met
       where

@@ -1,5 +1,6 @@
 -- What is known of a call: that its precondition is false, or its measure values, and for some its value.
-use Rattle.std.proofs.Common.{◌≡◌, ℕ, Bool, true, false, List, Option, Some, None, Ok, Err, slice_get, refl, sym, ap, ◌∙◌, subst, ◌⊎◌, inl, inr, eq-eqb}
+use Rattle.std.proofs.Common.{◌≡◌, ℕ, Bool, true, false, List, Option, Some, None, Ok, Err, slice_get, refl, sym, ap}
+use Rattle.std.proofs.Common.{◌∙◌, subst, ◌⊎◌, inl, inr, eq-eqb}
 use Rattle.std.specs.Prelude.{⊤}
 use Rattle.pp_prog.specs.declared.expr.Function.{Function}
 use Rattle.pp_prog.specs.declared.id.CheckId.{CheckId}
@@ -9,17 +10,19 @@ use Rattle.pp_prog.specs.declared.value.Value.{Value}
 use Rattle.pp_eval.specs.declared.outcome.Outcome.TheVariants.{Done}
 use Rattle.pp_eval.specs.declared.outcome.Stop.{Stop}
 use Rattle.pp_eval.specs.declared.outcome.Stop.TheVariants.{Deep, Fails}
-use Rattle.pp_eval.specs.Calls.{calls_to, descends, enters, frame_of}
-use Rattle.pp_eval.specs.Meaning.{Calls, Frame, meaning}
+use Rattle.pp_eval.specs.Invocation.{allowed, calls_to, descends, enters, frame_of}
+use Rattle.pp_eval.specs.Meaning.{CallMeaning, Frame, meaning}
 use Rattle.pp_eval.specs.Measure.{is_below}
-use Rattle.pp_eval.specs.Part.{Part, and_then, either, failed, found, inside}
-use Rattle.pp_eval.specs.Runs.{allowed, run}
+use Rattle.pp_eval.specs.Part.{Part, and_then, either, failed, inside}
+use Rattle.pp_eval.specs.Runs.{run}
 use Rattle.pp_run_laws.proofs.Eventually.{Eventually, both_eventually, mapped}
-use Rattle.pp_run_laws.proofs.Follows.{Comes, Follows, Stops, comes_inside, follows_comes, follows_eventually, follows_later, follows_lost, follows_same, follows_then}
-use Rattle.pp_run_laws.proofs.Parts.{admits_is, entered_call, refused_call}
+use Rattle.pp_run_laws.proofs.Follows.{Comes, Follows, Stops, comes_inside, follows_comes, follows_eventually}
+use Rattle.pp_run_laws.proofs.Follows.{follows_later, follows_lost, follows_same, follows_then}
+use Rattle.pp_run_laws.proofs.Parts.{entered_call, refused_call}
 use Rattle.pp_run_laws.proofs.Stops.{failed_stops}
-use Rattle.pp_guess_runs.specs.Guess.{compared, is_check, one_less, own_call}
-use Rattle.pp_induction.proofs.Views.{IsKept, NotInner, View, called_over, calls_in, deep_lost, frame_in, in_called, in_own, in_run}
+use Rattle.pp_guess_runs.specs.Guess.{compared, is_check, one_less, or_deep, own_call}
+use Rattle.pp_induction.proofs.Views.{IsKept, NotInner, View, called_over, calls_in, deep_lost, frame_in, in_called}
+use Rattle.pp_induction.proofs.Views.{in_own, in_run}
 
 -- the call is refused by the precondition, or reaches its body in a frame, and has the value if one is known
 pub data Fate : Type 0 where
@@ -34,11 +37,11 @@ admitted pre t = either t (Ok tt) (failed pre)
 abbrev pub fate_part : List Ctor → Frame → Option Fate → Option CheckId → Option CheckId → Part Value
 fate_part ctors old None pre down = Err Deep
 fate_part ctors old (Some refused) pre down = failed pre
-fate_part ctors old (Some (reaches new value)) pre down = and_then (descends ctors down old new) (λ _. found value)
+fate_part ctors old (Some (reaches new value)) pre down = and_then (descends ctors down old new) (λ _. or_deep value)
 
 module _ (ctors : List Ctor) (fs : List Function) where
   -- the part of a contract comes to this value in real runs and in called frames
-  pub record IsContract {A : Type 0} (part : Calls → Part A) (a : A) : Type 0 where
+  pub record IsContract {A : Type 0} (part : CallMeaning → Part A) (a : A) : Type 0 where
     pub run : Comes (λ m. part (calls_to ctors fs m)) a
     pub called : (n : ℕ) → Comes (λ m. part (called_over ctors fs n m)) a
 
@@ -107,10 +110,10 @@ module _ (ctors : List Ctor) (fs : List Function) where
         by (inr f) = subst (Stops NotInner) (sym f.part) tt
 
     -- nothing is known of the call's value, or it is that of the parts
-    found_follows : (v : View) (known : Option Value) (parts : ℕ → Part Value)
-        → ((w : Value) → known ≡ Some w → Comes parts w) → Follows NotInner (IsKept v) (found known) parts
-    found_follows v None parts h = follows_lost tt (deep_lost v)
-    found_follows v (Some w) parts h = follows_comes (h w refl)
+    known_follows : (v : View) (known : Option Value) (parts : ℕ → Part Value)
+        → ((w : Value) → known ≡ Some w → Comes parts w) → Follows NotInner (IsKept v) (or_deep known) parts
+    known_follows v None parts h = follows_lost tt (deep_lost v)
+    known_follows v (Some w) parts h = follows_comes (h w refl)
 
     module _ (h : Function) (is : slice_get fs g.0 ≡ Some h) where
       value_known : (new : Frame) (known : Option Value) → MayHaveValue g h args new known → (w : Value)
@@ -126,7 +129,7 @@ module _ (ctors : List Ctor) (fs : List Function) where
       run_follows (reaches new known) told =
           follows_later (follows_eventually
           (follows_then (descends_same (IsKept in_run) new)
-          (λ _. found_follows in_run known (λ m. inside g (meaning (calls_to ctors fs m) h.body new args))
+          (λ _. known_follows in_run known (λ m. inside g (meaning (calls_to ctors fs m) h.body new args))
           (λ w e. comes_inside g (value_known new known told.value w e).body)))
           (both_eventually told.allowed.run told.measured.run (λ m a f.
           ap (λ o. enters (calls_to ctors fs m) ctors o old g pre down args) is ∙ entered_call (calls_to ctors fs m)
@@ -134,7 +137,7 @@ module _ (ctors : List Ctor) (fs : List Function) where
 
       -- ---- in a guess run's own frame
 
-      module _ (c : CheckId) (contracts outer : Calls) where
+      module _ (c : CheckId) (contracts outer : CallMeaning) where
         goes_on : (t : Bool) → allowed contracts h.pre args ≡ Ok t
             → own_call ctors c contracts outer (Some h) old g pre down args
             ≡ and_then (admitted pre t) (λ _. and_then (compared ctors c contracts h.measure g down old args)
@@ -142,8 +145,7 @@ module _ (ctors : List Ctor) (fs : List Function) where
         goes_on t e =
             ap (λ q. and_then q (λ _. and_then (compared ctors c contracts h.measure g down old args)
             (λ _. outer old g pre down args)))
-            (admits_is contracts g h.pre pre args ∙ ap (λ q. and_then (inside g q)
-            (λ t. either t (Ok tt) (failed pre))) e)
+            (ap (λ q. and_then (inside g q) (λ t. either t (Ok tt) (failed pre))) e)
 
         own_refused : allowed contracts h.pre args ≡ Ok false
             → own_call ctors c contracts outer (Some h) old g pre down args ≡ failed pre
@@ -204,8 +206,8 @@ module _ (ctors : List Ctor) (fs : List Function) where
           ∙ own_refused c (called_over ctors fs (one_less n) m) (called_over ctors fs n m) e))
       own_follows c n (reaches new known) told =
           follows_eventually
-          (compared_follows c n new (found known) (λ m. called_over ctors fs n m old g pre down args)
-          (found_follows (in_own c n) known (λ m. called_over ctors fs n m old g pre down args)
+          (compared_follows c n new (or_deep known) (λ m. called_over ctors fs n m old g pre down args)
+          (known_follows (in_own c n) known (λ m. called_over ctors fs n m old g pre down args)
           (λ w e. (value_known new known told.value w e).called n old pre down)))
           (both_eventually (told.allowed.called (one_less n)) (told.measured.called (one_less n)) (λ m a f.
           ap (λ o. own_call ctors c (called_over ctors fs (one_less n) m) (called_over ctors fs n m) o old g pre down
@@ -224,12 +226,12 @@ module _ (ctors : List Ctor) (fs : List Function) where
           by : (descends ctors down old new ≡ Ok tt) ⊎ FailsDescent down old new
               → IsFollowed (in_called n) (Some (reaches new known))
           by (inl e) =
-              subst (λ q. Follows NotInner (IsKept (in_called n)) (and_then q (λ _. found known))
+              subst (λ q. Follows NotInner (IsKept (in_called n)) (and_then q (λ _. or_deep known))
               (λ m. called_over ctors fs n m None g pre down args)) (sym e)
-              (found_follows (in_called n) known _ (λ w e. (value_known new known told.value w e).called n None pre
+              (known_follows (in_called n) known _ (λ w e. (value_known new known told.value w e).called n None pre
               down))
           by (inr f) =
-              subst (λ q. Follows NotInner (IsKept (in_called n)) (and_then q (λ _. found known))
+              subst (λ q. Follows NotInner (IsKept (in_called n)) (and_then q (λ _. or_deep known))
               (λ m. called_over ctors fs n m None g pre down args)) (sym f.part)
               (follows_lost tt (λ s. s))
 

@@ -4,11 +4,10 @@ use Rattle.pp_prog.specs.declared.expr.Expr.{Expr}
 use Rattle.pp_prog.specs.declared.id.CheckId.{CheckId}
 use Rattle.pp_prog.specs.declared.program.Program.{Program}
 use Rattle.pp_prog.specs.declared.value.Value.{Value}
-use Rattle.pp_eval.specs.Calls.{frame_of}
-use Rattle.pp_eval.specs.Meaning.{Calls, Frame, all_from, meaning}
+use Rattle.pp_eval.specs.Invocation.{allowed, frame_of}
+use Rattle.pp_eval.specs.Meaning.{CallMeaning, Frame, all_from, meaning}
 use Rattle.pp_eval.specs.Operators.{truth}
 use Rattle.pp_eval.specs.Part.{Part, and_then}
-use Rattle.pp_eval.specs.Runs.{allowed}
 use Rattle.pp_run_laws.proofs.ExprFollows.{expr_follows}
 use Rattle.pp_run_laws.proofs.Follows.{Follows, follows_same, follows_then, follows_value}
 use Rattle.pp_run_laws.proofs.Stops.{truth_stops}
@@ -17,15 +16,15 @@ use Rattle.pp_induction.proofs.Fates.{fate_follows}
 use Rattle.pp_induction.proofs.Views.{IsKept, NotInner, View, calls_in, frame_in, frame_none, not_inner_closed}
 
 -- whether the postcondition is true of the arguments and the result; none always is
-abbrev pub claimed : Calls → Option (CheckId × Expr) → Frame → List Value → Value → Part Bool
+abbrev pub claimed : CallMeaning → Option (CheckId × Expr) → Frame → List Value → Value → Part Bool
 claimed calls None frame args v = Ok true
 claimed calls (Some post) frame args v = and_then (meaning calls post.1 frame (args ++ v ∷ [])) truth
 
 module _ (p : Program) (i : ℕ) (old : Frame) (gs : List ℕ) (known : AreKnown p i old gs) (v : View) where
-  abbrev ideal : Calls
+  abbrev ideal : CallMeaning
   ideal = known_calls p i old gs known
 
-  abbrev viewed : ℕ → Calls
+  abbrev viewed : ℕ → CallMeaning
   viewed m = calls_in p.types.ctors p.functions v m
 
   pub known_follows : (e : Expr) (env : List Value)

@@ -1,6 +1,7 @@
 -- Each call of a function of the cone is known: by induction on the rank of the function, and inside a group on its
 -- measure.
-use Rattle.std.proofs.Common.{◌≡◌, ◌⊎◌, ◌==◌, ◌<◌, ℕ, zero, suc, Bool, true, false, List, Some, None, Contains, length, slice_get, refl, sym, ap, ◌∙◌, subst, arith, inl, inr}
+use Rattle.std.proofs.Common.{◌≡◌, ◌⊎◌, ◌==◌, ◌<◌, ℕ, zero, suc, Bool, true, false, List, Some, None, Contains, length}
+use Rattle.std.proofs.Common.{slice_get, refl, sym, ap, ◌∙◌, subst, arith, inl, inr}
 use Rattle.std.proofs.lemmas.Bool.Decides.{eqb_tells}
 use Rattle.std.proofs.lemmas.Option.{slice_get_within}
 use Rattle.pp_graph.proofs.Decided.{group_or_not}
@@ -13,10 +14,10 @@ use Rattle.pp_prog.specs.Cone.{InCone}
 use Rattle.pp_prog.specs.Sorts.{param_sorts}
 use Rattle.pp_prog.specs.Valid.{has_measure, is_written}
 use Rattle.pp_eval.specs.declared.outcome.Outcome.TheVariants.{Done, Outside}
-use Rattle.pp_eval.specs.Calls.{calls_to}
+use Rattle.pp_eval.specs.Invocation.{allowed, calls_to}
 use Rattle.pp_eval.specs.Meaning.{Frame}
 use Rattle.pp_eval.specs.Measure.{is_below}
-use Rattle.pp_eval.specs.Runs.{IsGood, allowed, run}
+use Rattle.pp_eval.specs.Runs.{IsGood, run}
 use Rattle.pp_sound.specs.Sound.{IsCalled}
 use Rattle.pp_sound.proofs.Env.{Have}
 use Rattle.pp_checks.specs.declared.tables.Plan.{Plan}

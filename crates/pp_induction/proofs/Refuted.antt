@@ -8,8 +8,8 @@ use Rattle.pp_prog.specs.declared.program.Program.{Program}
 use Rattle.pp_prog.specs.declared.value.Value.{Value}
 use Rattle.pp_eval.specs.declared.outcome.Outcome.{Outcome}
 use Rattle.pp_eval.specs.declared.outcome.Outcome.TheVariants as outcome
-use Rattle.pp_eval.specs.declared.outcome.Stop.TheVariants.{Deep, Fails, Inner}
-use Rattle.pp_eval.specs.Meaning.{Calls, Frame}
+use Rattle.pp_eval.specs.declared.outcome.Stop.TheVariants.{Deep, Fails, Inner, Stuck}
+use Rattle.pp_eval.specs.Meaning.{CallMeaning, Frame}
 use Rattle.pp_eval.specs.Part.{Part}
 use Rattle.pp_eval.specs.Runs as runs
 use Rattle.pp_eval.specs.Runs.{run, run_with}
@@ -63,16 +63,16 @@ pub record Settled {A : Type 0} (V : A → Type 0) (parts : View → ℕ → Par
   pub comes : (v : View) → Comes (parts v) value
 
 module _ (p : Program) (i : ℕ) (old : Frame) (gs : List ℕ) (known : AreKnown p i old gs) where
-  abbrev ideal : Calls
+  abbrev ideal : CallMeaning
   ideal = known_calls p i old gs known
 
   ⊥_prop : IsProp ⊥
   ⊥_prop = hlevel
 
   -- a part over calls that are known settles, where the checks that it can fail aren't failed
-  pub part_settles : {A : Type 0} (V : A → Type 0) (part : Calls → Part A) (parts : View → ℕ → Part A)
-      → ((D : Type 0) (calls : Calls) → AreGood p D i calls → IsFine (MayStop p D i) V (part calls))
-      → ((calls : Calls) → SameAt gs ideal calls → part ideal ≡ part calls)
+  pub part_settles : {A : Type 0} (V : A → Type 0) (part : CallMeaning → Part A) (parts : View → ℕ → Part A)
+      → ((D : Type 0) (calls : CallMeaning) → AreGood p D i calls → IsFine (MayStop p D i) V (part calls))
+      → ((calls : CallMeaning) → SameAt gs ideal calls → part ideal ≡ part calls)
       → ((v : View) → Follows NotInner (IsKept v) (part ideal) (parts v))
       → ((c : CheckId) → IsCheckOf p i c.0 → FailIn c parts → ⊥)
       → Settled V parts
@@ -83,10 +83,11 @@ module _ (p : Program) (i : ℕ) (old : Frame) (gs : List ℕ) (known : AreKnown
       subst (IsFine (MayStop p ⊥ i) V) (sym (same k.0 k.1.same)) (fine ⊥ k.0 k.1.good))
     where
       by : (r : Part _) → IsFine (MayStop p (Unit {0}) i) V r → ((v : View) → Follows NotInner (IsKept v) r (parts v))
-          → ((deeper : Calls) → AnswersSorted p deeper → IsFine (MayStop p ⊥ i) V r) → Settled V parts
+          → ((deeper : CallMeaning) → AnswersSorted p deeper → IsFine (MayStop p ⊥ i) V r) → Settled V parts
       by (Ok a) h follows never = record { value = a; holds = h.told; comes = λ v. value_comes (follows v) }
       by (Err (Fails c)) h follows never = absurd (refute c h.told (λ v kept. stop_comes kept (follows v)))
       by (Err (Inner g c)) h follows never =
           let e = follows in_run in absurd (e.kept e.from (omega arith)).0
+      by (Err Stuck) h follows never = absurd h.told
       by (Err Deep) h follows never =
           absurd (∥∥₁_elim (can_answer_sorted p) ⊥_prop (λ k. (never k.0 k.1).told))

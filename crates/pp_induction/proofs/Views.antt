@@ -6,9 +6,9 @@ use Rattle.pp_prog.specs.declared.expr.Function.{Function}
 use Rattle.pp_prog.specs.declared.id.CheckId.{CheckId}
 use Rattle.pp_prog.specs.declared.types.Ctor.{Ctor}
 use Rattle.pp_eval.specs.declared.outcome.Stop.{Stop}
-use Rattle.pp_eval.specs.declared.outcome.Stop.TheVariants.{Deep, Fails, Inner}
-use Rattle.pp_eval.specs.Calls.{calls_to}
-use Rattle.pp_eval.specs.Meaning.{Calls, Frame}
+use Rattle.pp_eval.specs.declared.outcome.Stop.TheVariants.{Deep, Fails, Inner, Stuck}
+use Rattle.pp_eval.specs.Invocation.{calls_to}
+use Rattle.pp_eval.specs.Meaning.{CallMeaning, Frame}
 use Rattle.pp_run_laws.proofs.Stops.{IsClosed}
 use Rattle.pp_guess_runs.specs.Answers.{answers_of, truth}
 use Rattle.pp_guess_runs.specs.Guess.{called, own}
@@ -29,9 +29,10 @@ abbrev pub NotInner : Stop → Type 0
 NotInner (Fails c) = Unit {0}
 NotInner (Inner g c) = ⊥
 NotInner Deep = Unit {0}
+NotInner Stuck = Unit {0}
 
 pub not_inner_closed : IsClosed NotInner
-not_inner_closed = record { fails = λ c. tt; deep = tt }
+not_inner_closed = record { fails = λ c. tt; stuck = tt }
 
 -- which of these stops are kept: in real runs each failing check, in a guess run's own frame the check that is looked
 -- at, and in called frames none
@@ -39,9 +40,11 @@ abbrev pub IsKept : View → Stop → Type 0
 IsKept in_run (Fails c) = Unit {0}
 IsKept in_run (Inner g c) = ⊥
 IsKept in_run Deep = ⊥
+IsKept in_run Stuck = ⊥
 IsKept (in_own c n) (Fails d) = d.0 ≡ c.0
 IsKept (in_own c n) (Inner g d) = ⊥
 IsKept (in_own c n) Deep = ⊥
+IsKept (in_own c n) Stuck = ⊥
 IsKept (in_called n) x = ⊥
 
 -- where a failing check is kept, calls come from the frame itself
@@ -62,10 +65,10 @@ deep_lost (in_called n) h = h
 
 module _ (ctors : List Ctor) (fs : List Function) where
   -- calls of called frames with fuel n, over what is true with m
-  abbrev pub called_over : ℕ → ℕ → Calls
+  abbrev pub called_over : ℕ → ℕ → CallMeaning
   called_over n m = called fs (answers_of ctors fs (truth m)) n
 
-  abbrev pub calls_in : View → ℕ → Calls
+  abbrev pub calls_in : View → ℕ → CallMeaning
   calls_in in_run m = calls_to ctors fs m
   calls_in (in_own c n) m = own ctors fs (answers_of ctors fs (truth m)) c n
   calls_in (in_called n) m = called_over n m

@@ -1,6 +1,7 @@
 -- Calls of runs and of guess runs fail the check only where it is the site's, and where it is a plain descent not at
 -- all.
-use Rattle.std.proofs.Common.{◌≡◌, ◌⊎◌, ℕ, zero, suc, true, List, ◌∷◌, Option, Some, None, is_some, IsTrue, Ok, Err, slice_get, refl, sym, ap, ◌∙◌, subst, inl, inr}
+use Rattle.std.proofs.Common.{◌≡◌, ◌⊎◌, ℕ, zero, suc, true, List, ◌∷◌, Option, Some, None, is_some, IsTrue, Ok, Err}
+use Rattle.std.proofs.Common.{slice_get, refl, sym, ap, ◌∙◌, subst, inl, inr}
 use Rattle.std.specs.Prelude.{⊤}
 use Rattle.pp_prog.specs.declared.expr.Expr.{Expr}
 use Rattle.pp_prog.specs.declared.expr.Function.{Function}
@@ -12,11 +13,11 @@ use Rattle.pp_prog.specs.Calls.{OneGroup}
 use Rattle.pp_prog.specs.Listing.{measure}
 use Rattle.pp_prog.specs.Sorts.{param_sorts}
 use Rattle.pp_prog.specs.Valid.{has_measure, is_written}
-use Rattle.pp_eval.specs.declared.outcome.Stop.TheVariants.{Deep, Fails, Inner}
-use Rattle.pp_eval.specs.Calls.{admits, calls_to, descends, enters, frame_of}
-use Rattle.pp_eval.specs.Meaning.{Calls, Frame, meaning}
+use Rattle.pp_eval.specs.declared.outcome.Stop.TheVariants.{Deep, Fails, Inner, Stuck}
+use Rattle.pp_eval.specs.Invocation.{admits, calls_to, descends, enters, frame_of}
+use Rattle.pp_eval.specs.Meaning.{CallMeaning, Frame, meaning}
 use Rattle.pp_eval.specs.Operators.{truth}
-use Rattle.pp_eval.specs.Part.{Part, and_then, either, found, inside}
+use Rattle.pp_eval.specs.Part.{Part, and_then, either, inside}
 use Rattle.pp_sound.proofs.Calls.{whole}
 use Rattle.pp_sound.proofs.Env.{Have}
 use Rattle.pp_sound.proofs.Exprs.{AreGood}
@@ -29,13 +30,14 @@ use Rattle.pp_checks.proofs.Plans.{shared_sorts}
 use Rattle.pp_run_laws.proofs.MeasureSorts.{calls_to_good, component_sorts, frame_sorted, told_value}
 use Rattle.pp_run_laws.proofs.Stops.{failed_stops}
 use Rattle.pp_guess_runs.specs.Answers.{Answering, IsAnswering, answers_of}
-use Rattle.pp_guess_runs.specs.Guess.{called, compared, is_check, one_less, own, own_call, unfolded}
+use Rattle.pp_guess_runs.specs.Guess.{called, compared, is_check, one_less, or_deep, own, own_call, unfolded}
 use Rattle.pp_guess_runs.proofs.Truth.{inside_value}
 use Rattle.pp_induction.proofs.Fates.{FailsDescent, descent}
 use Rattle.pp_plain_laws.proofs.Setting.{CallsClean, GoesBelow}
 use Rattle.pp_plain_laws.proofs.Comparing.{below_first, first_value}
 use Rattle.pp_guess_runs.proofs.Sorted.{called_good}
 use Rattle.pp_plain_laws.proofs.Scope.{IsClean, IsOther, clean_either, clean_stop, clean_then, clean_value, other_deep}
+use Rattle.pp_plain_laws.proofs.Scope.{other_stuck}
 
 -- what happens inside another frame is no failure of the own one
 inside_clean : {A : Type 0} (c : CheckId) (g : FunctionId) (part : Part A) → IsClean c (inside g part)
@@ -43,6 +45,7 @@ inside_clean c g (Ok a) = clean_value
 inside_clean c g (Err (Fails d)) = clean_stop (λ e. cc)
 inside_clean c g (Err (Inner h d)) = clean_stop (λ e. cc)
 inside_clean c g (Err Deep) = clean_stop (λ e. cc)
+inside_clean c g (Err Stuck) = clean_stop (λ e. cc)
 
 module _ (plan : Plan) (p : Program) (is_plan : IsPlanOf plan p) (i : ℕ) (f : Function)
     (function : slice_get p.functions i ≡ Some f) (c : CheckId) (v0 : Value) where
@@ -61,7 +64,8 @@ module _ (plan : Plan) (p : Program) (is_plan : IsPlanOf plan p) (i : ℕ) (f : 
       (args : List Value) (have : Have p.types.ctors (param_sorts h.params) args) (down : Option CheckId)
       (met : IsMet p i (measure g down)) where
     -- the measure of a plain descent goes down
-    passes : (calls : Calls) → AreGood p (Unit {0}) g.0 calls → (new : Frame) → frame_of calls h.measure args ≡ Ok new
+    passes : (calls : CallMeaning) → AreGood p (Unit {0}) g.0 calls → (new : Frame)
+        → frame_of calls h.measure args ≡ Ok new
         → down ≡ Some c → GoesBelow p.functions v0 g args → descends p.types.ctors down old new ≡ Ok tt
     passes calls good new e it below = ap (λ d. descends p.types.ctors d old new) it ∙ by old is_old new e
       where
@@ -109,18 +113,18 @@ module _ (plan : Plan) (p : Program) (is_plan : IsPlanOf plan p) (i : ℕ) (f : 
             let one : fails.check ≡ c = cc in
             let no : Ok tt ≡ Err (Fails fails.check) = sym (pass (fails.site ∙ ap Some one)) ∙ fails.part in cc))
 
-    admits_clean : (calls : Calls) (pre : Option Expr) (check : Option CheckId) → (check ≡ Some c → ⊥)
+    admits_clean : (calls : CallMeaning) (pre : Option Expr) (check : Option CheckId) → (check ≡ Some c → ⊥)
         → IsClean c (admits calls g pre check args)
     admits_clean calls None check other = clean_value
     admits_clean calls (Some pre) check other =
         clean_then _ (inside_clean c g (and_then (meaning calls pre None args) truth))
         (λ t at. clean_either t clean_value
         (record {
-          told = failed_stops (IsOther c) (other_deep c) ⊤ check
+          told = failed_stops (IsOther c) (other_stuck c) ⊤ check
               (λ d is same. let one : d ≡ c = cc in other (is ∙ ap Some one));
         }))
 
-    enters_clean : (calls : Calls) → AreGood p (Unit {0}) g.0 calls → (pre : Option CheckId) → (pre ≡ Some c → ⊥)
+    enters_clean : (calls : CallMeaning) → AreGood p (Unit {0}) g.0 calls → (pre : Option CheckId) → (pre ≡ Some c → ⊥)
         → (down ≡ Some c → GoesBelow p.functions v0 g args)
         → IsClean c (enters calls p.types.ctors (Some h) old g pre down args)
     enters_clean calls good pre other below =
@@ -129,7 +133,7 @@ module _ (plan : Plan) (p : Program) (is_plan : IsPlanOf plan p) (i : ℕ) (f : 
         clean_then _ (descends_clean new (λ it. passes calls good new (inside_value g _ new is_new) it (below it)))
         (λ w ok. inside_clean c g (meaning calls h.body new args))))
 
-    compared_clean : (contracts : Calls) → AreGood p (Unit {0}) g.0 contracts
+    compared_clean : (contracts : CallMeaning) → AreGood p (Unit {0}) g.0 contracts
         → (down ≡ Some c → GoesBelow p.functions v0 g args)
         → IsClean c (compared p.types.ctors c contracts h.measure g down old args)
     compared_clean contracts good below =
@@ -157,7 +161,7 @@ module _ (plan : Plan) (p : Program) (is_plan : IsPlanOf plan p) (i : ℕ) (f : 
         → IsClean c (called p.functions (answers_of p.types.ctors p.functions W) n frame g pre down args)
     called_clean zero frame g pre down args = by (answers_of p.types.ctors p.functions W g args)
       where
-        by : (o : Option Value) → IsClean c (found o)
+        by : (o : Option Value) → IsClean c (or_deep o)
         by None = clean_stop (other_deep c)
         by (Some v) = clean_value
     called_clean (suc n) frame g pre down args = by (slice_get p.functions g.0)

@@ -1,9 +1,11 @@
 -- An expression in which the check is carried by plain descents alone doesn't fail it.
-use Rattle.std.proofs.Common.{◌≡◌, ◌⊎◌, ℕ, ◌≤◌, Bool, true, false, List, ◌++◌, Option, Some, None, refl, sym, ap, ◌∙◌, subst, arith, inl, inr, ⊎_elim}
+use Rattle.std.proofs.Common.{◌≡◌, ◌⊎◌, ℕ, ◌≤◌, Bool, true, false, List, ◌++◌, Option, Some, None, refl, sym, ap, ◌∙◌}
+use Rattle.std.proofs.Common.{subst, arith, inl, inr, ⊎_elim}
 use Rattle.std.specs.Option.{option_map}
 use Rattle.pp_prog.specs.declared.expr.Case.{Case}
 use Rattle.pp_prog.specs.declared.expr.Expr.{Expr}
-use Rattle.pp_prog.specs.declared.expr.Expr.TheFolds.{fold-roll-Case, fold-roll-Expr, ind-Expr, map-Case, para-roll-Case, para-roll-Expr}
+use Rattle.pp_prog.specs.declared.expr.Expr.TheFolds.{fold-roll-Case, fold-roll-Expr, ind-Expr, map-Case}
+use Rattle.pp_prog.specs.declared.expr.Expr.TheFolds.{para-roll-Case, para-roll-Expr}
 use Rattle.pp_prog.specs.declared.expr.Expr.TheOpen as layer
 use Rattle.pp_prog.specs.declared.expr.Expr.TheViews.{roll-Case, roll-Expr}
 use Rattle.pp_prog.specs.declared.expr.Pattern.{Pattern}
@@ -18,7 +20,8 @@ use Rattle.pp_prog.specs.Fits.{fit}
 use Rattle.pp_prog.specs.Listing.{CaseSites, Sites, case_sites, guard_sites, site_step, with_bound}
 use Rattle.pp_prog.specs.PatternSorts.{bound_sorts}
 use Rattle.pp_prog.specs.Values.{IsBelow}
-use Rattle.pp_eval.specs.Meaning.{Calls, Frame, Meaning, all_from, arm, attempt, attempt_with, binary, field, first_case, guarded, meaning, meaning_step, or_next, taken}
+use Rattle.pp_eval.specs.Meaning.{CallMeaning, Frame, Meaning, all_from, arm, attempt, attempt_with, binary, field}
+use Rattle.pp_eval.specs.Meaning.{first_case, guarded, meaning, meaning_step, or_next, taken}
 use Rattle.pp_eval.specs.Meaning as mean
 use Rattle.pp_eval.specs.Part.{Part}
 use Rattle.pp_sound.proofs.Env.{Has, Have, have_more}
@@ -29,7 +32,9 @@ use Rattle.pp_checks.specs.Plain.{CaseDescents, Seen, case_step, in_guard, marks
 use Rattle.pp_plain_laws.proofs.Counts.{count_append, places_append}
 use Rattle.pp_plain_laws.proofs.Patterns.{pattern_marked}
 use Rattle.pp_plain_laws.proofs.Scope.{IsClean, clean_then, clean_value, more_in_scope}
-use Rattle.pp_plain_laws.proofs.Setting.{Setting, below_trans, Sorted, Placed, Meant, Looked, SortedArm, PlacedArm, MeantArm, LookedArm, found_in, carried_by, InScope, IsLive, IsExpr, IsCase, E, K}
+use Rattle.pp_plain_laws.proofs.Setting.{Setting, below_trans, Sorted, Placed, Meant, Looked, SortedArm, PlacedArm}
+use Rattle.pp_plain_laws.proofs.Setting.{MeantArm, LookedArm, found_in, carried_by, InScope, IsLive, IsExpr, IsCase, E}
+use Rattle.pp_plain_laws.proofs.Setting.{K}
 use Rattle.pp_plain_laws.proofs.Levels.{level_clean, level_few, level_variable, looked, truth_clean, under}
 
 module _ (x : Setting) where
@@ -42,7 +47,7 @@ module _ (x : Setting) where
   abbrev c : CheckId
   c = x.c
 
-  abbrev calls0 : Calls
+  abbrev calls0 : CallMeaning
   calls0 = x.calls0
 
   abbrev old : Frame

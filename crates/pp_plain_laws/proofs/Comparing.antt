@@ -1,5 +1,6 @@
 -- The measures of a plain descent: the first component goes down to a proper subtree, and the sorts are the same.
-use Rattle.std.proofs.Common.{◌≡◌, ℕ, Bool, true, false, ◌&&◌, ◌||◌, List, [], ◌∷◌, map, Option, Some, None, Ok, slice_get, length, refl, sym, ap, ◌∙◌, eq-eqb}
+use Rattle.std.proofs.Common.{◌≡◌, ℕ, Bool, true, false, ◌&&◌, ◌||◌, List, [], ◌∷◌, map, Option, Some, None, Ok}
+use Rattle.std.proofs.Common.{slice_get, length, refl, sym, ap, ◌∙◌, eq-eqb}
 use Rattle.std.specs.Prelude.{if◌then◌else◌, nat_lt}
 use Rattle.std.proofs.lemmas.Bool.{and_from, and_parts}
 use Rattle.pp_prog.specs.declared.expr.Case.{Case}
@@ -19,10 +20,10 @@ use Rattle.pp_prog.specs.declared.value.Value.TheVariants.{Tree, outs-Tree}
 use Rattle.pp_prog.specs.declared.value.Value.TheViews.{out-Value}
 use Rattle.pp_prog.specs.Sorts.{has_sort, has_step, is_int, same_sort}
 use Rattle.pp_prog.specs.Values.{IsBelow, is_deeper, is_field}
-use Rattle.pp_eval.specs.Calls.{frame_of}
+use Rattle.pp_eval.specs.Invocation.{frame_of}
 use Rattle.pp_eval.specs.Equality.{equal}
 use Rattle.pp_eval.specs.Measure.{falls, goes_down, is_below, layer_down, of_one_shape, one_datatype, one_sort}
-use Rattle.pp_eval.specs.Meaning.{Arm, Calls, Frame, Meaning, all_from, arm_step, meaning, meaning_step}
+use Rattle.pp_eval.specs.Meaning.{Arm, CallMeaning, Frame, Meaning, all_from, arm_step, meaning, meaning_step}
 use Rattle.pp_eval.specs.Meaning as mean
 use Rattle.pp_eval.specs.Part.{found}
 use Rattle.pp_eval.proofs.Trees.{below_true}
@@ -119,7 +120,7 @@ module _ (ctors : List Ctor) where
 
 -- ---- a component that is a variable
 
-variable_level : (calls : Calls) (o : layer.Expr-F Expr Case) (k : ℕ) → variable_in o ≡ Some k
+variable_level : (calls : CallMeaning) (o : layer.Expr-F Expr Case) (k : ℕ) → variable_in o ≡ Some k
     → (frame : Frame) (env : List Value)
     → meaning_step calls (map-Expr Expr Case Meaning Arm (meaning calls) (mean.arm calls) o) frame env ≡ found
     (slice_get env k)
@@ -136,7 +137,8 @@ variable_level calls (layer.Val a b) k is frame env = cc
 variable_level calls (layer.Assert check t rest) k is frame env = cc
 variable_level calls (layer.Call g args pre down) k is frame env = cc
 
-variable_meaning : (calls : Calls) (e : Expr) (k : ℕ) → variable_of e ≡ Some k → (frame : Frame) (env : List Value)
+variable_meaning : (calls : CallMeaning) (e : Expr) (k : ℕ) → variable_of e ≡ Some k
+    → (frame : Frame) (env : List Value)
     → meaning calls e frame env ≡ found (slice_get env k)
 variable_meaning calls e k is frame env =
     ap (λ (m : Meaning). m frame env) (fold_out-Expr Meaning Arm (meaning_step calls) arm_step e) ∙ variable_level
@@ -151,7 +153,8 @@ below_is n (Some k) q e = by (nat_lt k n) e
     by false e = cc
 
 -- the first measure value is that of the parameter
-pub first_value : (calls : Calls) (f : Function) (q : ℕ) → first_param f ≡ Some q → (args : List Value) (v : Value)
+pub first_value : (calls : CallMeaning) (f : Function) (q : ℕ) → first_param f ≡ Some q
+    → (args : List Value) (v : Value)
     → slice_get args q ≡ Some v → (vs : List Value) → frame_of calls f.measure args ≡ Ok (Some vs)
     → (rest : List Value) × (vs ≡ v ∷ rest)
 first_value calls f q is args v at vs e = by f.measure (below_is (length f.params) (variable_first f.measure) q is) e

@@ -1,5 +1,6 @@
 -- The law on plain descents.
-use Rattle.std.proofs.Common.{◌≡◌, ℕ, zero, suc, ◌≤◌, nat_eq, Bool, true, false, List, [], ◌∷◌, Option, Some, None, Ok, Err, slice_get, refl, sym, ap, ◌∙◌, subst, arith, Contains, eqb-true}
+use Rattle.std.proofs.Common.{◌≡◌, ℕ, zero, suc, ◌≤◌, nat_eq, Bool, true, false, List, [], ◌∷◌, Option, Some, None, Ok}
+use Rattle.std.proofs.Common.{Err, slice_get, refl, sym, ap, ◌∙◌, subst, arith, Contains, eqb-true}
 use Rattle.std.specs.Prelude.{if◌then◌else◌}
 use Rattle.std.specs.Option.{option_map}
 use Rattle.std.proofs.lemmas.Option.{slice_get-map}
@@ -11,13 +12,14 @@ use Rattle.pp_prog.specs.declared.expr.Param.{Param}
 use Rattle.pp_prog.specs.declared.id.CheckId.{CheckId}
 use Rattle.pp_prog.specs.declared.program.Program.{Program}
 use Rattle.pp_prog.specs.declared.value.Value.{Value}
-use Rattle.pp_prog.specs.Listing.{Site, as_kind, assertion, carried, division, function_sites, matching, measure, plain, postcondition, precondition}
+use Rattle.pp_prog.specs.Listing.{Site, as_kind, assertion, carried, division, function_sites, matching, measure, plain}
+use Rattle.pp_prog.specs.Listing.{postcondition, precondition}
 use Rattle.pp_prog.specs.Sorts.{param_sorts, sort_of_param}
 use Rattle.pp_eval.specs.declared.outcome.Outcome.{Outcome}
 use Rattle.pp_eval.specs.declared.outcome.Outcome.TheVariants as outcome
 use Rattle.pp_eval.specs.declared.outcome.Stop.TheVariants as stop
-use Rattle.pp_eval.specs.Calls.{calls_to, frame_of}
-use Rattle.pp_eval.specs.Meaning.{Calls, Frame}
+use Rattle.pp_eval.specs.Invocation.{calls_to, frame_of}
+use Rattle.pp_eval.specs.Meaning.{CallMeaning, Frame}
 use Rattle.pp_eval.specs.Part.{Part}
 use Rattle.pp_eval.specs.Runs as runs
 use Rattle.pp_eval.specs.Runs.{run_with}
@@ -30,7 +32,8 @@ use Rattle.pp_sound.proofs.Parts.{IsOwn}
 use Rattle.pp_sound.proofs.Runs.{IsEnd, run_fine}
 use Rattle.pp_sound.proofs.Sites.{AreMet, IsMet, met_head, met_tail}
 use Rattle.pp_checks.specs.declared.tables.Plan.{Plan}
-use Rattle.pp_checks.specs.Plain.{IsPlain, descents_at, descents_from, first_param, if_tree, is_tree_param, plain_descents}
+use Rattle.pp_checks.specs.Plain.{IsPlain, descents_at, descents_from, first_param, if_tree, is_tree_param}
+use Rattle.pp_checks.specs.Plain.{plain_descents}
 use Rattle.pp_checks.specs.Plan.{IsPlanOf}
 use Rattle.pp_run_laws.proofs.MeasureSorts.{calls_to_good, frame_sorted, told_value}
 use Rattle.pp_guess_runs.specs.Answers.{Answering, IsAnswering, answers_of}
@@ -132,7 +135,8 @@ module _ (plan : Plan) (p : Program) (is_plan : IsPlanOf plan p) (i : ℕ) (c : 
         (v.0, v.1)
 
     -- the frame of the function
-    is_old : (calls : Calls) → AreGood p (Unit {0}) i calls → (frame : Frame) → frame_of calls f.measure args ≡ Ok frame
+    is_old : (calls : CallMeaning) → AreGood p (Unit {0}) i calls → (frame : Frame)
+        → frame_of calls f.measure args ≡ Ok frame
         → IsOld plan p is_plan i f called.function c value.0 frame
     is_old calls good None e = tt
     is_old calls good (Some vs) e =
@@ -171,6 +175,7 @@ run_stops c (Err (stop.Fails d)) clean never e =
     let same : d ≡ c = cc in never_fails clean (ap (λ x. Err (stop.Fails x)) same)
 run_stops c (Err (stop.Inner g d)) clean never e = cc
 run_stops c (Err stop.Deep) clean never e = cc
+run_stops c (Err stop.Stuck) clean never e = cc
 
 guess_stops : (c : CheckId) (part : Part Outcome) → IsClean c part → guessed c part ≡ fails → ⊥
 guess_stops c (Ok (outcome.Done v)) clean e = cc
@@ -187,6 +192,7 @@ guess_stops c (Err (stop.Fails d)) clean e = by (nat_eq d.0 c.0) refl e
     by false is e = cc
 guess_stops c (Err (stop.Inner g d)) clean e = cc
 guess_stops c (Err stop.Deep) clean e = cc
+guess_stops c (Err stop.Stuck) clean e = cc
 
 pub plain_never_fail : PlainNeverFail
 plain_never_fail = record {

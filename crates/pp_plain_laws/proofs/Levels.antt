@@ -1,6 +1,7 @@
 -- One level of an expression: the check is among its descents at most as often as its sites carry it, and where it is
 -- as often, the level doesn't fail it.
-use Rattle.std.proofs.Common.{◌≡◌, ◌⊎◌, ℕ, ◌+◌, ◌≤◌, nat_eq, Bool, true, false, ◌||◌, List, [], ◌∷◌, ◌++◌, map, Option, Some, None, Ok, slice_get, refl, sym, ap, ◌∙◌, subst, arith, inl, inr, eqb-true}
+use Rattle.std.proofs.Common.{◌≡◌, ◌⊎◌, ℕ, ◌+◌, ◌≤◌, nat_eq, Bool, true, false, ◌||◌, List, [], ◌∷◌, ◌++◌, map, Option}
+use Rattle.std.proofs.Common.{Some, None, Ok, slice_get, refl, sym, ap, ◌∙◌, subst, arith, inl, inr, eqb-true}
 use Rattle.pp_graph.specs.Rows.{marked}
 use Rattle.pp_prog.specs.declared.check.CheckKind.{CheckKind}
 use Rattle.pp_prog.specs.declared.check.CheckKind.TheVariants as kind
@@ -18,10 +19,12 @@ use Rattle.pp_prog.specs.declared.sort.Sort.TheVariants as sort
 use Rattle.pp_prog.specs.declared.value.Value.{Value}
 use Rattle.pp_prog.specs.ExprSorts.{Sorting, alike, arm_with, field_sort, sort_of, sort_step, sorts_in}
 use Rattle.pp_prog.specs.ExprSorts as sorts
-use Rattle.pp_prog.specs.Listing.{CaseSites, Sites, as_kind, assertion, at_sort, matching, measure, operator_site, precondition, site_step, sites_of_all, sites_of_cases, unguarded}
+use Rattle.pp_prog.specs.Listing.{CaseSites, Sites, as_kind, assertion, at_sort, matching, measure, operator_site}
+use Rattle.pp_prog.specs.Listing.{precondition, site_step, sites_of_all, sites_of_cases, unguarded}
 use Rattle.pp_prog.specs.Sorts.{param_sorts}
 use Rattle.pp_prog.specs.Values.{IsBelow}
-use Rattle.pp_eval.specs.Meaning.{Calls, Frame, Meaning, all_from, arm, attempt, attempt_with, binary, field, first_case, guarded, meaning, meaning_step, or_next, taken}
+use Rattle.pp_eval.specs.Meaning.{CallMeaning, Frame, Meaning, all_from, arm, attempt, attempt_with, binary, field}
+use Rattle.pp_eval.specs.Meaning.{first_case, guarded, meaning, meaning_step, or_next, taken}
 use Rattle.pp_eval.specs.Meaning as mean
 use Rattle.pp_eval.specs.Operators.{truth}
 use Rattle.pp_eval.specs.Part.{found}
@@ -29,11 +32,17 @@ use Rattle.pp_sound.proofs.Cases.{each_arm}
 use Rattle.pp_sound.proofs.Env.{Have, have_more, have_one}
 use Rattle.pp_sound.proofs.Sites.{AreMet, met_head, met_left, met_right, met_tail}
 use Rattle.pp_sound.proofs.Sorting.{alike_are, bool_then, call_sort_is, sort_then, tree_sort_is, tree_then}
-use Rattle.pp_checks.specs.Plain.{CaseDescents, Seen, as_check, first_param_of, goes_down, in_all, in_cases, inside_at, is_inside, is_live, seen_step, when}
+use Rattle.pp_checks.specs.Plain.{CaseDescents, Seen, as_check, first_param_of, goes_down, in_all, in_cases, inside_at}
+use Rattle.pp_checks.specs.Plain.{is_inside, is_live, seen_step, when}
+use Rattle.pp_sound.proofs.Operands.{operand, operands}
 use Rattle.pp_run_laws.proofs.Stops.{MayDivide, field_stops, found_stops, operated_stops, truth_stops, unary_stops}
 use Rattle.pp_plain_laws.proofs.Counts.{count_append, ids, uncounted, places_append}
-use Rattle.pp_plain_laws.proofs.Scope.{IsClean, IsOther, clean_either, clean_stop, clean_then, clean_value, found_some, one_in_scope, operand, operands, other_deep}
-use Rattle.pp_plain_laws.proofs.Setting.{GoesBelow, Setting, Sorted, Placed, Meant, Looked, SortedArm, PlacedArm, MeantArm, LookedArm, found_in, carried_by, InScope, IsLive, E, K, exprs, cases, with_sites, with_case_sites, list_few, list_clean, list_sorted, variable_at, cases_few, cases_clean, other_fails, valued}
+use Rattle.pp_plain_laws.proofs.Scope.{IsClean, IsOther, clean_either, clean_stop, clean_then, clean_value, found_some}
+use Rattle.pp_plain_laws.proofs.Scope.{one_in_scope, other_stuck}
+use Rattle.pp_plain_laws.proofs.Setting.{GoesBelow, Setting, Sorted, Placed, Meant, Looked, SortedArm, PlacedArm}
+use Rattle.pp_plain_laws.proofs.Setting.{MeantArm, LookedArm, found_in, carried_by, InScope, IsLive, E, K, exprs, cases}
+use Rattle.pp_plain_laws.proofs.Setting.{with_sites, with_case_sites, list_few, list_clean, list_sorted, variable_at}
+use Rattle.pp_plain_laws.proofs.Setting.{cases_few, cases_clean, other_fails, valued}
 
 module _ (x : Setting) where
   abbrev p : Program
@@ -45,7 +54,7 @@ module _ (x : Setting) where
   abbrev c : CheckId
   c = x.c
 
-  abbrev calls0 : Calls
+  abbrev calls0 : CallMeaning
   calls0 = x.calls0
 
   abbrev old : Frame
@@ -193,15 +202,15 @@ module _ (x : Setting) where
       )
 
   pub truth_clean : (v : Value) → IsClean c (truth v)
-  truth_clean v = record { told = truth_stops (IsOther c) (other_deep c) v }
+  truth_clean v = record { told = truth_stops (IsOther c) (other_stuck c) v }
 
   may_fail : (op : BinaryOp) (check : Option CheckId) → (carried_by x) (operator_site op check ∷ []) ≡ 0
-      → MayDivide (IsOther c) (other_deep c) op check
+      → MayDivide (IsOther c) (other_stuck c) op check
   may_fail Div check none = (other_fails x) check (uncounted c.0 kind.Division check c refl (omega (arith, none)))
   may_fail Rem check none = (other_fails x) check (uncounted c.0 kind.Division check c refl (omega (arith, none)))
   may_fail op check none = tt
 
-  binary_clean : (op : BinaryOp) (check : Option CheckId) → MayDivide (IsOther c) (other_deep c) op check
+  binary_clean : (op : BinaryOp) (check : Option CheckId) → MayDivide (IsOther c) (other_stuck c) op check
       → (a b : Meaning) (env : List Value) → IsClean c (a old env) → IsClean c (b old env)
       → IsClean c (binary op a b check old env)
   binary_clean AndAlso check may a b env ka kb =
@@ -210,7 +219,7 @@ module _ (x : Setting) where
       clean_then _ ka (λ x at. clean_then _ (truth_clean x) (λ t is. clean_either t clean_value kb))
   binary_clean op check may a b env ka kb =
       clean_then _ ka (λ x at. clean_then _ kb (λ y is. record {
-        told = operated_stops (IsOther c) (other_deep c) op
+        told = operated_stops (IsOther c) (other_stuck c) op
             check may x y;
       }))
 
@@ -278,11 +287,11 @@ module _ (x : Setting) where
   level_clean (layer.Int n) scope s h met env have marks inside tight = clean_value
   level_clean (layer.Bool b) scope s h met env have marks inside tight = clean_value
   level_clean (layer.Var k) scope s h met env have marks inside tight =
-      record { told = found_stops (IsOther c) (other_deep c) (slice_get env k) }
+      record { told = found_stops (IsOther c) (other_stuck c) (slice_get env k) }
   level_clean (layer.Unary op a) scope s h met env have marks inside tight =
       let t = operand op ((Sorted x) a.0 scope) s h in
       clean_then _ (a.1.clean scope t.0 t.1 met env have marks inside tight)
-      (λ v at. record { told = unary_stops (IsOther c) (other_deep c) op v })
+      (λ v at. record { told = unary_stops (IsOther c) (other_stuck c) op v })
   level_clean (layer.Binary op a b check) scope s h met env have marks inside tight =
       let t = operands op ((Sorted x) a.0 scope) ((Sorted x) b.0 scope) s h in
       let fa = a.1.few scope t.0.0 t.0.1 marks in
@@ -302,7 +311,7 @@ module _ (x : Setting) where
   level_clean (layer.Field e k) scope s h met env have marks inside tight =
       let d = tree_then ((Sorted x) e.0 scope) (λ d. field_sort p.types p.functions d k) s h in
       clean_then _ (e.1.clean scope (sort.Tree d.0) d.1 met env have marks inside tight)
-      (λ v at. record { told = field_stops (IsOther c) (other_deep c) v k })
+      (λ v at. record { told = field_stops (IsOther c) (other_stuck c) v k })
   level_clean (layer.If t a b) scope s h met env have marks inside tight =
       let k = bool_then ((Sorted x) t.0 scope) (alike ((Sorted x) a.0 scope) ((Sorted x) b.0 scope)) s h in
       let both = alike_are ((Sorted x) a.0 scope) ((Sorted x) b.0 scope) s k.1 in

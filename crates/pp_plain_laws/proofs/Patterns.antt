@@ -1,5 +1,7 @@
 -- What a pattern binds below its top lies below the matched value.
-use Rattle.std.proofs.Common.{◌≡◌, ◌⊎◌, ℕ, zero, suc, Bool, true, false, List, [], ◌∷◌, ◌++◌, map, Option, Some, None, length, slice_get, refl, sym, ap, ◌∙◌, subst, arith, inl, inr, ⊎_elim, Contains, length-append}
+use Rattle.std.proofs.Common.{◌≡◌, ◌⊎◌, ℕ, zero, suc, Bool, true, false, List, [], ◌∷◌, ◌++◌, map, Option, Some, None}
+use Rattle.std.proofs.Common.{length, slice_get, refl, sym, ap, ◌∙◌, subst, arith, inl, inr, ⊎_elim, Contains}
+use Rattle.std.proofs.Common.{length-append}
 use Rattle.std.specs.Prelude.{if◌then◌else◌, nat_eq, ℤ}
 use Rattle.pp_graph.specs.Rows.{marked}
 use Rattle.pp_prog.specs.declared.expr.Pattern.{Pattern}
@@ -12,7 +14,8 @@ use Rattle.pp_prog.specs.declared.value.Value.TheOpen as value
 use Rattle.pp_prog.specs.declared.value.Value.TheVariants.{Tree, rolls-Tree}
 use Rattle.pp_prog.specs.declared.value.Value.TheViews.{out-Value, roll-Value, roll-out-Value}
 use Rattle.pp_prog.specs.Calls.{joined}
-use Rattle.pp_prog.specs.Fits.{Fitting, bound_before, bound_both, fit, fit_bool, fit_fields, fit_int, fit_step, fit_tree, fits_if, same_truth}
+use Rattle.pp_prog.specs.Fits.{Fitting, bound_before, bound_both, fit, fit_bool, fit_fields, fit_int, fit_step}
+use Rattle.pp_prog.specs.Fits.{fit_tree, fits_if, same_truth}
 use Rattle.pp_prog.specs.Values.{IsBelow, is_deeper, is_field}
 use Rattle.pp_checks.specs.Plain.{Marking, marking_step, marks_of}
 

@@ -1,5 +1,6 @@
 -- No run and no guess run fails a plain descent.
-use Rattle.std.proofs.Common.{◌≡◌, ℕ, zero, suc, Bool, true, false, List, [], ◌∷◌, ◌++◌, map, Option, Some, None, is_some, Ok, length, replicate, slice_get, refl, ap, arith, Contains}
+use Rattle.std.proofs.Common.{◌≡◌, ℕ, zero, suc, Bool, true, false, List, [], ◌∷◌, ◌++◌, map, Option, Some, None}
+use Rattle.std.proofs.Common.{is_some, Ok, length, replicate, slice_get, refl, ap, arith, Contains}
 use Rattle.std.proofs.lemmas.Bool.{and_parts}
 use Rattle.std.proofs.lemmas.List.{length-map, length-replicate}
 use Rattle.pp_graph.specs.Rows.{marked}
@@ -14,11 +15,11 @@ use Rattle.pp_prog.specs.declared.value.Value.{Value}
 use Rattle.pp_prog.specs.ExprSorts.{is_sorted_measure, is_sorted_post, is_sorted_pre, sort_of}
 use Rattle.pp_prog.specs.Listing.{measure_sites, post_sites, postcondition, pre_sites, sites}
 use Rattle.pp_prog.specs.Sorts.{has_sort, param_sorts, sort_of_param}
-use Rattle.pp_eval.specs.Calls.{frame_of}
-use Rattle.pp_eval.specs.Meaning.{Calls, Frame, all_from, meaning}
+use Rattle.pp_eval.specs.Invocation.{allowed, frame_of}
+use Rattle.pp_eval.specs.Meaning.{CallMeaning, Frame, all_from, meaning}
 use Rattle.pp_eval.specs.Operators.{truth}
 use Rattle.pp_eval.specs.Part.{and_then}
-use Rattle.pp_eval.specs.Runs.{allowed, finished, run_with}
+use Rattle.pp_eval.specs.Runs.{finished, run_with}
 use Rattle.pp_sound.specs.Sound.{IsCalled}
 use Rattle.pp_sound.proofs.Calls.{IsWhole, whole}
 use Rattle.pp_sound.proofs.Env.{Has, Have, have_more, have_one}
@@ -31,7 +32,8 @@ use Rattle.pp_run_laws.proofs.Stops.{truth_stops}
 use Rattle.pp_plain_laws.proofs.Cleaning.{expr_clean}
 use Rattle.pp_plain_laws.proofs.Setting.{CallsClean, IsExpr, Setting}
 use Rattle.pp_plain_laws.proofs.Counts.{count, count_append, places, places_append, uncounted}
-use Rattle.pp_plain_laws.proofs.Scope.{AreInScope, IsClean, IsOther, clean_either, clean_stop, clean_then, clean_value, one_in_scope, other_deep}
+use Rattle.pp_plain_laws.proofs.Scope.{AreInScope, IsClean, IsOther, clean_either, clean_stop, clean_then, clean_value}
+use Rattle.pp_plain_laws.proofs.Scope.{one_in_scope, other_stuck}
 use Rattle.pp_plain_laws.proofs.Tight.{AreTight, are_tight, measure_few, some_sort}
 
 none_marked : (n k : ℕ) → marked (replicate n false) k ≡ true → ⊥
@@ -41,7 +43,7 @@ none_marked (suc n) (suc k) e = none_marked n k e
 
 module _ (p : Program) (i : ℕ) (f : Function) (args : List Value) (called : IsCalled p i f args) (c : CheckId) (pp : ℕ)
     (v0 : Value) (param : slice_get args pp ≡ Some v0)
-    (here : Contains (descents_from p.functions pp f) c.0) (calls : Calls) (good : AreGood p (Unit {0}) i calls)
+    (here : Contains (descents_from p.functions pp f) c.0) (calls : CallMeaning) (good : AreGood p (Unit {0}) i calls)
     (clean_none : CallsClean p i c calls None v0)
     (clean_in : (frame : Frame) → frame_of calls f.measure args ≡ Ok frame → CallsClean p i c calls frame v0) where
   abbrev U : Type 0
@@ -99,7 +101,7 @@ module _ (p : Program) (i : ℕ) (f : Function) (args : List Value) (called : Is
   }
 
   truth_clean : (v : Value) → IsClean c (truth v)
-  truth_clean v = record { told = truth_stops (IsOther c) (other_deep c) v }
+  truth_clean v = record { told = truth_stops (IsOther c) (other_stuck c) v }
 
   allowed_clean : (pre : Option Expr) → is_sorted_pre p.types p.functions pre scope ≡ true
       → AreMet p i (pre_sites p.types p.functions pre scope)

@@ -1,6 +1,8 @@
 -- What it means that an expression doesn't fail a check that is carried by plain descents alone, and lists of
 -- expressions and of cases.
-use Rattle.std.proofs.Common.{◌≡◌, ◌⊎◌, ℕ, zero, suc, ◌+◌, ◌≤◌, Bool, true, List, [], ◌∷◌, ◌++◌, map, Option, Some, None, Ok, length, slice_get, sym, ap, ◌∙◌, subst, arith, append_assoc, append-nil, length-append}
+use Rattle.std.proofs.Common.{◌≡◌, ◌⊎◌, ℕ, zero, suc, ◌+◌, ◌≤◌, Bool, true, List, [], ◌∷◌, ◌++◌, map, Option, Some}
+use Rattle.std.proofs.Common.{None, Ok, length, slice_get, sym, ap, ◌∙◌, subst, arith, append_assoc, append-nil}
+use Rattle.std.proofs.Common.{length-append}
 use Rattle.pp_prog.specs.declared.expr.Case.{Case}
 use Rattle.pp_prog.specs.declared.expr.Expr.{Expr}
 use Rattle.pp_prog.specs.declared.expr.Expr.TheFolds.{fold-Case, para-Case}
@@ -12,11 +14,13 @@ use Rattle.pp_prog.specs.declared.sort.Sort.{Sort}
 use Rattle.pp_prog.specs.declared.value.Value.{Value}
 use Rattle.pp_prog.specs.ExprSorts.{Sorting, alike, arm_with, field_sort, sort_of, sort_step, sorts_in}
 use Rattle.pp_prog.specs.ExprSorts as sorts
-use Rattle.pp_prog.specs.Listing.{CaseSites, Site, Sites, case_sites, measure, precondition, site_step, sites, sites_of_all, sites_of_cases}
+use Rattle.pp_prog.specs.Listing.{CaseSites, Site, Sites, case_sites, measure, precondition, site_step, sites}
+use Rattle.pp_prog.specs.Listing.{sites_of_all, sites_of_cases}
 use Rattle.pp_prog.specs.Sorts.{param_sorts}
 use Rattle.pp_prog.specs.Values.{IsBelow, is_deeper, is_field}
 use Rattle.pp_eval.specs.declared.outcome.Stop.TheVariants.{Fails}
-use Rattle.pp_eval.specs.Meaning.{Calls, Frame, Meaning, all_from, arm, attempt, attempt_with, binary, field, first_case, guarded, meaning, meaning_step, or_next, taken}
+use Rattle.pp_eval.specs.Meaning.{CallMeaning, Frame, Meaning, all_from, arm, attempt, attempt_with, binary, field}
+use Rattle.pp_eval.specs.Meaning.{first_case, guarded, meaning, meaning_step, or_next, taken}
 use Rattle.pp_eval.specs.Meaning as mean
 use Rattle.pp_eval.specs.Part.{Part, failed, found}
 use Rattle.pp_sound.proofs.Cases.{EachArm}
@@ -28,7 +32,8 @@ use Rattle.pp_run_laws.proofs.MeasureSorts.{told_value}
 use Rattle.pp_run_laws.proofs.Stops.{failed_stops}
 use Rattle.pp_guess_runs.proofs.Truth.{then_value}
 use Rattle.pp_plain_laws.proofs.Counts.{count, count_append, places, places_append}
-use Rattle.pp_plain_laws.proofs.Scope.{AreInScope, IsClean, IsOther, clean_then, clean_value, found_some, get_behind, other_deep, values_behind}
+use Rattle.pp_plain_laws.proofs.Scope.{AreInScope, IsClean, IsOther, clean_then, clean_value, found_some, get_behind}
+use Rattle.pp_plain_laws.proofs.Scope.{other_stuck, values_behind}
 
 -- the argument for the first component of the called function's measure lies below the value
 pub record GoesBelow (functions : List Function) (v0 : Value) (g : FunctionId) (args : List Value) : Type 0 where
@@ -39,7 +44,7 @@ pub record GoesBelow (functions : List Function) (v0 : Value) (g : FunctionId) (
   pub below : IsBelow value v0
 
 -- a call fails the check only where it is the site's precondition check, or its measure check and no plain descent
-pub record CallsClean (p : Program) (i : ℕ) (c : CheckId) (calls0 : Calls) (old : Frame) (v0 : Value) : Type 0 where
+pub record CallsClean (p : Program) (i : ℕ) (c : CheckId) (calls0 : CallMeaning) (old : Frame) (v0 : Value) : Type 0 where
   pub clean : (g : FunctionId) (pre down : Option CheckId) (args : List Value) (h : Function)
       → slice_get p.functions g.0 ≡ Some h → Have p.types.ctors (param_sorts h.params) args
       → IsMet p i (precondition g pre) → IsMet p i (measure g down) → (pre ≡ Some c → ⊥)
@@ -55,7 +60,7 @@ pub record Setting : Type 0 where
   pub p : Program
   pub i : ℕ
   pub c : CheckId
-  pub calls0 : Calls
+  pub calls0 : CallMeaning
   pub good : AreGood p (Unit {0}) i calls0
   pub old : Frame
   pub pp : ℕ
@@ -72,7 +77,7 @@ module _ (x : Setting) where
   abbrev c : CheckId
   c = x.c
 
-  abbrev calls0 : Calls
+  abbrev calls0 : CallMeaning
   calls0 = x.calls0
 
   abbrev old : Frame
@@ -276,7 +281,7 @@ module _ (x : Setting) where
 
   pub failed_clean : (check : Option CheckId) → NotIt check → IsClean c {A = Value} (failed check)
   failed_clean check other =
-      record { told = failed_stops (IsOther c) (other_deep c) Value check (other_fails check other) }
+      record { told = failed_stops (IsOther c) (other_stuck c) Value check (other_fails check other) }
 
   pub cases_clean : (ys : List K) (s u : Sort) (scope : List Sort) → EachArm p s u scope (map SortedArm (cases ys))
       → AreMet p i (sites_of_cases (with_case_sites (cases ys)) s scope) → (env : List Value)

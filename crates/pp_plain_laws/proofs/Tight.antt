@@ -1,5 +1,6 @@
 -- Each part of a function carries a plain descent exactly as often as it is among the part's descents.
-use Rattle.std.proofs.Common.{◌≡◌, ℕ, ◌≤◌, Bool, true, false, List, [], ◌∷◌, ◌++◌, map, Option, Some, None, is_some, pos, length, replicate, slice_get, refl, arith, Contains}
+use Rattle.std.proofs.Common.{◌≡◌, ℕ, ◌≤◌, Bool, true, false, List, [], ◌∷◌, ◌++◌, map, Option, Some, None, is_some}
+use Rattle.std.proofs.Common.{pos, length, replicate, slice_get, refl, arith, Contains}
 use Rattle.std.proofs.lemmas.Bool.{and_parts}
 use Rattle.pp_prog.specs.declared.expr.Expr.{Expr}
 use Rattle.pp_prog.specs.declared.expr.Function.{Function}
@@ -11,7 +12,7 @@ use Rattle.pp_prog.specs.declared.value.Value.TheVariants.{Int}
 use Rattle.pp_prog.specs.ExprSorts.{is_sorted_measure, is_sorted_post, is_sorted_pre, sort_of}
 use Rattle.pp_prog.specs.Listing.{function_sites, measure_sites, post_sites, postcondition, pre_sites, sites}
 use Rattle.pp_prog.specs.Sorts.{param_sorts}
-use Rattle.pp_eval.specs.Calls.{no_fuel}
+use Rattle.pp_eval.specs.Invocation.{no_fuel}
 use Rattle.pp_sound.proofs.Calls.{IsWhole, whole}
 use Rattle.pp_sound.proofs.Sorting.{has_the_sort_is}
 use Rattle.pp_checks.specs.Plain.{descents, descents_from, in_all, post_descents, pre_descents, seen}

@@ -1,5 +1,6 @@
 -- Evaluation depends only on the functions that are called.
-use Rattle.std.proofs.Common.{◌≡◌, ℕ, List, [], ◌∷◌, ◌++◌, map, Option, Some, None, Ok, Err, refl, sym, ap, ◌∙◌, arith, Contains}
+use Rattle.std.proofs.Common.{◌≡◌, ℕ, List, [], ◌∷◌, ◌++◌, map, Option, Some, None, Ok, Err, refl, sym, ap, ◌∙◌, arith}
+use Rattle.std.proofs.Common.{Contains}
 use Rattle.std.proofs.lemmas.List.Elements.{Contains-append_left, Contains-append_right}
 use Rattle.pp_prog.specs.declared.expr.Expr.{Expr}
 use Rattle.pp_prog.specs.declared.expr.Function.{Function}
@@ -10,11 +11,11 @@ use Rattle.pp_prog.specs.declared.value.Value.{Value}
 use Rattle.pp_prog.specs.Calls.{calls, function_calls, joined, post_calls, pre_calls}
 use Rattle.pp_eval.specs.declared.outcome.Outcome.TheVariants.{Outside}
 use Rattle.pp_eval.specs.declared.outcome.Stop.{Stop}
-use Rattle.pp_eval.specs.Calls.{admits, enters, frame_of}
-use Rattle.pp_eval.specs.Meaning.{Calls, Frame, all_from, meaning}
+use Rattle.pp_eval.specs.Invocation.{admits, allowed, enters, frame_of}
+use Rattle.pp_eval.specs.Meaning.{CallMeaning, Frame, all_from, meaning}
 use Rattle.pp_eval.specs.Operators.{truth}
 use Rattle.pp_eval.specs.Part.{Part, and_then, either, failed, inside}
-use Rattle.pp_eval.specs.Runs.{allowed, finished, run_with}
+use Rattle.pp_eval.specs.Runs.{finished, run_with}
 use Rattle.pp_run_laws.specs.Laws.{DependOnCallees, SameAt}
 use Rattle.pp_run_laws.proofs.ExprFollows.{expr_follows}
 use Rattle.pp_run_laws.proofs.Follows.{Follows, Kept}
@@ -24,7 +25,7 @@ abbrev Every : Stop → Type 0
 Every x = Unit {0}
 
 all_closed : IsClosed Every
-all_closed = record { fails = λ c. tt; deep = tt }
+all_closed = record { fails = λ c. tt; stuck = tt }
 
 kept_same : {A : Type 0} (part other : Part A) → Kept Every Every part other → part ≡ other
 kept_same (Ok a) other h = sym h
@@ -43,7 +44,7 @@ then_same {part = part} go on e h = by part h ∙ ap (λ q. and_then q on) e
     by (Err x) h = refl
 
 -- an expression depends only on the functions that it calls
-pub expr_same : (c d : Calls) (e : Expr) → SameAt (calls e) c d → (frame : Frame) (env : List Value)
+pub expr_same : (c d : CallMeaning) (e : Expr) → SameAt (calls e) c d → (frame : Frame) (env : List Value)
     → meaning c e frame env ≡ meaning d e frame env
 expr_same c d e same frame env =
     let follows : (g : FunctionId) → Contains (calls e) g.0 → (pre down : Option CheckId) (args : List Value)
@@ -52,13 +53,13 @@ expr_same c d e same frame env =
     let h = expr_follows Every Every all_closed c (λ m. d) frame frame e follows env in
     kept_same _ _ (h.kept h.from (omega arith))
 
-pub same_left : (xs ys : List ℕ) (c d : Calls) → SameAt (xs ++ ys) c d → SameAt xs c d
+pub same_left : (xs ys : List ℕ) (c d : CallMeaning) → SameAt (xs ++ ys) c d → SameAt xs c d
 same_left xs ys c d same = λ frame g has. same frame g (Contains-append_left xs ys g.0 has)
 
-pub same_right : (xs ys : List ℕ) (c d : Calls) → SameAt (xs ++ ys) c d → SameAt ys c d
+pub same_right : (xs ys : List ℕ) (c d : CallMeaning) → SameAt (xs ++ ys) c d → SameAt ys c d
 same_right xs ys c d same = λ frame g has. same frame g (Contains-append_right xs ys g.0 has)
 
-module _ (c d : Calls) where
+module _ (c d : CallMeaning) where
   pub list_same : (es : List Expr) → SameAt (joined (map calls es)) c d → (done : List Value) (frame : Frame)
       (env : List Value) → all_from done (map (meaning c) es) frame env ≡ all_from done (map (meaning d) es) frame env
   list_same [] same done frame env = refl

@@ -1,5 +1,6 @@
 -- Measure values go down in weight: numbers that aren't negative, heights of trees.
-use Rattle.std.proofs.Common.{◌≡◌, ◌⊎◌, ℕ, zero, suc, ◌<◌, ◌≤◌, ℤ, pos, Bool, ◌&&◌, ◌||◌, true, false, List, [], ◌∷◌, map, length, refl, ap, subst, arith, inl, inr, ⊎_elim, Contains}
+use Rattle.std.proofs.Common.{◌≡◌, ◌⊎◌, ℕ, zero, suc, ◌<◌, ◌≤◌, ℤ, pos, Bool, ◌&&◌, ◌||◌, true, false, List, [], ◌∷◌}
+use Rattle.std.proofs.Common.{map, length, refl, ap, subst, arith, inl, inr, ⊎_elim, Contains}
 use Rattle.std.specs.Prelude.{int_le, int_lt, negsuc}
 use Rattle.std.proofs.lemmas.Bool.{and_parts, ltb-true}
 use Rattle.std.proofs.lemmas.List.{length-map}

@@ -1,5 +1,6 @@
 -- An expression follows another's calls where each call of a function that it names does.
-use Rattle.std.proofs.Common.{◌≡◌, ℕ, List, [], ◌∷◌, ◌++◌, map, Bool, true, false, Option, Some, None, Err, refl, sym, ap, ◌∙◌, subst, Contains}
+use Rattle.std.proofs.Common.{◌≡◌, ℕ, List, [], ◌∷◌, ◌++◌, map, Bool, true, false, Option, Some, None, Err, refl, sym}
+use Rattle.std.proofs.Common.{ap, ◌∙◌, subst, Contains}
 use Rattle.std.specs.Prelude.{slice_get}
 use Rattle.std.proofs.lemmas.List.Elements.{Contains-append_left, Contains-append_right, Contains-push}
 use Rattle.pp_prog.specs.declared.expr.BinaryOp.{BinaryOp}
@@ -17,15 +18,18 @@ use Rattle.pp_prog.specs.Calls.{calls, calls_in_case, calls_step, case_calls, jo
 use Rattle.pp_prog.specs.Fits.{fit}
 use Rattle.pp_eval.specs.declared.outcome.Stop.{Stop}
 use Rattle.pp_eval.specs.declared.outcome.Stop.TheVariants.{Fails}
-use Rattle.pp_eval.specs.Meaning.{Arm, Calls, Frame, Meaning, all_from, arm, arm_step, attempt_with, binary, field, first_case, guarded, meaning, meaning_step, or_next, taken}
+use Rattle.pp_eval.specs.Meaning.{Arm, CallMeaning, Frame, Meaning, all_from, arm, arm_step, attempt_with, binary}
+use Rattle.pp_eval.specs.Meaning.{field, first_case, guarded, meaning, meaning_step, or_next, taken}
 use Rattle.pp_eval.specs.Operators.{operated, truth, unary}
 use Rattle.pp_eval.specs.Part.{Part, failed, found}
-use Rattle.pp_run_laws.proofs.Follows.{Follows, follows_along, follows_either, follows_same, follows_then, follows_value}
-use Rattle.pp_run_laws.proofs.Stops.{IsClosed, field_stops, found_stops, failed_stops, may_divide, operated_stops, truth_stops, unary_stops}
+use Rattle.pp_run_laws.proofs.Follows.{Follows, follows_along, follows_either, follows_same, follows_then}
+use Rattle.pp_run_laws.proofs.Follows.{follows_value}
+use Rattle.pp_run_laws.proofs.Stops.{IsClosed, field_stops, found_stops, failed_stops, may_divide, operated_stops}
+use Rattle.pp_run_laws.proofs.Stops.{truth_stops, unary_stops}
 
 -- T says how calls may stop, S which of these stops are kept. The calls of the first are made from the frame `old`,
 -- those of the others from `frame`.
-module _ (T S : Stop → Type 0) (closed : IsClosed T) (c : Calls) (d : ℕ → Calls) (old frame : Frame) where
+module _ (T S : Stop → Type 0) (closed : IsClosed T) (c : CallMeaning) (d : ℕ → CallMeaning) (old frame : Frame) where
   -- each call of g is followed
   abbrev pub CallFollows : FunctionId → Type 0
   CallFollows g =
@@ -108,7 +112,7 @@ module _ (T S : Stop → Type 0) (closed : IsClosed T) (c : Calls) (d : ℕ → 
       → Follows T S (first_case (map (arm c) (cases ys)) check v old env)
       (λ m. first_case (map (arm (d m)) (cases ys)) check v frame env)
   cases_follow [] check v env ask =
-      follows_same (failed check) (failed_stops T closed.deep Value check (λ c _. closed.fails c))
+      follows_same (failed check) (failed_stops T closed.stuck Value check (λ c _. closed.fails c))
   cases_follow (y ∷ ys) check v env ask =
       let h = y.1 (left (calls_in_case y.0) _ ask) in
       follows_then
@@ -120,14 +124,14 @@ module _ (T S : Stop → Type 0) (closed : IsClosed T) (c : Calls) (d : ℕ → 
       → MeaningFollows a a' → MeaningFollows b b'
       → MeaningFollows (binary op a b check) (λ m. binary op (a' m) (b' m) check)
   binary_follows AndAlso a b a' b' check e f env =
-      follows_then (e env) (λ x. follows_then (follows_same (truth x) (truth_stops T closed.deep x))
+      follows_then (e env) (λ x. follows_then (follows_same (truth x) (truth_stops T closed.stuck x))
       (λ t. follows_either t (f env) follows_value))
   binary_follows OrElse a b a' b' check e f env =
-      follows_then (e env) (λ x. follows_then (follows_same (truth x) (truth_stops T closed.deep x))
+      follows_then (e env) (λ x. follows_then (follows_same (truth x) (truth_stops T closed.stuck x))
       (λ t. follows_either t follows_value (f env)))
   binary_follows op a b a' b' check e f env =
       follows_then (e env) (λ x. follows_then (f env) (λ y. follows_same (operated op check x y)
-      (operated_stops T closed.deep op check (may_divide T closed.deep op check (λ c _. closed.fails c)) x y)))
+      (operated_stops T closed.stuck op check (may_divide T closed.stuck op check (λ c _. closed.fails c)) x y)))
 
   abbrev under : layer.Expr-F E K → layer.Expr-F Expr Case
   under y = map-Expr E K Expr Case (λ z. z.0) (λ z. z.0) y
@@ -138,18 +142,18 @@ module _ (T S : Stop → Type 0) (closed : IsClosed T) (c : Calls) (d : ℕ → 
       (λ m. meaning_step (d m) (map-Expr Expr Case Meaning Arm (meaning (d m)) (arm (d m)) (under y)))
   level (layer.Int n) ask env = follows_value
   level (layer.Bool b) ask env = follows_value
-  level (layer.Var i) ask env = follows_same (found (slice_get env i)) (found_stops T closed.deep (slice_get env i))
+  level (layer.Var i) ask env = follows_same (found (slice_get env i)) (found_stops T closed.stuck (slice_get env i))
   level (layer.Unary op a) ask env =
-      follows_then (a.1 ask env) (λ v. follows_same (unary op v) (unary_stops T closed.deep op v))
+      follows_then (a.1 ask env) (λ v. follows_same (unary op v) (unary_stops T closed.stuck op v))
   level (layer.Binary op a b check) ask env =
       binary_follows op _ _ _ _ check (a.1 (left (calls a.0) _ ask)) (b.1 (right (calls a.0) _ ask)) env
   level (layer.Construct k args) ask env = follows_then (all_follow args [] env ask) (λ vs. follows_value)
   level (layer.Field e k) ask env =
-      follows_then (e.1 ask env) (λ v. follows_same (field v k) (field_stops T closed.deep v k))
+      follows_then (e.1 ask env) (λ v. follows_same (field v k) (field_stops T closed.stuck v k))
   level (layer.If t a b) ask env =
       let first = left (calls t.0 ++ calls a.0) (calls b.0) ask in
       follows_then (t.1 (left (calls t.0) _ first) env) (λ v. follows_then
-      (follows_same (truth v) (truth_stops T closed.deep v))
+      (follows_same (truth v) (truth_stops T closed.stuck v))
       (λ q. follows_either q (a.1 (right (calls t.0) _ first) env) (b.1 (right (calls t.0 ++ calls a.0) _ ask) env)))
   level (layer.Match s ys check) ask env =
       follows_then (s.1 (left (calls s.0) _ ask) env) (λ v. cases_follow ys check v env (right (calls s.0) _ ask))
@@ -157,7 +161,7 @@ module _ (T S : Stop → Type 0) (closed : IsClosed T) (c : Calls) (d : ℕ → 
       follows_then (a.1 (left (calls a.0) _ ask) env) (λ v. b.1 (right (calls a.0) _ ask) (env ++ v ∷ []))
   level (layer.Assert check t rest) ask env =
       follows_then (t.1 (left (calls t.0) _ ask) env) (λ v. follows_then
-      (follows_same (truth v) (truth_stops T closed.deep v))
+      (follows_same (truth v) (truth_stops T closed.stuck v))
       (λ q. follows_either q (rest.1 (right (calls t.0) _ ask) env) (follows_same (Err (Fails check))
       (closed.fails check))))
   level (layer.Call g args pre down) ask env =
@@ -187,7 +191,7 @@ module _ (T S : Stop → Type 0) (closed : IsClosed T) (c : Calls) (d : ℕ → 
     patterns = λ m. refl;
     guards =
         λ env. follows_then (e.1 (left (calls e.0) (calls b.0) ask) env)
-        (λ v. follows_same (truth v) (truth_stops T closed.deep v));
+        (λ v. follows_same (truth v) (truth_stops T closed.stuck v));
     bodies = b.1 (right (calls e.0) (calls b.0) ask);
   }
 

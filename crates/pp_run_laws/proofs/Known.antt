@@ -1,5 +1,6 @@
 -- A run is sound as far as those calls are answered that it can make.
-use Rattle.std.proofs.Common.{◌≡◌, ◌⊎◌, ◌==◌, ℕ, Bool, true, false, List, Option, Some, None, Ok, Err, Contains, Decides, slice_get, refl, sym, subst, inl, inr}
+use Rattle.std.proofs.Common.{◌≡◌, ◌⊎◌, ◌==◌, ℕ, Bool, true, false, List, Option, Some, None, Ok, Err, Contains}
+use Rattle.std.proofs.Common.{Decides, slice_get, refl, sym, subst, inl, inr}
 use Rattle.std.proofs.lemmas.Bool.Decides.{Decides-eqb}
 use Rattle.std.proofs.lemmas.Map.Made.{is_member-Decides}
 use Rattle.std.proofs.Math.Logic.{∥∥₁_elim}
@@ -16,8 +17,8 @@ use Rattle.pp_prog.specs.Sorts.{param_sorts}
 use Rattle.pp_eval.specs.declared.outcome.Outcome.{Outcome}
 use Rattle.pp_eval.specs.declared.outcome.Outcome.TheVariants.{Done, Outside, Fails, Inner, Deep}
 use Rattle.pp_eval.specs.declared.outcome.Stop.TheVariants as stop
-use Rattle.pp_eval.specs.Calls.{no_fuel}
-use Rattle.pp_eval.specs.Meaning.{Calls, Frame}
+use Rattle.pp_eval.specs.Invocation.{no_fuel}
+use Rattle.pp_eval.specs.Meaning.{CallMeaning, Frame}
 use Rattle.pp_eval.specs.Part.{Part}
 use Rattle.pp_eval.specs.Runs.{outcome, run_with}
 use Rattle.pp_sound.specs.Sound.{AnswersSorted, IsCalled}
@@ -39,14 +40,14 @@ pub contains_or_not : (gs : List ℕ) (g : ℕ) → Contains gs g ⊎ (Contains 
 contains_or_not gs g = or_not (is_member (λ x y. x == y) gs g) (is_member-Decides Decides-eqb gs g)
 
 -- calls of values of the sorts are good, so that none is Deep
-pub answers_good : (p : Program) (deeper : Calls) → AnswersSorted p deeper → (i : ℕ) → AreGood p ⊥ i deeper
+pub answers_good : (p : Program) (deeper : CallMeaning) → AnswersSorted p deeper → (i : ℕ) → AreGood p ⊥ i deeper
 answers_good p deeper answers i = record {
   part = λ frame g pre down args f is have met_pre met_down.
       let v = answers.answers frame g pre down args f is have in
       subst (IsSorted p ⊥ i f.result) (sym v.1) (fine_value v.2);
 }
 
-module _ (p : Program) (i : ℕ) (f : Function) (calls : Calls) (answered : CallsAnswered p i f calls) where
+module _ (p : Program) (i : ℕ) (f : Function) (calls : CallMeaning) (answered : CallsAnswered p i f calls) where
   own_check : (check : Option CheckId) → IsOwn p i check → IsOwnCheck p i check
   own_check None h = tt
   own_check (Some c) h = h
@@ -56,18 +57,19 @@ module _ (p : Program) (i : ℕ) (f : Function) (calls : Calls) (answered : Call
   as_fine D s (Err (stop.Fails c)) h = record { told = h }
   as_fine D s (Err (stop.Inner g c)) h = record { told = h }
   as_fine D s (Err stop.Deep) h = absurd h
+  as_fine D s (Err stop.Stuck) h = absurd h
 
   -- calls that f can't make do something else
-  abbrev else_calls : Calls → (g : FunctionId)
+  abbrev else_calls : CallMeaning → (g : FunctionId)
       → Contains (function_calls f) g.0 ⊎ (Contains (function_calls f) g.0 → ⊥) → Frame
       → Option CheckId → Option CheckId → List Value → Part Value
   else_calls deeper g (inl has) frame pre down args = calls frame g pre down args
   else_calls deeper g (inr never) frame pre down args = deeper frame g pre down args
 
-  abbrev mixed : Calls → Calls
+  abbrev mixed : CallMeaning → CallMeaning
   mixed deeper frame g pre down args = else_calls deeper g (contains_or_not (function_calls f) g.0) frame pre down args
 
-  mixed_good : (D : Type 0) (deeper : Calls) → AreGood p D i deeper → AreGood p D i (mixed deeper)
+  mixed_good : (D : Type 0) (deeper : CallMeaning) → AreGood p D i deeper → AreGood p D i (mixed deeper)
   mixed_good D deeper good = record {
     part = λ frame g pre down args h is have met_pre met_down.
         by frame g pre down args h is have met_pre met_down (contains_or_not (function_calls f) g.0);
@@ -85,7 +87,7 @@ module _ (p : Program) (i : ℕ) (f : Function) (calls : Calls) (answered : Call
       by frame g pre down args h is have met_pre met_down (inr never) =
           good.part frame g pre down args h is have met_pre met_down
 
-  mixed_same : (deeper : Calls) → SameAt (function_calls f) calls (mixed deeper)
+  mixed_same : (deeper : CallMeaning) → SameAt (function_calls f) calls (mixed deeper)
   mixed_same deeper frame g has pre down args = by (contains_or_not (function_calls f) g.0)
     where
       by : (n : Contains (function_calls f) g.0 ⊎ (Contains (function_calls f) g.0 → ⊥))
@@ -95,7 +97,7 @@ module _ (p : Program) (i : ℕ) (f : Function) (calls : Calls) (answered : Call
 
   module _ (args : List Value) (called : IsCalled p i f args) where
     -- the run is fine, where the calls that f can't make are
-    fine_with : (D : Type 0) (deeper : Calls) → AreGood p D i deeper
+    fine_with : (D : Type 0) (deeper : CallMeaning) → AreGood p D i deeper
         → IsFine (MayStop p D i) (IsEnd p f.result) (run_with calls f args)
     fine_with D deeper good =
         subst (IsFine (MayStop p D i) (IsEnd p f.result)) (sym (run_same calls (mixed deeper) f (mixed_same deeper)
@@ -103,7 +105,7 @@ module _ (p : Program) (i : ℕ) (f : Function) (calls : Calls) (answered : Call
         (run_fine p D i (mixed deeper) (mixed_good D deeper good) f called.function args called.arguments)
 
     answered_run : (part : Part Outcome) → IsFine (MayStop p (Unit {0}) i) (IsEnd p f.result) part
-        → ((deeper : Calls) → AnswersSorted p deeper → IsFine (MayStop p ⊥ i) (IsEnd p f.result) part)
+        → ((deeper : CallMeaning) → AnswersSorted p deeper → IsFine (MayStop p ⊥ i) (IsEnd p f.result) part)
         → IsAnsweredRun p i f.result (outcome part)
     answered_run (Ok (Done v)) h never = h.told
     answered_run (Ok Outside) h never = tt
@@ -112,6 +114,7 @@ module _ (p : Program) (i : ℕ) (f : Function) (calls : Calls) (answered : Call
     answered_run (Ok Deep) h never = absurd h.told
     answered_run (Err (stop.Fails c)) h never = h.told
     answered_run (Err (stop.Inner g c)) h never = h.told
+    answered_run (Err stop.Stuck) h never = absurd h.told
     answered_run (Err stop.Deep) h never = ∥∥₁_elim (can_answer_sorted p) ⊥_prop (λ k. (never k.0 k.1).told)
       where
         ⊥_prop : IsProp ⊥

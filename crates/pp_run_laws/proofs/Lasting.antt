@@ -5,21 +5,9 @@ use Rattle.pp_prog.specs.declared.expr.Function.{Function}
 use Rattle.pp_prog.specs.declared.types.Ctor.{Ctor}
 use Rattle.pp_prog.specs.declared.value.Value.{Value}
 use Rattle.pp_eval.specs.declared.outcome.Outcome.TheVariants as outcome
-use Rattle.pp_eval.specs.declared.outcome.Stop.TheVariants.{Deep, Fails, Inner}
-use Rattle.pp_eval.specs.Part.{Part}
 use Rattle.pp_eval.specs.Runs.{run}
-use Rattle.pp_eval.proofs.Extends.{Extends, eval_extends}
 use Rattle.pp_eval.proofs.Lasts.{lasts}
-use Rattle.pp_run_laws.specs.Laws.{ExpressionsLast, OneFuelServes}
-
-stays : {A : Type 0} (part other : Part A) → Extends part other → part ≢ Err Deep → other ≡ part
-stays (Ok a) other h never = h
-stays (Err (Fails c)) other h never = h
-stays (Err (Inner g c)) other h never = h
-stays (Err Deep) other h never = absurd (never refl)
-
-pub expressions_last : ExpressionsLast
-expressions_last ctors fs n m frame env e le never = stays _ _ (eval_extends ctors fs n m frame env e le) never
+use Rattle.pp_run_laws.specs.Laws.{OneFuelServes}
 
 more_fuel : (ctors : List Ctor) (fs : List Function) (f : Function) (args : List Value) (n m : ℕ) → n ≤ m
     → run ctors fs f args n ≢ outcome.Deep → run ctors fs f args m ≢ outcome.Deep

@@ -1,5 +1,6 @@
 -- The measure values of a frame have the sorts of the function's measure.
-use Rattle.std.proofs.Common.{◌≡◌, ℕ, true, List, [], ◌∷◌, ◌++◌, map, Option, Some, None, is_some, Ok, refl, sym, subst, append_assoc, append-nil}
+use Rattle.std.proofs.Common.{◌≡◌, ℕ, true, List, [], ◌∷◌, ◌++◌, map, Option, Some, None, is_some, Ok, refl, sym, subst}
+use Rattle.std.proofs.Common.{append_assoc, append-nil}
 use Rattle.std.proofs.lemmas.Bool.{and_parts}
 use Rattle.pp_prog.specs.declared.expr.Expr.{Expr}
 use Rattle.pp_prog.specs.declared.program.Program.{Program}
@@ -10,20 +11,17 @@ use Rattle.pp_prog.specs.Listing.{measure_sites}
 use Rattle.pp_prog.specs.Results.{result_of}
 use Rattle.pp_prog.specs.Sorts.{param_sorts}
 use Rattle.pp_eval.specs.declared.outcome.Stop.{Stop}
-use Rattle.pp_eval.specs.Calls.{calls_to, frame_of, no_fuel}
-use Rattle.pp_eval.specs.Meaning.{Calls, Frame, all_from, meaning}
+use Rattle.pp_eval.specs.Invocation.{calls_to, frame_of, no_fuel}
+use Rattle.pp_eval.specs.Meaning.{CallMeaning, Frame, all_from, meaning}
 use Rattle.pp_eval.specs.Part.{Part}
 use Rattle.pp_sound.proofs.Calls.{calls_good, whole}
 use Rattle.pp_sound.proofs.Env.{Has, Have, have_more, have_one}
 use Rattle.pp_sound.proofs.Exprs.{AreGood, expr_sound}
 use Rattle.pp_sound.proofs.Parts.{IsFine, MayStop, fine_stop, fine_then, fine_value}
 use Rattle.pp_sound.proofs.Sites.{AreMet, met_left, met_right}
+use Rattle.pp_sound.proofs.Sorting.{some_sort}
 use Rattle.pp_checks.proofs.Called.{read_off}
 use Rattle.pp_run_laws.specs.Laws.{MeasuresKeepSorts}
-
-some_sort : (o : Option Sort) → is_some o ≡ true → (s : Sort) × (o ≡ Some s)
-some_sort None h = cc
-some_sort (Some s) h = (s, refl)
 
 -- calls with no fuel left are Deep, which is all that is asked of them
 pub no_fuel_good : (p : Program) (i : ℕ) → AreGood p (Unit {0}) i no_fuel
@@ -44,7 +42,7 @@ module _ (p : Program) where
   IsFrameOf es scope None = es ≡ []
   IsFrameOf es scope (Some values) = Have p.types.ctors (component_sorts es scope) values
 
-module _ (p : Program) (D : Type 0) (i : ℕ) (calls : Calls) (good : AreGood p D i calls) where
+module _ (p : Program) (D : Type 0) (i : ℕ) (calls : CallMeaning) (good : AreGood p D i calls) where
   components_sorted : (es : List Expr) (scope : List Sort) → is_sorted_measure p.types p.functions es scope ≡ true
       → AreMet p i (measure_sites p.types p.functions es scope) → (env : List Value) → Have p.types.ctors scope env
       → (before : List Sort) (done : List Value) → Have p.types.ctors before done

@@ -1,5 +1,6 @@
 -- A call tree that is at most n deep needs no more fuel.
-use Rattle.std.proofs.Common.{◌≡◌, ℕ, zero, suc, List, Option, Some, None, slice_get, refl, sym, ap, ◌∙◌, subst, Contains}
+use Rattle.std.proofs.Common.{◌≡◌, ℕ, zero, suc, List, Option, Some, None, slice_get, refl, sym, ap, ◌∙◌, subst}
+use Rattle.std.proofs.Common.{Contains}
 use Rattle.std.proofs.Math.Logic.{∥∥₁_elim}
 use Rattle.pp_graph.specs.Reaches.{calls_of}
 use Rattle.pp_prog.specs.declared.expr.Function.{Function}
@@ -8,8 +9,8 @@ use Rattle.pp_prog.specs.declared.id.FunctionId.{FunctionId}
 use Rattle.pp_prog.specs.declared.types.Ctor.{Ctor}
 use Rattle.pp_prog.specs.declared.value.Value.{Value}
 use Rattle.pp_prog.specs.Calls.{call_table, function_calls}
-use Rattle.pp_eval.specs.Calls.{calls_over, enters, no_fuel}
-use Rattle.pp_eval.specs.Meaning.{Calls, Frame}
+use Rattle.pp_eval.specs.Invocation.{calls_over, enters, no_fuel}
+use Rattle.pp_eval.specs.Meaning.{CallMeaning, Frame}
 use Rattle.pp_eval.specs.Runs.{outcome, run_with}
 use Rattle.pp_sound.proofs.Answered.{can_answer_sorted}
 use Rattle.pp_sound.proofs.Laws.{deep_by_fuel_alone}
@@ -18,7 +19,7 @@ use Rattle.pp_checks.proofs.Ruling.{calls_at}
 use Rattle.pp_run_laws.specs.Laws.{NestedNeverDeep, SameAt}
 use Rattle.pp_run_laws.proofs.Depends.{enters_same, run_same}
 
-module _ (ctors : List Ctor) (fs : List Function) (c d : Calls) where
+module _ (ctors : List Ctor) (fs : List Function) (c d : CallMeaning) where
   -- the two do the same at calls of h with this fuel
   abbrev AreSame : ℕ → FunctionId → Type 0
   AreSame n h =

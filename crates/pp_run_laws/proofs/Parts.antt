@@ -1,5 +1,6 @@
 -- What a run that ends says of its parts, and what a call makes of them.
-use Rattle.std.proofs.Common.{◌≡◌, Bool, true, false, List, [], ◌∷◌, ◌++◌, Option, Some, None, Ok, Err, refl, sym, ap, ◌∙◌, subst}
+use Rattle.std.proofs.Common.{◌≡◌, Bool, true, false, List, [], ◌∷◌, ◌++◌, Option, Some, None, Ok, Err, refl, sym, ap}
+use Rattle.std.proofs.Common.{◌∙◌, subst}
 use Rattle.std.specs.Prelude.{⊤}
 use Rattle.pp_prog.specs.declared.expr.Expr.{Expr}
 use Rattle.pp_prog.specs.declared.expr.Function.{Function}
@@ -10,11 +11,11 @@ use Rattle.pp_prog.specs.declared.value.Value.{Value}
 use Rattle.pp_eval.specs.declared.outcome.Outcome.{Outcome}
 use Rattle.pp_eval.specs.declared.outcome.Outcome.TheVariants.{Done, Outside, Fails, Inner, Deep}
 use Rattle.pp_eval.specs.declared.outcome.Stop.TheVariants as stop
-use Rattle.pp_eval.specs.Calls.{admits, calls_to, descends, enters, frame_of}
-use Rattle.pp_eval.specs.Meaning.{Calls, Frame, meaning}
+use Rattle.pp_eval.specs.Invocation.{allowed, calls_to, descends, enters, frame_of}
+use Rattle.pp_eval.specs.Meaning.{CallMeaning, Frame, meaning}
 use Rattle.pp_eval.specs.Operators.{truth}
 use Rattle.pp_eval.specs.Part.{Part, and_then, either, failed, inside}
-use Rattle.pp_eval.specs.Runs.{allowed, finished, outcome, run_with, started}
+use Rattle.pp_eval.specs.Runs.{finished, outcome, run_with, started}
 use Rattle.pp_run_laws.specs.Laws.{CallsAreRuns}
 
 -- the run ended at no check, and not too deep
@@ -32,14 +33,9 @@ then_ended (Ok a) go o ended e = (a, refl, e)
 then_ended (Err (stop.Fails c)) go o ended e = absurd (subst IsEnded (sym e) ended)
 then_ended (Err (stop.Inner g c)) go o ended e = absurd (subst IsEnded (sym e) ended)
 then_ended (Err stop.Deep) go o ended e = absurd (subst IsEnded (sym e) ended)
+then_ended (Err stop.Stuck) go o ended e = absurd (subst IsEnded (sym e) ended)
 
-module _ (c : Calls) where
-  -- the precondition is a guard of the call
-  pub admits_is : (g : FunctionId) (pre : Option Expr) (check : Option CheckId) (args : List Value)
-      → admits c g pre check args ≡ and_then (inside g (allowed c pre args)) (λ t. either t (Ok tt) (failed check))
-  admits_is g None check args = refl
-  admits_is g (Some pre) check args = refl
-
+module _ (c : CallMeaning) where
   either_done : (t : Bool) (v w : Value) (check : CheckId)
       → outcome (either t (Ok (Done v)) (Err (stop.Fails check))) ≡ Done w → (v ≡ w) × (t ≡ true)
   either_done true v w check e = (cc, refl)
@@ -129,7 +125,7 @@ module _ (c : Calls) where
   refused_call ctors f args e frame g pre down =
       ap (λ q. and_then q (λ _. and_then (inside g (frame_of c f.measure args))
       (λ new. and_then (descends ctors down frame new) (λ _. inside g (meaning c f.body new args)))))
-      (admits_is g f.pre pre args ∙ ap (λ q. and_then (inside g q) (λ t. either t (Ok tt) (failed pre))) e) ∙ stays
+      (ap (λ q. and_then (inside g q) (λ t. either t (Ok tt) (failed pre))) e) ∙ stays
       pre _
     where
       stays : (check : Option CheckId) (go : ⊤ → Part Value) → and_then (failed check) go ≡ failed check
@@ -144,7 +140,7 @@ module _ (c : Calls) where
   entered_call ctors f args new e m frame g pre down =
       ap (λ q. and_then q (λ _. and_then (inside g (frame_of c f.measure args))
       (λ new. and_then (descends ctors down frame new) (λ _. inside g (meaning c f.body new args)))))
-      (admits_is g f.pre pre args ∙ ap (λ q. and_then (inside g q) (λ t. either t (Ok tt) (failed pre))) e)
+      (ap (λ q. and_then (inside g q) (λ t. either t (Ok tt) (failed pre))) e)
       ∙ ap (λ q. and_then (inside g q) (λ new. and_then (descends ctors down frame new)
       (λ _. inside g (meaning c f.body new args)))) m
 

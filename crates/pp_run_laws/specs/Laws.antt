@@ -1,5 +1,6 @@
 -- Laws of runs. Source: own.
-use Rattle.std.specs.Prelude.{◌≡◌, ◌≢◌, ◌<◌, ◌≤◌, ℕ, suc, List, Option, Some, None, Ok, Err, IsTrue, length, slice_get, Contains}
+use Rattle.std.specs.Prelude.{◌≡◌, ◌≢◌, ◌<◌, ◌≤◌, ℕ, suc, List, Option, Some, None, Ok, Err, IsTrue, length, slice_get}
+use Rattle.std.specs.Prelude.{Contains}
 use Rattle.std.specs.List.{All}
 use Rattle.pp_prog.specs.declared.expr.Expr.{Expr}
 use Rattle.pp_prog.specs.declared.expr.Function.{Function}
@@ -16,9 +17,9 @@ use Rattle.pp_prog.specs.Valid.{Carries}
 use Rattle.pp_prog.specs.Values.{IsBelow, height}
 use Rattle.pp_eval.specs.declared.outcome.Outcome.{Outcome}
 use Rattle.pp_eval.specs.declared.outcome.Outcome.TheVariants as outcome
-use Rattle.pp_eval.specs.declared.outcome.Stop.TheVariants.{Deep, Fails, Inner}
-use Rattle.pp_eval.specs.Calls.{calls_to, descends, eval, frame_of}
-use Rattle.pp_eval.specs.Meaning.{Calls, Frame, meaning}
+use Rattle.pp_eval.specs.declared.outcome.Stop.TheVariants.{Deep, Fails, Inner, Stuck}
+use Rattle.pp_eval.specs.Invocation.{calls_to, descends, frame_of}
+use Rattle.pp_eval.specs.Meaning.{CallMeaning, Frame, meaning}
 use Rattle.pp_eval.specs.Measure.{is_below}
 use Rattle.pp_eval.specs.Part.{Part, and_then, failed}
 use Rattle.pp_eval.specs.Runs.{AreArguments, outcome as run_outcome, run, run_with}
@@ -27,24 +28,17 @@ use Rattle.pp_checks.specs.Closed.{Nests}
 use Rattle.pp_checks.specs.Rules.{measure_sorts}
 
 -- the two do the same at each call of one of these functions
-abbrev pub SameAt : List ℕ → Calls → Calls → Type 0
+abbrev pub SameAt : List ℕ → CallMeaning → CallMeaning → Type 0
 SameAt gs c d =
     (frame : Frame) (g : FunctionId) → Contains gs g.0 → (pre measure : Option CheckId) (args : List Value)
     → c frame g pre measure args ≡ d frame g pre measure args
 
 -- an expression depends only on the functions that it calls, and a run on those that its function calls
 pub record DependOnCallees : Type 0 where
-  pub expressions : (c d : Calls) (e : Expr) → SameAt (calls e) c d → (frame : Frame) (env : List Value)
+  pub expressions : (c d : CallMeaning) (e : Expr) → SameAt (calls e) c d → (frame : Frame) (env : List Value)
       → meaning c e frame env ≡ meaning d e frame env
-  pub runs : (c d : Calls) (f : Function) → SameAt (function_calls f) c d → (args : List Value)
+  pub runs : (c d : CallMeaning) (f : Function) → SameAt (function_calls f) c d → (args : List Value)
       → run_with c f args ≡ run_with d f args
-
--- an outcome of an expression other than Deep stays the same with more fuel
-abbrev pub ExpressionsLast : Type 0
-ExpressionsLast =
-    (ctors : List Ctor) (functions : List Function) (n m : ℕ) (frame : Frame) (env : List Value) (e : Expr) → n ≤ m
-    → eval ctors functions n frame env e ≢ Err Deep
-    → eval ctors functions m frame env e ≡ eval ctors functions n frame env e
 
 -- where each of finitely many runs has fuel with which it isn't Deep, one fuel serves them all
 abbrev pub OneFuelServes : Type 0
@@ -84,10 +78,11 @@ IsAnswered p i s (Ok v) = IsTrue (has_sort p.types.ctors v s)
 IsAnswered p i s (Err (Fails c)) = IsCheckOf p i c.0
 IsAnswered p i s (Err (Inner g c)) = (g.0 < length p.functions) × IsCheckOf p g.0 c.0
 IsAnswered p i s (Err Deep) = ⊥
+IsAnswered p i s (Err Stuck) = ⊥
 
 -- each call that f can make is answered so, where f is function number i: of one of the functions that it calls, on
 -- arguments of the parameters' sorts, at a site that carries checks exactly where it can fail
-pub record CallsAnswered (p : Program) (i : ℕ) (f : Function) (calls : Calls) : Type 0 where
+pub record CallsAnswered (p : Program) (i : ℕ) (f : Function) (calls : CallMeaning) : Type 0 where
   pub each : (frame : Frame) (g : FunctionId) (pre measure : Option CheckId) (args : List Value) (h : Function)
       → Contains (function_calls f) g.0 → slice_get p.functions g.0 ≡ Some h
       → AreArguments p.types.ctors (Some h) args → Carries p.types p.functions i (site.precondition g pre)
@@ -106,7 +101,7 @@ IsAnsweredRun p i s outcome.Deep = ⊥
 -- a run is sound, whatever its calls do, as far as those are answered that it can make
 abbrev pub AnsweredCallsSuffice : Type 0
 AnsweredCallsSuffice =
-    (p : Program) (i : ℕ) (f : Function) (args : List Value) → IsCalled p i f args → (calls : Calls)
+    (p : Program) (i : ℕ) (f : Function) (args : List Value) → IsCalled p i f args → (calls : CallMeaning)
     → CallsAnswered p i f calls → IsAnsweredRun p i f.result (run_outcome (run_with calls f args))
 
 -- trees go down in height, and no list of measure values goes down for ever

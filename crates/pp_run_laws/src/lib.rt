@@ -4,18 +4,14 @@
 //! `specs/Laws` states.
 #![tactic(auto)]
 
-ghost use Rattle.pp_run_laws.specs.Laws.{AnsweredCallsSuffice, CallsAreRuns, DependOnCallees, ExpressionsLast, MeasuresEnd, MeasuresKeepSorts, NestedNeverDeep, OneFuelServes};
+ghost use Rattle.pp_run_laws.specs.Laws.{AnsweredCallsSuffice, CallsAreRuns, DependOnCallees};
+ghost use Rattle.pp_run_laws.specs.Laws.{MeasuresEnd, MeasuresKeepSorts, NestedNeverDeep};
+ghost use Rattle.pp_run_laws.specs.Laws.{OneFuelServes};
 
 /// An expression depends only on the functions that it calls, and a run on those that its function calls. It does
 /// nothing: its contract is the law.
 pub fn depend_on_callees()
     ensures { DependOnCallees }
-{}
-
-/// An outcome of an expression other than `Deep` stays the same with more fuel. It does nothing: its contract is the
-/// law.
-pub fn expressions_last()
-    ensures { ExpressionsLast }
 {}
 
 /// One fuel serves finitely many runs, where each has one. It does nothing: its contract is the law.

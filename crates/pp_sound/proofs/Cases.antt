@@ -32,7 +32,8 @@ module _ (p : Program) (s u : Sort) (scope : List Sort) where
   EachArm [] = Unit {0}
   EachArm (arm ∷ arms) = (arm_sort p.types p.functions arm s scope ≡ Some u) × EachArm arms
 
-  each_like : (t : Option Sort) (arms : List Arm) → arms_like p.types p.functions t arms s scope ≡ Some u → (t ≡ Some u) × EachArm arms
+  each_like : (t : Option Sort) (arms : List Arm) → arms_like p.types p.functions t arms s scope ≡ Some u → (t ≡ Some u)
+      × EachArm arms
   each_like t [] h = (h, tt)
   each_like t (arm ∷ arms) h =
       let here = arm_sort p.types p.functions arm s scope in
@@ -51,12 +52,16 @@ module _ (p : Program) (i : ℕ) where
   MayReach None patterns v = fits_one patterns v ≡ true
   MayReach (Some c) patterns v = IsCheckOf p i c.0
 
-  pub reaches_first : (s : Sort) (patterns : List Pattern) (check : Option CheckId) → IsMet p i (matching s patterns check) → (v : Value) → Has p.types.ctors s v → MayReach check patterns v
+  pub reaches_first : (s : Sort) (patterns : List Pattern) (check : Option CheckId)
+      → IsMet p i (matching s patterns check) → (v : Value) → Has p.types.ctors s v → MayReach check patterns v
   reaches_first s patterns None met v has = met.carries.0 refl v has
   reaches_first s patterns (Some c) met v has = met.own
 
-  pub reaches_next : (check : Option CheckId) (guard : Option Expr) (pattern : Pattern) (rest : List Pattern) (v : Value) → IsMissed guard pattern v → MayReach check (unless_guarded guard pattern rest) v → MayReach check rest v
-  reaches_next None None pattern rest v missed may = or_rest (fits pattern v) (fits_one rest v) (or_parts (fits pattern v) false missed).0 may
+  pub reaches_next : (check : Option CheckId) (guard : Option Expr) (pattern : Pattern) (rest : List Pattern)
+      (v : Value) → IsMissed guard pattern v → MayReach check (unless_guarded guard pattern rest) v
+      → MayReach check rest v
+  reaches_next None None pattern rest v missed may = or_rest (fits pattern v) (fits_one rest v)
+      (or_parts (fits pattern v) false missed).0 may
   reaches_next None (Some guard) pattern rest v missed may = may
   reaches_next (Some c) guard pattern rest v missed may = may
 
@@ -67,11 +72,13 @@ IsTaken p u missed (Some v) = Has p.types.ctors u v
 
 module _ (p : Program) (D : Type 0) (i : ℕ) (u : Sort) (missed : Type 0) where
   -- the next case where this one gives nothing
-  pub or_next_fine : (o : Option Value) (next : Part Value) → IsTaken p u missed o → (missed → IsSorted p D i u next) → IsSorted p D i u (or_next o next)
+  pub or_next_fine : (o : Option Value) (next : Part Value) → IsTaken p u missed o → (missed → IsSorted p D i u next)
+      → IsSorted p D i u (or_next o next)
   or_next_fine None next h k = k h
   or_next_fine (Some v) next h k = fine_value h
 
   -- the body's value where the guard is true, and nothing where it is false
-  pub taken_fine : (t : Bool) (body : Part Value) → IsSorted p D i u body → (t ≡ false → missed) → IsFine (MayStop p D i) (IsTaken p u missed) (taken t body)
+  pub taken_fine : (t : Bool) (body : Part Value) → IsSorted p D i u body → (t ≡ false → missed)
+      → IsFine (MayStop p D i) (IsTaken p u missed) (taken t body)
   taken_fine true body h k = fine_then h (λ v has. fine_value has)
   taken_fine false body h k = fine_value (k refl)

@@ -1,5 +1,6 @@
 -- Values in scope: each has the sort at its place.
-use Rattle.std.proofs.Common.{◌≡◌, ℕ, zero, suc, Bool, true, List, [], ◌∷◌, ◌++◌, map, Option, Some, None, slice_get, refl, sym, ap, ◌∙◌, subst}
+use Rattle.std.proofs.Common.{◌≡◌, ℕ, zero, suc, Bool, true, List, [], ◌∷◌, ◌++◌, map, Option, Some, None, slice_get}
+use Rattle.std.proofs.Common.{refl, sym, ap, ◌∙◌, subst}
 use Rattle.std.proofs.lemmas.Bool.{and_from, and_parts, eq-eqb, eqb-true}
 use Rattle.pp_prog.specs.declared.id.CtorId.{CtorId}
 use Rattle.pp_prog.specs.declared.sort.Sort.{Sort}
@@ -25,7 +26,7 @@ one_sort (sort.Tree d) sort.Int h = cc
 one_sort (sort.Tree d) sort.Bool h = cc
 one_sort (sort.Tree d) (sort.Tree e) h = let mk : ℕ → Sort = λ n. sort.Tree (record { 0 = n }) in ap mk (eqb-true d.0 e.0 h)
 
-its_sort : (s : Sort) → same_sort s s ≡ true
+pub its_sort : (s : Sort) → same_sort s s ≡ true
 its_sort sort.Int = refl
 its_sort sort.Bool = refl
 its_sort (sort.Tree d) = eq-eqb d.0 d.0 refl
@@ -39,7 +40,8 @@ module _ (ctors : List Ctor) where
   abbrev pub Have : List Sort → List Value → Type 0
   Have sorts values = have_sorts ctors values sorts ≡ true
 
-  pub have_more : (sorts more : List Sort) (vs ws : List Value) → Have sorts vs → Have more ws → Have (sorts ++ more) (vs ++ ws)
+  pub have_more : (sorts more : List Sort) (vs ws : List Value) → Have sorts vs → Have more ws
+      → Have (sorts ++ more) (vs ++ ws)
   have_more [] more [] ws h k = k
   have_more [] more (v ∷ vs) ws h k = cc
   have_more (s ∷ ss) more [] ws h k = cc
@@ -50,7 +52,8 @@ module _ (ctors : List Ctor) where
   have_one s v h = and_from (has_sort ctors v s) true h refl
 
   -- the value at the place of a sort
-  pub have_at : (sorts : List Sort) (vs : List Value) (i : ℕ) (s : Sort) → Have sorts vs → slice_get sorts i ≡ Some s → (v : Value) × (slice_get vs i ≡ Some v) × Has s v
+  pub have_at : (sorts : List Sort) (vs : List Value) (i : ℕ) (s : Sort) → Have sorts vs → slice_get sorts i ≡ Some s
+      → (v : Value) × (slice_get vs i ≡ Some v) × Has s v
   have_at [] [] i s h is = cc
   have_at [] (v ∷ vs) i s h is = cc
   have_at (t ∷ ts) [] i s h is = cc
@@ -62,25 +65,31 @@ module _ (ctors : List Ctor) where
 
   pub int_has : (n : ℤ) → is_int n ≡ true → Has sort.Int (Int n)
   int_has n h =
-      ap (λ v. has_sort ctors v sort.Int) (sym (rolls-Int n)) ∙ ap (λ f. f sort.Int) (fold-roll-Value (Sort → Bool) (has_step ctors) (value.Int n)) ∙ h
+      ap (λ v. has_sort ctors v sort.Int) (sym (rolls-Int n))
+      ∙ ap (λ f. f sort.Int) (fold-roll-Value (Sort → Bool) (has_step ctors) (value.Int n)) ∙ h
 
   pub truth_has : (b : Bool) → Has sort.Bool (Truth b)
   truth_has b =
-      ap (λ v. has_sort ctors v sort.Bool) (sym (rolls-Bool b)) ∙ ap (λ f. f sort.Bool) (fold-roll-Value (Sort → Bool) (has_step ctors) (value.Bool b))
+      ap (λ v. has_sort ctors v sort.Bool) (sym (rolls-Bool b))
+      ∙ ap (λ f. f sort.Bool) (fold-roll-Value (Sort → Bool) (has_step ctors) (value.Bool b))
 
-  pub tree_has_sort : (c : CtorId) (k : Ctor) (vs : List Value) → slice_get ctors c.0 ≡ Some k → Have k.fields vs → Has (sort.Tree k.of) (Tree c vs)
+  pub tree_has_sort : (c : CtorId) (k : Ctor) (vs : List Value) → slice_get ctors c.0 ≡ Some k → Have k.fields vs
+      → Has (sort.Tree k.of) (Tree c vs)
   tree_has_sort c k vs is h =
       let s = sort.Tree k.of in
-      ap (λ v. has_sort ctors v s) (sym (rolls-Tree c vs)) ∙ ap (λ f. f s) (fold-roll-Value (Sort → Bool) (has_step ctors) (value.Tree c vs))
+      ap (λ v. has_sort ctors v s) (sym (rolls-Tree c vs))
+      ∙ ap (λ f. f s) (fold-roll-Value (Sort → Bool) (has_step ctors) (value.Tree c vs))
       ∙ ap (λ o. tree_has o (map (has_sort ctors) vs) s) is ∙ and_from (same_sort s s) _ (its_sort s) h
 
   -- ---- what a value of a sort is
 
   -- the test of a value, one level down
-  pub level_has : (v : Value) (s : Sort) → Has s v → has_step ctors (map-Value Value (Sort → Bool) (has_sort ctors) (out-Value v)) s ≡ true
+  pub level_has : (v : Value) (s : Sort) → Has s v → has_step ctors
+      (map-Value Value (Sort → Bool) (has_sort ctors) (out-Value v)) s ≡ true
   level_has v s h = sym (ap (λ f. f s) (fold_out-Value (Sort → Bool) (has_step ctors) v)) ∙ h
 
 -- a tree's constructor, and the sorts of its fields
-pub tree_is : (o : Option Ctor) (tests : List (Sort → Bool)) (s : Sort) → tree_has o tests s ≡ true → (k : Ctor) × (o ≡ Some k) × (sort.Tree k.of ≡ s) × (fields_have tests k.fields ≡ true)
+pub tree_is : (o : Option Ctor) (tests : List (Sort → Bool)) (s : Sort) → tree_has o tests s ≡ true → (k : Ctor)
+    × (o ≡ Some k) × (sort.Tree k.of ≡ s) × (fields_have tests k.fields ≡ true)
 tree_is None tests s h = cc
 tree_is (Some k) tests s h = let e = and_parts (same_sort (sort.Tree k.of) s) _ h in (k, refl, one_sort _ s e.0, e.1)

@@ -1,5 +1,6 @@
 -- A field of a value of a datatype with one constructor.
-use Rattle.std.proofs.Common.{◌≡◌, ℕ, ◌+◌, ◌<◌, ◌≤◌, Bool, true, false, List, map, Option, Some, None, slice_get, Ok, refl, sym, ap, ◌∙◌, subst, arith}
+use Rattle.std.proofs.Common.{◌≡◌, ℕ, ◌+◌, ◌<◌, ◌≤◌, Bool, true, false, List, map, Option, Some, None, slice_get, Ok}
+use Rattle.std.proofs.Common.{refl, sym, ap, ◌∙◌, subst, arith}
 use Rattle.std.specs.Prelude.{nat_eq, if◌then◌else◌}
 use Rattle.std.proofs.lemmas.Bool.{and_parts, eqb-true, leb-true, ltb-true}
 use Rattle.pp_prog.specs.declared.id.DataId.{DataId}
@@ -30,7 +31,8 @@ field_of_one ctors (Some t) k s h = by (nat_eq t.count 1) refl h
     by true e g = (t, refl, eqb-true t.count 1 e, g)
     by false e g = cc
 
-field_of_the : (o : Option Ctor) (k : ℕ) (s : Sort) → field_of_ctor o k ≡ Some s → (c : Ctor) × (o ≡ Some c) × (slice_get c.fields k ≡ Some s)
+field_of_the : (o : Option Ctor) (k : ℕ) (s : Sort) → field_of_ctor o k ≡ Some s → (c : Ctor) × (o ≡ Some c)
+    × (slice_get c.fields k ≡ Some s)
 field_of_the None k s h = cc
 field_of_the (Some c) k s h = (c, refl, h)
 
@@ -46,15 +48,18 @@ tree_of d e h = let same : d ≡ e = cc in ap (λ (x : DataId). x.0) same
 
 module _ (datatypes : List Datatype) (ctors : List Ctor) (agree : Agree datatypes ctors) where
   -- the one constructor of a datatype is its first
-  first_place : (t : Datatype) (d c : ℕ) (k : Ctor) → slice_get datatypes d ≡ Some t → t.count ≡ 1 → slice_get ctors c ≡ Some k → k.of.0 ≡ d → c ≡ t.first.0
+  first_place : (t : Datatype) (d c : ℕ) (k : Ctor) → slice_get datatypes d ≡ Some t → t.count ≡ 1
+      → slice_get ctors c ≡ Some k → k.of.0 ≡ d → c ≡ t.first.0
   first_place t d c k there one is of =
       the_place t c (subst (λ o. in_block_of o c ≡ true) (ap (slice_get datatypes) of ∙ there) (agree.stands c k is)) one
 
   same_ctor : (c n : ℕ) (k l : Ctor) → slice_get ctors c ≡ Some k → c ≡ n → slice_get ctors n ≡ Some l → k ≡ l
   same_ctor c n k l is same there = let both : Some k ≡ Some l = sym is ∙ ap (slice_get ctors) same ∙ there in cc
 
-  field_there : (d : DataId) (k : ℕ) (s : Sort) → field_of_data ctors (slice_get datatypes d.0) k ≡ Some s → (o : value.Value-F Value)
-      → has_step ctors (map-Value Value (Sort → Bool) (has_sort ctors) o) (sort.Tree d) ≡ true → (v : Value) × (field_in o k ≡ Ok v) × Has ctors s v
+  field_there : (d : DataId) (k : ℕ) (s : Sort) → field_of_data ctors (slice_get datatypes d.0) k ≡ Some s
+      → (o : value.Value-F Value)
+      → has_step ctors (map-Value Value (Sort → Bool) (has_sort ctors) o) (sort.Tree d) ≡ true → (v : Value)
+      × (field_in o k ≡ Ok v) × Has ctors s v
   field_there d k s h (value.Int n) has = cc
   field_there d k s h (value.Bool b) has = cc
   field_there d k s h (value.Tree e fields) has =
@@ -67,7 +72,10 @@ module _ (datatypes : List Datatype) (ctors : List Ctor) (agree : Agree datatype
       (v.0, ap found v.1, v.2)
 
 -- the field at this place has the sort that it says
-pub field_is : (p : Program) (d : DataId) (k : ℕ) (s : Sort) → field_of_data p.types.ctors (slice_get p.types.datatypes d.0) k ≡ Some s → (v : Value) → Has p.types.ctors (sort.Tree d) v
+pub field_is : (p : Program) (d : DataId) (k : ℕ) (s : Sort)
+    → field_of_data p.types.ctors (slice_get p.types.datatypes d.0) k ≡ Some s → (v : Value)
+    → Has p.types.ctors (sort.Tree d) v
     → (w : Value) × (field_in (out-Value v) k ≡ Ok w) × Has p.types.ctors s w
 field_is p d k s h v has =
-    field_there p.types.datatypes p.types.ctors p.types.agree d k s h (out-Value v) (level_has p.types.ctors v (sort.Tree d) has)
+    field_there p.types.datatypes p.types.ctors p.types.agree d k s h (out-Value v)
+    (level_has p.types.ctors v (sort.Tree d) has)

@@ -5,7 +5,8 @@ use Rattle.std.specs.Ordering.{int_eq}
 use Rattle.std.specs.Int.{w32}
 use Rattle.pp_word.specs.Word.{word_neg, word_not}
 use Rattle.pp_prog.specs.declared.expr.BinaryOp.{BinaryOp}
-use Rattle.pp_prog.specs.declared.expr.BinaryOp.TheVariants.{Add, Sub, Mul, Div, Rem, Equal, Differ, Less, AtMost, More, AtLeast, AndAlso, OrElse, And, Or, Xor, Shl, Shr, Ushr}
+use Rattle.pp_prog.specs.declared.expr.BinaryOp.TheVariants.{Add, Sub, Mul, Div, Rem, Equal, Differ, Less, AtMost, More}
+use Rattle.pp_prog.specs.declared.expr.BinaryOp.TheVariants.{AtLeast, AndAlso, OrElse, And, Or, Xor, Shl, Shr, Ushr}
 use Rattle.pp_prog.specs.declared.expr.UnaryOp.{UnaryOp}
 use Rattle.pp_prog.specs.declared.expr.UnaryOp.TheVariants.{Neg, Not, Flip}
 use Rattle.pp_prog.specs.declared.id.CheckId.{CheckId}
@@ -23,13 +24,16 @@ use Rattle.pp_prog.specs.Listing.{operator_site}
 use Rattle.pp_prog.specs.Sorts.{has_sort, has_step, is_int}
 use Rattle.pp_eval.specs.Equality.{equal}
 use Rattle.pp_eval.specs.Meaning.{Frame, Meaning, binary}
-use Rattle.pp_eval.specs.Operators.{divided, number, number_in, on_layers, on_numbers, on_truths, truth, truth_in, unary}
+use Rattle.pp_eval.specs.Operators.{divided, number, number_in, on_layers, on_numbers, on_truths, truth, truth_in}
+use Rattle.pp_eval.specs.Operators.{unary}
 use Rattle.pp_eval.specs.Part.{Part, and_then, either}
 use Rattle.pp_sound.proofs.Env.{Has, int_has, level_has, tree_is, truth_has}
-use Rattle.pp_sound.proofs.Parts.{IsAny, IsFine, IsOwn, IsSorted, MayStop, fine_either, fine_failed, fine_then, fine_value}
+use Rattle.pp_sound.proofs.Parts.{IsAny, IsFine, IsOwn, IsSorted, MayStop, fine_either, fine_failed, fine_then}
+use Rattle.pp_sound.proofs.Parts.{fine_value}
 use Rattle.pp_sound.proofs.Sites.{IsMet}
 use Rattle.pp_sound.proofs.Sorting.{alike_are, bool_then, int_then, sort_then}
-use Rattle.pp_sound.proofs.Words.{add_int, sub_int, mul_int, neg_int, div_int, rem_int, shl_int, shr_int, ushr_int, and_int, or_int, xor_int, not_int}
+use Rattle.pp_sound.proofs.Words.{add_int, sub_int, mul_int, neg_int, div_int, rem_int, shl_int, shr_int, ushr_int}
+use Rattle.pp_sound.proofs.Words.{and_int, or_int, xor_int, not_int}
 use lib.IntN.{ℤ}
 
 module _ (ctors : List Ctor) where
@@ -59,15 +63,20 @@ module _ (p : Program) (D : Type 0) (i : ℕ) where
       let k = truth_is p.types.ctors v h in subst (λ o. IsFine (MayStop p D i) (IsAny {A = Bool}) (truth_in o)) (sym k.1) (fine_value tt)
 
   -- a Boolean part comes to a truth value
-  pub condition : (part : Part Value) → IsSorted p D i sort.Bool part → IsFine (MayStop p D i) (IsAny {A = Bool}) (and_then part truth)
+  pub condition : (part : Part Value) → IsSorted p D i sort.Bool part
+      → IsFine (MayStop p D i) (IsAny {A = Bool}) (and_then part truth)
   condition part h = fine_then h truth_fine
 
   -- what goes on with the truth value of a Boolean part
-  pub judged : {B : Type 0} {W : B → Type 0} {part : Part Value} {go : Bool → Part B} → IsSorted p D i sort.Bool part → ((t : Bool) → IsFine (MayStop p D i) W (go t)) → IsFine (MayStop p D i) W (and_then part (λ v. and_then (truth v) go))
+  pub judged : {B : Type 0} {W : B → Type 0} {part : Part Value} {go : Bool → Part B} → IsSorted p D i sort.Bool part
+      → ((t : Bool) → IsFine (MayStop p D i) W (go t)) → IsFine (MayStop p D i) W
+      (and_then part (λ v. and_then (truth v) go))
   judged h k = fine_then h (λ v is. fine_then (truth_fine v is) (λ t _. k t))
 
   -- what goes on with the number of a part that is an Int
-  counted : {W : Value → Type 0} {part : Part Value} (go : ℤ → Part Value) → IsSorted p D i sort.Int part → ((n : ℤ) → is_int n ≡ true → IsFine (MayStop p D i) W (go n)) → IsFine (MayStop p D i) W (and_then part (λ v. and_then (number v) go))
+  counted : {W : Value → Type 0} {part : Part Value} (go : ℤ → Part Value) → IsSorted p D i sort.Int part
+      → ((n : ℤ) → is_int n ≡ true → IsFine (MayStop p D i) W (go n))
+      → IsFine (MayStop p D i) W (and_then part (λ v. and_then (number v) go))
   counted {W = W} go h k =
       fine_then h (λ v is. let n = number_is p.types.ctors v is in subst (λ o. IsFine (MayStop p D i) W (and_then (number_in o) go)) (sym n.1) (k n.0 n.2))
 
@@ -84,7 +93,8 @@ module _ (p : Program) (D : Type 0) (i : ℕ) where
   a_truth_value : (b : Bool) → IsSorted p D i sort.Bool (Ok (Truth b))
   a_truth_value b = fine_value (truth_has p.types.ctors b)
 
-  pub unary_fine : (op : UnaryOp) (o : Option Sort) (part : Part Value) → IsAt o part → IsAt (unary_sort op o) (and_then part (unary op))
+  pub unary_fine : (op : UnaryOp) (o : Option Sort) (part : Part Value) → IsAt o part
+      → IsAt (unary_sort op o) (and_then part (unary op))
   unary_fine Neg o part k s h =
       let e = int_then o (Some sort.Int) s h in at_sort sort.Int _ (counted (λ n. Ok (Int (word_neg w32 n))) (k sort.Int e.0) (λ n is. an_int_value _ (neg_int n))) s e.1
   unary_fine Not o part k s h =
@@ -98,7 +108,8 @@ module _ (p : Program) (D : Type 0) (i : ℕ) where
   abbrev both_on : BinaryOp → Option CheckId → Part Value → Part Value → Part Value
   both_on op check m n = and_then m (λ x. and_then n (λ y. on_layers op check (out-Value x) (out-Value y)))
 
-  numbers_fine : (op : BinaryOp) (check : Option CheckId) (o q : Option Sort) (r : Sort) (m n : Part Value) → IsAt o m → IsAt q n → ((a b : ℤ) → is_int a ≡ true → is_int b ≡ true → IsSorted p D i r (on_numbers op check a b))
+  numbers_fine : (op : BinaryOp) (check : Option CheckId) (o q : Option Sort) (r : Sort) (m n : Part Value) → IsAt o m
+      → IsAt q n → ((a b : ℤ) → is_int a ≡ true → is_int b ≡ true → IsSorted p D i r (on_numbers op check a b))
       → IsAt (an_int o (an_int q (Some r))) (both_on op check m n)
   numbers_fine op check o q r m n km kn f s h =
       let d = int_then o (an_int q (Some r)) s h in
@@ -109,62 +120,90 @@ module _ (p : Program) (D : Type 0) (i : ℕ) where
       subst (λ l. IsSorted p D i r (on_layers op check l (out-Value y))) (sym a.1)
       (subst (λ l. IsSorted p D i r (on_layers op check (value.Int a.0) l)) (sym b.1) (f a.0 b.0 a.2 b.2))))) s e.1
 
-  truths_fine : (op : BinaryOp) (check : Option CheckId) (o q : Option Sort) (m n : Part Value) → IsAt o m → IsAt q n → ((a b : Bool) → IsSorted p D i sort.Bool (on_truths op a b))
+  truths_fine : (op : BinaryOp) (check : Option CheckId) (o q : Option Sort) (m n : Part Value) → IsAt o m → IsAt q n
+      → ((a b : Bool) → IsSorted p D i sort.Bool (on_truths op a b))
       → IsAt (a_bool o (a_bool q (Some sort.Bool))) (both_on op check m n)
   truths_fine op check o q m n km kn f s h =
       let d = bool_then o (a_bool q (Some sort.Bool)) s h in
       let e = bool_then q (Some sort.Bool) s d.1 in
-      at_sort sort.Bool (both_on op check m n) (fine_then (km sort.Bool d.0) (λ x hx. fine_then (kn sort.Bool e.0) (λ y hy.
+      at_sort sort.Bool (both_on op check m n) (fine_then (km sort.Bool d.0)
+      (λ x hx. fine_then (kn sort.Bool e.0) (λ y hy.
       let a = truth_is p.types.ctors x hx in
       let b = truth_is p.types.ctors y hy in
       subst (λ l. IsSorted p D i sort.Bool (on_layers op check l (out-Value y))) (sym a.1)
       (subst (λ l. IsSorted p D i sort.Bool (on_layers op check (value.Bool a.0) l)) (sym b.1) (f a.0 b.0))))) s e.1
 
   bits_fine : (op : BinaryOp) (check : Option CheckId) (o q : Option Sort) (m n : Part Value) → IsAt o m → IsAt q n
-      → ((a b : ℤ) → is_int a ≡ true → is_int b ≡ true → IsSorted p D i sort.Int (on_numbers op check a b)) → ((a b : Bool) → IsSorted p D i sort.Bool (on_truths op a b))
+      → ((a b : ℤ) → is_int a ≡ true → is_int b ≡ true → IsSorted p D i sort.Int (on_numbers op check a b))
+      → ((a b : Bool) → IsSorted p D i sort.Bool (on_truths op a b))
       → IsAt (bits_sort o q) (both_on op check m n)
-  bits_fine op check (Some sort.Int) q m n km kn f g s h = numbers_fine op check (Some sort.Int) q sort.Int m n km kn f s h
+  bits_fine op check (Some sort.Int) q m n km kn f g s h = numbers_fine op check (Some sort.Int) q sort.Int m n km kn f
+      s h
   bits_fine op check (Some sort.Bool) q m n km kn f g s h = truths_fine op check (Some sort.Bool) q m n km kn g s h
   bits_fine op check (Some (sort.Tree d)) q m n km kn f g s h = cc
   bits_fine op check None q m n km kn f g s h = cc
 
-  equality_fine : (test : Value → Value → Bool) (o q : Option Sort) (m n : Part Value) → IsAt o m → IsAt q n → IsAt (equality_sort o q) (and_then m (λ x. and_then n (λ y. Ok (Truth (test x y)))))
+  equality_fine : (test : Value → Value → Bool) (o q : Option Sort) (m n : Part Value) → IsAt o m → IsAt q n
+      → IsAt (equality_sort o q) (and_then m (λ x. and_then n (λ y. Ok (Truth (test x y)))))
   equality_fine test o q m n km kn s h =
       let d = sort_then (alike o q) (λ t. Some sort.Bool) s h in
       let e = alike_are o q d.0 d.1 in
-      at_sort sort.Bool _ (fine_then (km d.0 e.0) (λ x hx. fine_then (kn d.0 e.1) (λ y hy. a_truth_value (test x y)))) s d.2
+      at_sort sort.Bool _ (fine_then (km d.0 e.0) (λ x hx. fine_then (kn d.0 e.1) (λ y hy. a_truth_value (test x y)))) s
+      d.2
 
-  divided_fine : (check : Option CheckId) (b n : ℤ) → is_some check ≡ true → IsOwn p i check → is_int n ≡ true → IsSorted p D i sort.Int (divided check b n)
-  divided_fine check b n some own h = fine_either (int_eq b (pos 0)) (fine_failed p D i check some own) (an_int_value n h)
+  divided_fine : (check : Option CheckId) (b n : ℤ) → is_some check ≡ true → IsOwn p i check → is_int n ≡ true
+      → IsSorted p D i sort.Int (divided check b n)
+  divided_fine check b n some own h = fine_either (int_eq b (pos 0)) (fine_failed p D i check some own)
+      (an_int_value n h)
 
   -- ---- each operator
 
   -- the right side is evaluated on one of the two truth values
-  skipped_fine : (go : Bool → Part Value) (o q : Option Sort) (m n : Part Value) → IsAt o m → IsAt q n → (IsSorted p D i sort.Bool n → (t : Bool) → IsSorted p D i sort.Bool (go t))
+  skipped_fine : (go : Bool → Part Value) (o q : Option Sort) (m n : Part Value) → IsAt o m → IsAt q n
+      → (IsSorted p D i sort.Bool n → (t : Bool) → IsSorted p D i sort.Bool (go t))
       → IsAt (a_bool o (a_bool q (Some sort.Bool))) (and_then m (λ x. and_then (truth x) go))
   skipped_fine go o q m n km kn f s h =
       let d = bool_then o (a_bool q (Some sort.Bool)) s h in
       let e = bool_then q (Some sort.Bool) s d.1 in
       at_sort sort.Bool _ (judged (km sort.Bool d.0) (f (kn sort.Bool e.0))) s e.1
 
-  pub binary_fine : (op : BinaryOp) (check : Option CheckId) → IsMet p i (operator_site op check) → (a b : Meaning) (frame : Frame) (env : List Value) (o q : Option Sort) → IsAt o (a frame env) → IsAt q (b frame env)
+  pub binary_fine : (op : BinaryOp) (check : Option CheckId) → IsMet p i (operator_site op check)
+      → (a b : Meaning) (frame : Frame) (env : List Value) (o q : Option Sort) → IsAt o (a frame env)
+      → IsAt q (b frame env)
       → IsAt (binary_sort op o q) (binary op a b check frame env)
-  binary_fine Add check met a b frame env o q ka kb = numbers_fine Add check o q sort.Int _ _ ka kb (λ c d k l. an_int_value _ (add_int c d))
-  binary_fine Sub check met a b frame env o q ka kb = numbers_fine Sub check o q sort.Int _ _ ka kb (λ c d k l. an_int_value _ (sub_int c d))
-  binary_fine Mul check met a b frame env o q ka kb = numbers_fine Mul check o q sort.Int _ _ ka kb (λ c d k l. an_int_value _ (mul_int c d))
-  binary_fine Div check met a b frame env o q ka kb = numbers_fine Div check o q sort.Int _ _ ka kb (λ c d k l. divided_fine check d _ met.carries met.own (div_int c d))
-  binary_fine Rem check met a b frame env o q ka kb = numbers_fine Rem check o q sort.Int _ _ ka kb (λ c d k l. divided_fine check d _ met.carries met.own (rem_int c d k))
+  binary_fine Add check met a b frame env o q ka kb = numbers_fine Add check o q sort.Int _ _ ka kb
+      (λ c d k l. an_int_value _ (add_int c d))
+  binary_fine Sub check met a b frame env o q ka kb = numbers_fine Sub check o q sort.Int _ _ ka kb
+      (λ c d k l. an_int_value _ (sub_int c d))
+  binary_fine Mul check met a b frame env o q ka kb = numbers_fine Mul check o q sort.Int _ _ ka kb
+      (λ c d k l. an_int_value _ (mul_int c d))
+  binary_fine Div check met a b frame env o q ka kb = numbers_fine Div check o q sort.Int _ _ ka kb
+      (λ c d k l. divided_fine check d _ met.carries met.own (div_int c d))
+  binary_fine Rem check met a b frame env o q ka kb = numbers_fine Rem check o q sort.Int _ _ ka kb
+      (λ c d k l. divided_fine check d _ met.carries met.own (rem_int c d k))
   binary_fine Equal check met a b frame env o q ka kb = equality_fine equal o q _ _ ka kb
   binary_fine Differ check met a b frame env o q ka kb = equality_fine (λ x y. not (equal x y)) o q _ _ ka kb
-  binary_fine Less check met a b frame env o q ka kb = numbers_fine Less check o q sort.Bool _ _ ka kb (λ c d k l. a_truth_value _)
-  binary_fine AtMost check met a b frame env o q ka kb = numbers_fine AtMost check o q sort.Bool _ _ ka kb (λ c d k l. a_truth_value _)
-  binary_fine More check met a b frame env o q ka kb = numbers_fine More check o q sort.Bool _ _ ka kb (λ c d k l. a_truth_value _)
-  binary_fine AtLeast check met a b frame env o q ka kb = numbers_fine AtLeast check o q sort.Bool _ _ ka kb (λ c d k l. a_truth_value _)
-  binary_fine AndAlso check met a b frame env o q ka kb = skipped_fine (λ t. either t (b frame env) (Ok (Truth false))) o q _ _ ka kb (λ n t. fine_either t n (a_truth_value false))
-  binary_fine OrElse check met a b frame env o q ka kb = skipped_fine (λ t. either t (Ok (Truth true)) (b frame env)) o q _ _ ka kb (λ n t. fine_either t (a_truth_value true) n)
-  binary_fine And check met a b frame env o q ka kb = bits_fine And check o q _ _ ka kb (λ c d k l. an_int_value _ (and_int c d k)) (λ c d. a_truth_value _)
-  binary_fine Or check met a b frame env o q ka kb = bits_fine Or check o q _ _ ka kb (λ c d k l. an_int_value _ (or_int c d k l)) (λ c d. a_truth_value _)
-  binary_fine Xor check met a b frame env o q ka kb = bits_fine Xor check o q _ _ ka kb (λ c d k l. an_int_value _ (xor_int c d k l)) (λ c d. a_truth_value _)
-  binary_fine Shl check met a b frame env o q ka kb = numbers_fine Shl check o q sort.Int _ _ ka kb (λ c d k l. an_int_value _ (shl_int c d))
-  binary_fine Shr check met a b frame env o q ka kb = numbers_fine Shr check o q sort.Int _ _ ka kb (λ c d k l. an_int_value _ (shr_int c d k))
-  binary_fine Ushr check met a b frame env o q ka kb = numbers_fine Ushr check o q sort.Int _ _ ka kb (λ c d k l. an_int_value _ (ushr_int c d k))
+  binary_fine Less check met a b frame env o q ka kb = numbers_fine Less check o q sort.Bool _ _ ka kb
+      (λ c d k l. a_truth_value _)
+  binary_fine AtMost check met a b frame env o q ka kb = numbers_fine AtMost check o q sort.Bool _ _ ka kb
+      (λ c d k l. a_truth_value _)
+  binary_fine More check met a b frame env o q ka kb = numbers_fine More check o q sort.Bool _ _ ka kb
+      (λ c d k l. a_truth_value _)
+  binary_fine AtLeast check met a b frame env o q ka kb = numbers_fine AtLeast check o q sort.Bool _ _ ka kb
+      (λ c d k l. a_truth_value _)
+  binary_fine AndAlso check met a b frame env o q ka kb = skipped_fine (λ t. either t (b frame env) (Ok (Truth false)))
+      o q _ _ ka kb (λ n t. fine_either t n (a_truth_value false))
+  binary_fine OrElse check met a b frame env o q ka kb = skipped_fine (λ t. either t (Ok (Truth true)) (b frame env)) o
+      q _ _ ka kb (λ n t. fine_either t (a_truth_value true) n)
+  binary_fine And check met a b frame env o q ka kb = bits_fine And check o q _ _ ka kb
+      (λ c d k l. an_int_value _ (and_int c d k)) (λ c d. a_truth_value _)
+  binary_fine Or check met a b frame env o q ka kb = bits_fine Or check o q _ _ ka kb
+      (λ c d k l. an_int_value _ (or_int c d k l)) (λ c d. a_truth_value _)
+  binary_fine Xor check met a b frame env o q ka kb = bits_fine Xor check o q _ _ ka kb
+      (λ c d k l. an_int_value _ (xor_int c d k l)) (λ c d. a_truth_value _)
+  binary_fine Shl check met a b frame env o q ka kb = numbers_fine Shl check o q sort.Int _ _ ka kb
+      (λ c d k l. an_int_value _ (shl_int c d))
+  binary_fine Shr check met a b frame env o q ka kb = numbers_fine Shr check o q sort.Int _ _ ka kb
+      (λ c d k l. an_int_value _ (shr_int c d k))
+  binary_fine Ushr check met a b frame env o q ka kb = numbers_fine Ushr check o q sort.Int _ _ ka kb
+      (λ c d k l. an_int_value _ (ushr_int c d k))

@@ -6,7 +6,7 @@ use Rattle.pp_prog.specs.declared.program.Program.{Program}
 use Rattle.pp_prog.specs.declared.sort.Sort.{Sort}
 use Rattle.pp_prog.specs.declared.value.Value.{Value}
 use Rattle.pp_eval.specs.declared.outcome.Stop.{Stop}
-use Rattle.pp_eval.specs.declared.outcome.Stop.TheVariants.{Deep, Fails, Inner}
+use Rattle.pp_eval.specs.declared.outcome.Stop.TheVariants.{Deep, Fails, Inner, Stuck}
 use Rattle.pp_eval.specs.Part.{Part, and_then, either, failed, inside}
 use Rattle.pp_sound.specs.Sound.{IsCheckOf}
 use Rattle.pp_sound.proofs.Env.{Has}
@@ -31,11 +31,13 @@ pub fine_stop : {A : Type 0} {S : Stop → Type 0} {V : A → Type 0} {s : Stop}
 fine_stop h = record { told = h }
 
 -- what goes on from a part that is fine
-pub fine_then : {A B : Type 0} {S : Stop → Type 0} {V : A → Type 0} {W : B → Type 0} {part : Part A} {go : A → Part B} → IsFine S V part → ((a : A) → V a → IsFine S W (go a)) → IsFine S W (and_then part go)
+pub fine_then : {A B : Type 0} {S : Stop → Type 0} {V : A → Type 0} {W : B → Type 0} {part : Part A} {go : A → Part B}
+    → IsFine S V part → ((a : A) → V a → IsFine S W (go a)) → IsFine S W (and_then part go)
 fine_then {part = Ok a} h k = k a h.told
 fine_then {part = Err s} h k = record { told = h.told }
 
-pub fine_either : {A : Type 0} {S : Stop → Type 0} {V : A → Type 0} {a b : Part A} (t : Bool) → IsFine S V a → IsFine S V b → IsFine S V (either t a b)
+pub fine_either : {A : Type 0} {S : Stop → Type 0} {V : A → Type 0} {a b : Part A} (t : Bool) → IsFine S V a
+    → IsFine S V b → IsFine S V (either t a b)
 fine_either true h k = h
 fine_either false h k = k
 
@@ -52,19 +54,23 @@ module _ (p : Program) (D : Type 0) (i : ℕ) where
   MayStop (Fails c) = IsCheckOf p i c.0
   MayStop (Inner g c) = (g.0 < length p.functions) × IsCheckOf p g.0 c.0
   MayStop Deep = D
+  MayStop Stuck = ⊥
 
   -- the part has a value of the sort, or stops as it may
   abbrev pub IsSorted : Sort → Part Value → Type 0
   IsSorted s part = IsFine MayStop (Has p.types.ctors s) part
 
-  pub fine_failed : {A : Type 0} {V : A → Type 0} (check : Option CheckId) → is_some check ≡ true → IsOwn p i check → IsFine MayStop V (failed check)
+  pub fine_failed : {A : Type 0} {V : A → Type 0} (check : Option CheckId) → is_some check ≡ true → IsOwn p i check
+      → IsFine MayStop V (failed check)
   fine_failed None some own = cc
   fine_failed (Some c) some own = fine_stop own
 
 module _ (p : Program) (D : Type 0) (i : ℕ) where
   -- what is fine in a frame of g is fine for the frame that calls it
-  pub fine_inside : {A : Type 0} {V : A → Type 0} (g : FunctionId) {part : Part A} → g.0 < length p.functions → IsFine (MayStop p D g.0) V part → IsFine (MayStop p D i) V (inside g part)
+  pub fine_inside : {A : Type 0} {V : A → Type 0} (g : FunctionId) {part : Part A} → g.0 < length p.functions
+      → IsFine (MayStop p D g.0) V part → IsFine (MayStop p D i) V (inside g part)
   fine_inside g {part = Ok a} within h = record { told = h.told }
   fine_inside g {part = Err (Fails c)} within h = record { told = (within, h.told) }
   fine_inside g {part = Err (Inner f c)} within h = record { told = h.told }
   fine_inside g {part = Err Deep} within h = record { told = h.told }
+  fine_inside g {part = Err Stuck} within h = record { told = h.told }

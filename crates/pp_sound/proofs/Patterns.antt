@@ -1,5 +1,6 @@
 -- What a pattern binds has the sorts that it says.
-use Rattle.std.proofs.Common.{◌≡◌, Bool, true, false, List, [], ◌∷◌, ◌++◌, map, Option, Some, None, slice_get, refl, sym, ap, ◌∙◌, subst}
+use Rattle.std.proofs.Common.{◌≡◌, Bool, true, false, List, [], ◌∷◌, ◌++◌, map, Option, Some, None, slice_get, refl}
+use Rattle.std.proofs.Common.{sym, ap, ◌∙◌, subst}
 use Rattle.std.specs.Prelude.{nat_eq, if◌then◌else◌}
 use Rattle.std.proofs.lemmas.Bool.{and_parts, eqb-true}
 use Rattle.pp_prog.specs.declared.expr.Pattern.{Pattern}
@@ -14,26 +15,22 @@ use Rattle.pp_prog.specs.declared.value.Value.{Value}
 use Rattle.pp_prog.specs.declared.value.Value.TheFolds.{map-Value}
 use Rattle.pp_prog.specs.declared.value.Value.TheOpen as value
 use Rattle.pp_prog.specs.declared.value.Value.TheViews.{out-Value}
-use Rattle.pp_prog.specs.Fits.{Fitting, bound_before, bound_both, fit, fit_bool, fit_fields, fit_int, fit_step, fit_tree, fits_if, same_truth}
-use Rattle.pp_prog.specs.PatternSorts.{Binding, bind_fields, bind_step, bind_tree, binds_none, bound_sorts, then_bind}
+use Rattle.pp_prog.specs.Fits.{Fitting, bound_before, bound_both, fit, fit_bool, fit_fields, fit_int, fit_step}
+use Rattle.pp_prog.specs.Fits.{fit_tree, fits_if, same_truth}
+use Rattle.pp_prog.specs.PatternSorts.{Binding, bind_fields, bind_step, bind_tree, bound_sorts, then_bind}
 use Rattle.pp_prog.specs.Sorts.{has_sort, has_step, same_sort}
 use Rattle.pp_sound.proofs.Env.{Has, Have, have_more, have_one, level_has, tree_is}
+use Rattle.pp_sound.proofs.Binding.{bind_then, none_binds}
 
-bind_then : (r : Option (List Sort)) (go : List Sort → Option (List Sort)) (ss : List Sort) → then_bind r go ≡ Some ss → (here : List Sort) × (r ≡ Some here) × (go here ≡ Some ss)
-bind_then None go ss h = cc
-bind_then (Some here) go ss h = (here, refl, h)
-
-before_is : (here : List Value) (r : Option (List Value)) (vs : List Value) → bound_before here r ≡ Some vs → (more : List Value) × (r ≡ Some more) × (here ++ more ≡ vs)
+before_is : (here : List Value) (r : Option (List Value)) (vs : List Value) → bound_before here r ≡ Some vs
+    → (more : List Value) × (r ≡ Some more) × (here ++ more ≡ vs)
 before_is here None vs h = cc
 before_is here (Some more) vs h = (more, refl, cc)
 
-both_are : (a b : Option (List Value)) (vs : List Value) → bound_both a b ≡ Some vs → (here : List Value) × (more : List Value) × (a ≡ Some here) × (b ≡ Some more) × (here ++ more ≡ vs)
+both_are : (a b : Option (List Value)) (vs : List Value) → bound_both a b ≡ Some vs → (here : List Value)
+    × (more : List Value) × (a ≡ Some here) × (b ≡ Some more) × (here ++ more ≡ vs)
 both_are None b vs h = cc
 both_are (Some here) b vs h = let q = before_is here b vs h in (here, q.0, refl, q.1, q.2)
-
-none_if : (b : Bool) (ss : List Sort) → binds_none b ≡ Some ss → [] ≡ ss
-none_if true ss h = cc
-none_if false ss h = cc
 
 empty_if : (b : Bool) (vs : List Value) → fits_if b ≡ Some vs → [] ≡ vs
 empty_if true vs h = cc
@@ -56,7 +53,8 @@ truth_binds a (value.Tree c fs) vs h = cc
 module _ (ctors : List Ctor) where
   -- what is bound at a value of the sort has the sorts that are said
   abbrev Fine : Fitting → Binding → Type 0
-  Fine f b = (s : Sort) (ss : List Sort) → b s ≡ Some ss → (v : Value) → Has ctors s v → (vs : List Value) → f v ≡ Some vs → Have ctors ss vs
+  Fine f b = (s : Sort) (ss : List Sort) → b s ≡ Some ss → (v : Value) → Has ctors s v → (vs : List Value)
+      → f v ≡ Some vs → Have ctors ss vs
 
   abbrev FineAt : Pattern → Type 0
   FineAt p = Fine (fit p) (bound_sorts ctors p)
@@ -67,7 +65,8 @@ module _ (ctors : List Ctor) where
   none_bound : (ss : List Sort) (vs : List Value) → [] ≡ ss → [] ≡ vs → Have ctors ss vs
   none_bound ss vs e f = subst (λ l. Have ctors l vs) e (subst (Have ctors []) f refl)
 
-  fields_fine : (ys : List P) (ts ss : List Sort) → bind_fields (map (bound_sorts ctors) (map (λ z. z.0) ys)) ts ≡ Some ss → (ws vs : List Value) → Have ctors ts ws
+  fields_fine : (ys : List P) (ts ss : List Sort) → bind_fields (map (bound_sorts ctors) (map (λ z. z.0) ys)) ts ≡ Some
+      ss → (ws vs : List Value) → Have ctors ts ws
       → fit_fields (map fit (map (λ z. z.0) ys)) ws ≡ Some vs → Have ctors ss vs
   fields_fine [] [] ss b [] vs h f = none_bound ss vs (cc) (cc)
   fields_fine [] [] ss b (w ∷ ws) vs h f = cc
@@ -84,8 +83,10 @@ module _ (ctors : List Ctor) where
       subst (λ l. Have ctors l vs) sorts (subst (Have ctors (m.0 ++ n.0)) q.4
       (have_more ctors m.0 n.0 q.0 q.1 (y.1 t m.0 m.1 w k.0 q.0 q.2) (fields_fine ys ts n.0 n.1 ws q.1 k.1 q.3)))
 
-  tree_fine : (c : CtorId) (ys : List P) (s : Sort) (ss : List Sort) → bind_tree (slice_get ctors c.0) (map (bound_sorts ctors) (map (λ z. z.0) ys)) s ≡ Some ss
-      → (o : value.Value-F Value) → has_step ctors (map-Value Value (Sort → Bool) (has_sort ctors) o) s ≡ true → (vs : List Value) → fit_tree c (map fit (map (λ z. z.0) ys)) o ≡ Some vs → Have ctors ss vs
+  tree_fine : (c : CtorId) (ys : List P) (s : Sort) (ss : List Sort)
+      → bind_tree (slice_get ctors c.0) (map (bound_sorts ctors) (map (λ z. z.0) ys)) s ≡ Some ss
+      → (o : value.Value-F Value) → has_step ctors (map-Value Value (Sort → Bool) (has_sort ctors) o) s ≡ true
+      → (vs : List Value) → fit_tree c (map fit (map (λ z. z.0) ys)) o ≡ Some vs → Have ctors ss vs
   tree_fine c ys s ss b (value.Int n) h vs f = cc
   tree_fine c ys s ss b (value.Bool n) h vs f = cc
   tree_fine c ys s ss b (value.Tree d fields) h vs f =
@@ -95,15 +96,18 @@ module _ (ctors : List Ctor) where
       let bound = if_some (same_sort (sort.Tree k.0.of) s) _ ss (sym (ap (λ o. bind_tree o (map (bound_sorts ctors) (map (λ (z : P). z.0) ys)) s) known) ∙ b) in
       fields_fine ys k.0.fields ss bound.1 fields vs k.3 m.1
 
-  level : (y : pattern.Pattern-F P) → Fine (fit_step (map-Pattern Pattern Fitting fit (map-Pattern P Pattern (λ z. z.0) y))) (bind_step ctors (map-Pattern Pattern Binding (bound_sorts ctors) (map-Pattern P Pattern (λ z. z.0) y)))
+  level : (y : pattern.Pattern-F P) → Fine (fit_step (map-Pattern Pattern Fitting fit
+      (map-Pattern P Pattern (λ z. z.0) y))) (bind_step ctors
+      (map-Pattern Pattern Binding (bound_sorts ctors) (map-Pattern P Pattern (λ z. z.0) y)))
   level pattern.Any s ss b v h vs f = none_bound ss vs (cc) (cc)
   level (pattern.Bind q) s ss b v h vs f =
       let m = bind_then (bound_sorts ctors q.0 s) (λ more. Some (s ∷ more)) ss b in
       let n = before_is (v ∷ []) (fit q.0 v) vs f in
       let sorts : s ∷ m.0 ≡ ss = cc (m.2) in
-      subst (λ l. Have ctors l vs) sorts (subst (Have ctors (s ∷ m.0)) n.2 (have_more ctors (s ∷ []) m.0 (v ∷ []) n.0 (have_one ctors s v h) (q.1 s m.0 m.1 v h n.0 n.1)))
-  level (pattern.Int n) s ss b v h vs f = none_bound ss vs (none_if _ ss b) (int_binds n (out-Value v) vs f)
-  level (pattern.Bool a) s ss b v h vs f = none_bound ss vs (none_if _ ss b) (truth_binds a (out-Value v) vs f)
+      subst (λ l. Have ctors l vs) sorts (subst (Have ctors (s ∷ m.0)) n.2
+      (have_more ctors (s ∷ []) m.0 (v ∷ []) n.0 (have_one ctors s v h) (q.1 s m.0 m.1 v h n.0 n.1)))
+  level (pattern.Int n) s ss b v h vs f = none_bound ss vs (none_binds _ ss b).1 (int_binds n (out-Value v) vs f)
+  level (pattern.Bool a) s ss b v h vs f = none_bound ss vs (none_binds _ ss b).1 (truth_binds a (out-Value v) vs f)
   level (pattern.Ctor c ys) s ss b v h vs f = tree_fine c ys s ss b (out-Value v) (level_has ctors v s h) vs f
 
   at_level : (y : pattern.Pattern-F P) → FineAt (roll-Pattern (map-Pattern P Pattern (λ z. z.0) y))
@@ -111,7 +115,8 @@ module _ (ctors : List Ctor) where
       let z = map-Pattern P Pattern (λ w. w.0) y in
       let one = fold-roll-Pattern Fitting fit_step z in
       let two = fold-roll-Pattern Binding (bind_step ctors) z in
-      subst (λ f. Fine f (bound_sorts ctors (roll-Pattern z))) (sym one) (subst (λ b. Fine (fit_step (map-Pattern Pattern Fitting fit z)) b) (sym two) (level y))
+      subst (λ f. Fine f (bound_sorts ctors (roll-Pattern z))) (sym one)
+      (subst (λ b. Fine (fit_step (map-Pattern Pattern Fitting fit z)) b) (sym two) (level y))
 
   -- what a pattern binds at a value of its sort has the sorts that it says
   pub pattern_fine : (p : Pattern) → FineAt p

@@ -1,7 +1,8 @@
 -- What evaluation needs of the sites of an expression.
 use Rattle.std.proofs.Common.{ℕ, List, ◌∷◌, ◌++◌, Option, Some, None, Contains}
 use Rattle.std.specs.List.{All}
-use Rattle.std.proofs.lemmas.List.Elements.{All-contains, All-contains_itself, All-head, All-tail, All-weaker, Contains-append_left, Contains-append_right}
+use Rattle.std.proofs.lemmas.List.Elements.{All-contains, All-contains_itself, All-head, All-tail, All-weaker}
+use Rattle.std.proofs.lemmas.List.Elements.{Contains-append_left, Contains-append_right}
 use Rattle.pp_prog.specs.declared.id.CheckId.{CheckId}
 use Rattle.pp_prog.specs.declared.program.Program.{Program}
 use Rattle.pp_prog.specs.Listing.{Site, plain, division, assertion, precondition, measure, matching, postcondition}
@@ -30,12 +31,14 @@ pub record AreMet (p : Program) (i : ℕ) (sites : List Site) : Type 0 where
 module _ {p : Program} {i : ℕ} where
   pub met_left : (xs ys : List Site) → AreMet p i (xs ++ ys) → AreMet p i xs
   met_left xs ys h = record {
-    each = All-weaker (λ x. Contains xs x) (IsMet p i) (λ x has. All-contains (IsMet p i) (xs ++ ys) x h.each (Contains-append_left xs ys x has)) xs (All-contains_itself xs);
+    each = All-weaker (λ x. Contains xs x) (IsMet p i) (λ x has. All-contains (IsMet p i) (xs ++ ys) x h.each
+        (Contains-append_left xs ys x has)) xs (All-contains_itself xs);
   }
 
   pub met_right : (xs ys : List Site) → AreMet p i (xs ++ ys) → AreMet p i ys
   met_right xs ys h = record {
-    each = All-weaker (λ x. Contains ys x) (IsMet p i) (λ x has. All-contains (IsMet p i) (xs ++ ys) x h.each (Contains-append_right xs ys x has)) ys (All-contains_itself ys);
+    each = All-weaker (λ x. Contains ys x) (IsMet p i) (λ x has. All-contains (IsMet p i) (xs ++ ys) x h.each
+        (Contains-append_right xs ys x has)) ys (All-contains_itself ys);
   }
 
   pub met_head : {site : Site} {rest : List Site} → AreMet p i (site ∷ rest) → IsMet p i site

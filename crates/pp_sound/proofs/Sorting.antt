@@ -1,5 +1,6 @@
 -- What follows for the parts of an expression from its sort.
-use Rattle.std.proofs.Common.{◌≡◌, Bool, true, false, List, [], ◌∷◌, map, Option, Some, None, refl, sym, ap, ◌∙◌}
+use Rattle.std.proofs.Common.{◌≡◌, Bool, true, false, List, [], ◌∷◌, map, Option, Some, None, is_some, refl, sym, ap}
+use Rattle.std.proofs.Common.{◌∙◌}
 use Rattle.std.proofs.lemmas.Bool.{and_parts}
 use Rattle.pp_prog.specs.declared.expr.Function.{Function}
 use Rattle.pp_prog.specs.declared.id.DataId.{DataId}
@@ -7,11 +8,17 @@ use Rattle.pp_prog.specs.declared.sort.Sort.{Sort}
 use Rattle.pp_prog.specs.declared.sort.Sort.TheVariants as sort
 use Rattle.pp_prog.specs.declared.types.Ctor.{Ctor}
 use Rattle.pp_prog.specs.declared.types.TypeTable.{TypeTable}
-use Rattle.pp_prog.specs.ExprSorts.{a_bool, a_tree, alike, an_int, call_sort, has_the_sort, match_sorts, sort_if, then_sort, tree_sort}
+use Rattle.pp_prog.specs.ExprSorts.{a_bool, a_tree, alike, an_int, call_sort, has_the_sort, match_sorts, sort_if}
+use Rattle.pp_prog.specs.ExprSorts.{then_sort, tree_sort}
 use Rattle.pp_prog.specs.Sorts.{param_sorts}
 use Rattle.pp_sound.proofs.Env.{one_sort}
 
-pub sort_then : (o : Option Sort) (go : Sort → Option Sort) (s : Sort) → then_sort o go ≡ Some s → (t : Sort) × (o ≡ Some t) × (go t ≡ Some s)
+pub some_sort : (o : Option Sort) → is_some o ≡ true → (s : Sort) × (o ≡ Some s)
+some_sort None h = cc
+some_sort (Some s) h = (s, refl)
+
+pub sort_then : (o : Option Sort) (go : Sort → Option Sort) (s : Sort) → then_sort o go ≡ Some s → (t : Sort)
+    × (o ≡ Some t) × (go t ≡ Some s)
 sort_then None go s h = cc
 sort_then (Some t) go s h = (t, refl, h)
 
@@ -27,7 +34,8 @@ bool_then (Some sort.Int) go s h = cc
 bool_then (Some (sort.Tree d)) go s h = cc
 bool_then None go s h = cc
 
-pub tree_then : (o : Option Sort) (go : DataId → Option Sort) (s : Sort) → a_tree o go ≡ Some s → (d : DataId) × (o ≡ Some (sort.Tree d)) × (go d ≡ Some s)
+pub tree_then : (o : Option Sort) (go : DataId → Option Sort) (s : Sort) → a_tree o go ≡ Some s → (d : DataId)
+    × (o ≡ Some (sort.Tree d)) × (go d ≡ Some s)
 tree_then (Some (sort.Tree d)) go s h = (d, refl, h)
 tree_then (Some sort.Int) go s h = cc
 tree_then (Some sort.Bool) go s h = cc
@@ -52,15 +60,18 @@ matched_are (Some s ∷ os) (t ∷ ts) h =
     let k = and_parts _ _ h in let e = one_sort s t k.0 in let f = matched_are os ts k.1 in cc
 
 -- a tree's constructor, and the sorts of its fields
-pub tree_sort_is : (o : Option Ctor) (os : List (Option Sort)) (s : Sort) → tree_sort o os ≡ Some s → (k : Ctor) × (o ≡ Some k) × (os ≡ map Some k.fields) × (sort.Tree k.of ≡ s)
+pub tree_sort_is : (o : Option Ctor) (os : List (Option Sort)) (s : Sort) → tree_sort o os ≡ Some s → (k : Ctor)
+    × (o ≡ Some k) × (os ≡ map Some k.fields) × (sort.Tree k.of ≡ s)
 tree_sort_is None os s h = cc
 tree_sort_is (Some k) os s h = let g = sort_there _ _ _ h in (k, refl, matched_are os k.fields g.0, g.1)
 
 -- a called function, and the sorts of its arguments
-pub call_sort_is : (o : Option Function) (os : List (Option Sort)) (s : Sort) → call_sort o os ≡ Some s → (f : Function) × (o ≡ Some f) × (os ≡ map Some (param_sorts f.params)) × (f.result ≡ s)
+pub call_sort_is : (o : Option Function) (os : List (Option Sort)) (s : Sort) → call_sort o os ≡ Some s → (f : Function)
+    × (o ≡ Some f) × (os ≡ map Some (param_sorts f.params)) × (f.result ≡ s)
 call_sort_is None os s h = cc
 call_sort_is (Some f) os s h = let g = sort_there _ _ _ h in (f, refl, matched_are os (param_sorts f.params) g.0, g.1)
 
-pub has_the_sort_is : (types : TypeTable) (functions : List Function) (s : Sort) (o : Option Sort) → has_the_sort types functions s o ≡ true → o ≡ Some s
+pub has_the_sort_is : (types : TypeTable) (functions : List Function) (s : Sort) (o : Option Sort)
+    → has_the_sort types functions s o ≡ true → o ≡ Some s
 has_the_sort_is types functions s None h = cc
 has_the_sort_is types functions s (Some t) h = ap Some (one_sort t s h)

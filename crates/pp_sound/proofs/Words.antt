@@ -5,7 +5,8 @@ use Rattle.std.specs.Int.RustNames.{int_le, int_lt}
 use Rattle.std.proofs.Math.Nat.{div-le_self}
 use Rattle.std.proofs.lemmas.Bool.{and_from, and_parts}
 use Rattle.std.proofs.lemmas.Int.{ints, SFits-int_wrap}
-use Rattle.pp_word.specs.Word.{word_add, word_sub, word_mul, word_neg, word_div, word_rem, shift_distance, word_shl, word_shr, word_ushr, word_and, word_or, word_xor, word_not}
+use Rattle.pp_word.specs.Word.{word_add, word_sub, word_mul, word_neg, word_div, word_rem, shift_distance, word_shl}
+use Rattle.pp_word.specs.Word.{word_shr, word_ushr, word_and, word_or, word_xor, word_not}
 use Rattle.pp_word.specs.Wrapping.{IsWord}
 use Rattle.pp_word.proofs.Digits.{and_fits, or_fits, xor_fits, not_fits}
 use Rattle.pp_word.proofs.Moves.{fits_shr}

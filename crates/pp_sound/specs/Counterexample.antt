@@ -14,8 +14,8 @@ use Rattle.pp_sound.specs.Sound.{IsCalled}
 abbrev pub AreLow : ℕ → List Value → Type 0
 AreLow d args = All (λ v. height v ≤ d) args
 
--- the arguments have the sorts of the parameters of function number i and at most the height d, and its run on them with
--- fuel n fails the check
+-- the arguments have the sorts of the parameters of function number i and at most the height d, and its run on them
+-- with fuel n fails the check
 pub record IsCounterexample (p : Program) (i : ℕ) (c : CheckId) (n d : ℕ) (args : List Value) : Type 0 where
   pub function : Function
   pub called : IsCalled p i function args

@@ -1,6 +1,6 @@
 -- Type soundness: what holds of the runs of a valid program on arguments of the parameters' sorts. Source: own; the idea
 -- is that of Wright and Felleisen, A Syntactic Approach to Type Soundness.
-use Rattle.std.specs.Prelude.{◌≡◌, ◌≢◌, ◌<◌, ℕ, IsTrue, List, Option, Some, Ok, length, slice_get}
+use Rattle.std.specs.Prelude.{◌≡◌, ◌≢◌, ◌<◌, ℕ, IsTrue, List, Option, Some, Ok, Err, length, slice_get}
 use Rattle.pp_prog.specs.declared.check.Check.{Check}
 use Rattle.pp_prog.specs.declared.expr.Function.{Function}
 use Rattle.pp_prog.specs.declared.id.CheckId.{CheckId}
@@ -9,12 +9,13 @@ use Rattle.pp_prog.specs.declared.program.Program.{Program}
 use Rattle.pp_prog.specs.declared.value.Value.{Value}
 use Rattle.pp_prog.specs.Sorts.{has_sort}
 use Rattle.pp_eval.specs.declared.outcome.Outcome.TheVariants.{Deep, Done, Fails, Inner}
-use Rattle.pp_eval.specs.Calls.{calls_over}
-use Rattle.pp_eval.specs.Meaning.{Calls, Frame}
+use Rattle.pp_eval.specs.declared.outcome.Stop.TheVariants.{Stuck}
+use Rattle.pp_eval.specs.Invocation.{calls_over, calls_to}
+use Rattle.pp_eval.specs.Meaning.{CallMeaning, Frame}
 use Rattle.pp_eval.specs.Runs.{AreArguments, outcome, run, run_with}
 
 -- each call of a function on arguments of the parameters' sorts is answered by a value of the result's sort
-pub record AnswersSorted (p : Program) (deeper : Calls) : Type 0 where
+pub record AnswersSorted (p : Program) (deeper : CallMeaning) : Type 0 where
   pub answers : (frame : Frame) (g : FunctionId) (pre measure : Option CheckId) (args : List Value) (f : Function)
       → slice_get p.functions g.0 ≡ Some f → AreArguments p.types.ctors (Some f) args
       → (v : Value) × (deeper frame g pre measure args ≡ Ok v) × IsTrue (has_sort p.types.ctors v f.result)
@@ -24,16 +25,24 @@ pub record IsCalled (p : Program) (i : ℕ) (f : Function) (args : List Value) :
   pub function : slice_get p.functions i ≡ Some f
   pub arguments : AreArguments p.types.ctors (Some f) args
 
+-- no run is stuck, with any fuel: it meets no operator, field, variable, function or site that has no meaning for its
+-- values
+abbrev pub NeverStuck : Type 0
+NeverStuck =
+    (p : Program) (i : ℕ) (f : Function) (args : List Value) → IsCalled p i f args → (n : ℕ)
+    → run_with (calls_to p.types.ctors p.functions n) f args ≢ Err Stuck
+
 -- Deep comes from want of fuel alone: if the calls that are nested too deep were answered by values of their functions'
--- result sorts, no run would be Deep. So a run meets no operator, field, variable or site that its values have no meaning for.
+-- result sorts, no run would be Deep.
 abbrev pub DeepByFuelAlone : Type 0
 DeepByFuelAlone =
-    (p : Program) (deeper : Calls) → AnswersSorted p deeper → (i : ℕ) (f : Function) (args : List Value) → IsCalled p i f args
+    (p : Program) (deeper : CallMeaning) → AnswersSorted p deeper → (i : ℕ) (f : Function) (args : List Value)
+    → IsCalled p i f args
     → (n : ℕ) → outcome (run_with (calls_over deeper p.types.ctors p.functions n) f args) ≢ Deep
 
 -- calls can be answered so in each program, whose datatypes all have values
 abbrev pub CanAnswerSorted : Type 0
-CanAnswerSorted = (p : Program) → ∥ ((deeper : Calls) × AnswersSorted p deeper) ∥₁
+CanAnswerSorted = (p : Program) → ∥ ((deeper : CallMeaning) × AnswersSorted p deeper) ∥₁
 
 -- a run that is done has a value of the result's sort
 abbrev pub KeepSorts : Type 0
@@ -52,5 +61,6 @@ pub record IsCheckOf (p : Program) (i c : ℕ) : Type 0 where
 pub record FailListedChecks : Type 0 where
   pub own : (p : Program) (i : ℕ) (f : Function) (args : List Value) → IsCalled p i f args → (n : ℕ) (c : CheckId)
       → run p.types.ctors p.functions f args n ≡ Fails c → IsCheckOf p i c.0
-  pub inner : (p : Program) (i : ℕ) (f : Function) (args : List Value) → IsCalled p i f args → (n : ℕ) (g : FunctionId) (c : CheckId)
+  pub inner : (p : Program) (i : ℕ) (f : Function) (args : List Value) → IsCalled p i f args
+      → (n : ℕ) (g : FunctionId) (c : CheckId)
       → run p.types.ctors p.functions f args n ≡ Inner g c → (g.0 < length p.functions) × IsCheckOf p g.0 c.0

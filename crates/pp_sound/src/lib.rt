@@ -4,9 +4,15 @@
 //! `specs/Sound` states.
 #![tactic(auto)]
 
-ghost use Rattle.pp_sound.specs.Sound.{CanAnswerSorted, DeepByFuelAlone, FailListedChecks, KeepSorts};
+ghost use Rattle.pp_sound.specs.Sound.{CanAnswerSorted, DeepByFuelAlone, FailListedChecks};
+ghost use Rattle.pp_sound.specs.Sound.{KeepSorts, NeverStuck};
 
-/// Only want of fuel makes a run `Deep`: no expression of a valid program meets values that it has no meaning for.
+/// No run is stuck: no expression of a valid program meets values that it has no meaning for.
+pub fn never_stuck()
+    ensures { NeverStuck }
+{}
+
+/// Only want of fuel makes a run `Deep`.
 pub fn deep_by_fuel_alone()
     ensures { DeepByFuelAlone }
 {}

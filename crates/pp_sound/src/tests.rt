@@ -4,6 +4,7 @@ use super::*;
 
 #[test]
 fn laws_are_called() {
+    never_stuck();
     deep_by_fuel_alone();
     can_answer_sorted();
     keep_sorts();

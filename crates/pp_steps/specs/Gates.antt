@@ -2,7 +2,8 @@
 -- to a height. Source: own.
 use Rattle.std.specs.Prelude.{◌≡◌, ℕ, suc, ◌+◌, ◌-◌, ◌*◌, max, min, nat_eq, nat_lt, if◌then◌else◌, List, [], ◌∷◌, map}
 use Rattle.pp_prog.specs.declared.expr.BinaryOp.{BinaryOp}
-use Rattle.pp_prog.specs.declared.expr.BinaryOp.TheVariants.{Add, Sub, Mul, Div, Rem, Equal, Differ, Less, AtMost, More, AtLeast, AndAlso, OrElse, And, Or, Xor, Shl, Shr, Ushr}
+use Rattle.pp_prog.specs.declared.expr.BinaryOp.TheVariants.{Add, Sub, Mul, Div, Rem, Equal, Differ, Less, AtMost, More}
+use Rattle.pp_prog.specs.declared.expr.BinaryOp.TheVariants.{AtLeast, AndAlso, OrElse, And, Or, Xor, Shl, Shr, Ushr}
 use Rattle.pp_prog.specs.declared.expr.UnaryOp.{UnaryOp}
 use Rattle.pp_prog.specs.declared.expr.UnaryOp.TheVariants.{Neg, Not, Flip}
 use Rattle.pp_prog.specs.declared.sort.Sort.{Sort}

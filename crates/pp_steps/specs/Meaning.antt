@@ -1,6 +1,7 @@
 -- What it means that values obey steps: step number k has the value ρ k, which its operands' values determine. Dead
 -- branches have values too, since each step has one. Source: own; straight-line code as in static single assignment.
-use Rattle.std.specs.Prelude.{◌≡◌, ℕ, suc, nat_eq, Bool, false, not, ◌&&◌, if◌then◌else◌, List, [], ◌∷◌, length, map, slice_get, Ok, Err, None}
+use Rattle.std.specs.Prelude.{◌≡◌, ℕ, suc, nat_eq, Bool, false, not, ◌&&◌, if◌then◌else◌, List, [], ◌∷◌, length, map}
+use Rattle.std.specs.Prelude.{slice_get, Ok, Err, None}
 use Rattle.std.specs.Int.{w32}
 use Rattle.pp_word.specs.Word.{word_div, word_rem}
 use Rattle.pp_prog.specs.declared.expr.BinaryOp.{BinaryOp}

@@ -1,5 +1,6 @@
 -- The forms of expressions: their steps look at earlier ones alone.
-use Rattle.std.proofs.Common.{◌≡◌, ℕ, zero, suc, ◌+◌, ◌<◌, ◌≤◌, Bool, true, false, List, [], ◌∷◌, ◌++◌, length, map, Option, Some, None, sym, ap, ◌∙◌, subst, arith, length-append}
+use Rattle.std.proofs.Common.{◌≡◌, ℕ, zero, suc, ◌+◌, ◌<◌, ◌≤◌, Bool, true, false, List, [], ◌∷◌, ◌++◌, length, map}
+use Rattle.std.proofs.Common.{Option, Some, None, sym, ap, ◌∙◌, subst, arith, length-append}
 use Rattle.std.specs.Prelude.{pos, slice_index_or}
 use Rattle.pp_prog.specs.declared.expr.BinaryOp.{BinaryOp}
 use Rattle.pp_prog.specs.declared.expr.BinaryOp.TheVariants.{AndAlso, OrElse, Div, Rem, Equal}
@@ -12,11 +13,14 @@ use Rattle.pp_prog.specs.declared.id.CtorId.{CtorId}
 use Rattle.pp_prog.specs.declared.id.FunctionId.{FunctionId}
 use Rattle.pp_steps.specs.declared.step.Step.{Step}
 use Rattle.pp_steps.specs.declared.step.Step.TheVariants as steps
-use Rattle.pp_steps.specs.Compile.{Arm, Compiling, Site, all, all_from, all_of, binary, branches, cases, deciding, matched, number_or, one, operating, quotient, skipping, unless, when}
+use Rattle.pp_steps.specs.Compile.{Arm, Compiling, Site, all, all_from, all_of, binary, branches, cases, deciding}
+use Rattle.pp_steps.specs.Compile.{matched, number_or, one, operating, quotient, skipping, unless, when}
 use Rattle.pp_steps.specs.Patterns.{Fitting, Matching, equals, fit_fields, fitting, fitting_step}
 use Rattle.pp_steps.specs.Piece.{Piece, after, asks, bind, choice, demand, failing, joined, plain, possible}
 use Rattle.pp_steps.specs.Reads.{AllRead, Below, Reads}
-use Rattle.pp_steps_exist.proofs.Within.{IsWithin, LessMaybe, LessOne, at_most, below_join, below_later, choice_within, demand_within, joined_within, one_within, plain_within, possible_within, read_join, unless_within, up, when_within}
+use Rattle.pp_steps_exist.proofs.Within.{IsWithin, LessMaybe, LessOne, at_most, below_join, below_later, choice_within}
+use Rattle.pp_steps_exist.proofs.Within.{demand_within, joined_within, one_within, plain_within, possible_within}
+use Rattle.pp_steps_exist.proofs.Within.{read_join, unless_within, up, when_within}
 
 plus_zero : (a : ℕ) → a + 0 ≡ a
 plus_zero a = omega arith

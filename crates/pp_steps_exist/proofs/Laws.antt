@@ -1,5 +1,6 @@
 -- Each run has values that obey its steps.
-use Rattle.std.proofs.Common.{◌≡◌, ℕ, suc, ◌+◌, ◌<◌, ◌≤◌, true, false, List, [], ◌∷◌, ◌++◌, length, map, Some, refl, sym, ap, ◌∙◌, subst, arith, length-append}
+use Rattle.std.proofs.Common.{◌≡◌, ℕ, suc, ◌+◌, ◌<◌, ◌≤◌, true, false, List, [], ◌∷◌, ◌++◌, length, map, Some, refl}
+use Rattle.std.proofs.Common.{sym, ap, ◌∙◌, subst, arith, length-append}
 use Rattle.std.specs.Prelude.{slice_index_or}
 use Rattle.std.proofs.lemmas.Bool.{and_parts}
 use Rattle.pp_prog.specs.declared.expr.Function.{Function}
@@ -101,7 +102,8 @@ module _ (functions : List Function) (f : Function) (check : CheckId) (fuel : �
       (read_join n R.steps F.steps run_within.reads found_within.reads)
 
   ends_together : length (B.steps ++ (R.steps ++ F.steps)) ≡ after (after n R) F
-  ends_together = length-append B.steps (R.steps ++ F.steps) ∙ ap (λ k. length B.steps + k) (length-append R.steps F.steps)
+  ends_together = length-append B.steps (R.steps ++ F.steps)
+      ∙ ap (λ k. length B.steps + k) (length-append R.steps F.steps)
       ∙ sums (length B.steps) (length R.steps) (length F.steps)
     where
       sums : (a b c : ℕ) → a + (b + c) ≡ ((0 + a) + b) + c

@@ -18,7 +18,8 @@ RunsExist =
 
 -- each step of a run looks at earlier steps alone
 abbrev pub RunsRead : Type 0
-RunsRead = (functions : List Function) (f : Function) (check : CheckId) (fuel : ℕ) → AllRead 0 (run_steps functions f check fuel).steps
+RunsRead = (functions : List Function) (f : Function) (check : CheckId) (fuel : ℕ)
+    → AllRead 0 (run_steps functions f check fuel).steps
 
 -- the number that tells whether the check fails is that of a step
 abbrev pub RunsAsk : Type 0

@@ -1,5 +1,6 @@
 -- Calls: the steps of a call take at most twice what its visit costs.
-use Rattle.std.proofs.Common.{◌≡◌, ℕ, zero, suc, ◌+◌, ◌*◌, ◌≤◌, true, false, List, [], ◌∷◌, ◌++◌, map, length, Option, Some, None, is_some, refl, sym, ap, ◌∙◌, subst, arith}
+use Rattle.std.proofs.Common.{◌≡◌, ℕ, zero, suc, ◌+◌, ◌*◌, ◌≤◌, true, false, List, [], ◌∷◌, ◌++◌, map, length, Option}
+use Rattle.std.proofs.Common.{Some, None, is_some, refl, sym, ap, ◌∙◌, subst, arith}
 use Rattle.std.proofs.lemmas.Bool.{and_parts}
 use Rattle.std.proofs.lemmas.List.{length-map}
 use Rattle.std.specs.Prelude.{Bool, slice_get}
@@ -16,12 +17,13 @@ use Rattle.pp_prog.specs.Sorts.{param_sorts}
 use Rattle.pp_estimate.specs.declared.shape.Shape.{Shape}
 use Rattle.pp_estimate.specs.Cut.{top}
 use Rattle.pp_estimate.specs.Events.{Event, cost, work}
-use Rattle.pp_estimate.specs.Frames.{components, contract_at, frame, frame_at, inner_calls, measure_at, own_calls, post_events, pre_events, unfinished}
+use Rattle.pp_estimate.specs.Frames.{components, contract_at, frame, frame_at, inner_calls, measure_at, own_calls}
+use Rattle.pp_estimate.specs.Frames.{post_events, pre_events, unfinished}
 use Rattle.pp_estimate.specs.Visits.{Calls, Visit, all_events, compared, in_env, shape_of, visit, visit_of}
 use Rattle.pp_estimate_laws.proofs.Growth.{cost_of_both}
 use Rattle.pp_estimate_laws.proofs.Numbers.{le_same}
 use Rattle.pp_sound.proofs.Calls.{IsWhole, whole}
-use Rattle.pp_sound.proofs.Sorting.{has_the_sort_is}
+use Rattle.pp_sound.proofs.Sorting.{has_the_sort_is, some_sort}
 use Rattle.pp_steps.specs.Compile.{Site, all, compile}
 use Rattle.pp_steps.specs.Frames.{Frame, admitting, descending, entering, inlined, measuring, stopped}
 use Rattle.pp_steps.specs.Gates.{Heights, open_gates}
@@ -30,7 +32,8 @@ use Rattle.pp_steps.specs.Sorted.{Sorts}
 use Rattle.pp_steps_gates.proofs.Exprs.{expr_covers, list_covers}
 use Rattle.pp_steps_gates.proofs.Lists.{Answers, IsAnswered, all_covered}
 use Rattle.pp_steps_gates.proofs.Measures.{FrameCovers, descending_few, table_of}
-use Rattle.pp_steps_gates.proofs.Pieces.{IsBit, IsFew, IsMade, demand_few, fewer, joined_few, load, load_of_both, made_left, made_right, plain_few}
+use Rattle.pp_steps_gates.proofs.Pieces.{IsBit, IsFew, IsMade, demand_few, fewer, joined_few, load, load_of_both}
+use Rattle.pp_steps_gates.proofs.Pieces.{made_left, made_right, plain_few}
 use Rattle.pp_steps_gates.proofs.Scopes.{Are}
 
 -- an unknown value without a height
@@ -38,10 +41,6 @@ open_small : (types : TypeTable) (s : Sort) → open_gates types 0 s ≤ 32
 open_small types sort.Int = le_same 32
 open_small types sort.Bool = omega arith
 open_small types (sort.Tree d) = omega arith
-
-some_sort : (o : Option Sort) → is_some o ≡ true → (s : Sort) × (o ≡ Some s)
-some_sort None h = let no : false ≡ true = h in cc
-some_sort (Some s) h = (s, refl)
 
 module _ (p : Program) (σ : Sorts) (η : Heights) (low : (i : ℕ) → η i ≤ top)
     (flat : (i : ℕ) → σ i ≡ sort.Bool → η i ≡ 0) where

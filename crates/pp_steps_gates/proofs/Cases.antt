@@ -1,5 +1,6 @@
 -- Matches: their steps take at most twice what their visits cost.
-use Rattle.std.proofs.Common.{◌≡◌, ℕ, suc, ◌+◌, ◌*◌, ◌≤◌, max, Bool, true, false, List, [], ◌∷◌, ◌++◌, map, length, Option, Some, None, refl, sym, ap, ◌∙◌, subst, arith}
+use Rattle.std.proofs.Common.{◌≡◌, ℕ, suc, ◌+◌, ◌*◌, ◌≤◌, max, Bool, true, false, List, [], ◌∷◌, ◌++◌, map, length}
+use Rattle.std.proofs.Common.{Option, Some, None, refl, sym, ap, ◌∙◌, subst, arith}
 use Rattle.std.proofs.Math.Nat.{le-max_left, le-max_right, suc-mul}
 use Rattle.pp_prog.specs.declared.id.CheckId.{CheckId}
 use Rattle.pp_prog.specs.declared.program.Program.{Program}
@@ -12,7 +13,8 @@ use Rattle.pp_prog.specs.Sizes.{bits}
 use Rattle.pp_estimate.specs.declared.shape.Shape.{Shape}
 use Rattle.pp_estimate.specs.Events.{cost}
 use Rattle.pp_estimate.specs.Visits as visits
-use Rattle.pp_estimate.specs.Visits.{Visit, Visiting, all_events, arms, bound, choice_extra, first_sort, guard_events, node, pattern_events, shape_of, tallest, visit}
+use Rattle.pp_estimate.specs.Visits.{Visit, Visiting, all_events, arms, bound, choice_extra, first_sort, guard_events}
+use Rattle.pp_estimate.specs.Visits.{node, pattern_events, shape_of, tallest, visit}
 use Rattle.pp_estimate_laws.proofs.Growth.{cost_of_both}
 use Rattle.pp_estimate_laws.proofs.Numbers.{le_same, le_then}
 use Rattle.pp_sound.proofs.Cases.{EachArm, each_arm}
@@ -24,7 +26,9 @@ use Rattle.pp_steps.specs.Patterns.{fitting}
 use Rattle.pp_steps.specs.Piece.{Piece, after, asks, bind, choice, failing, joined, plain}
 use Rattle.pp_steps.specs.Sorted.{Sorts}
 use Rattle.pp_steps_gates.proofs.Patterns.{pattern_matches}
-use Rattle.pp_steps_gates.proofs.Pieces.{Has, IsBit, IsFew, IsMade, MayHave, bit_choice, choice_few, fewer, joined_few, load, load_of_both, made_left, made_one, made_other, made_right, plain_few, unless_few, when_few}
+use Rattle.pp_steps_gates.proofs.Pieces.{Has, IsBit, IsFew, IsMade, MayHave, bit_choice, choice_few, fewer, joined_few}
+use Rattle.pp_steps_gates.proofs.Pieces.{load, load_of_both, made_left, made_one, made_other, made_right, plain_few}
+use Rattle.pp_steps_gates.proofs.Pieces.{unless_few, when_few}
 use Rattle.pp_steps_gates.proofs.Scopes.{Are, Covers, IsOf, are_join, cost_of_node, covered, covered_of, has_more}
 
 -- the sorts that a case's pattern binds, with the sort of its guard and its body

@@ -1,5 +1,6 @@
 -- Heights that are the same or both great: where the steps take few gates at the one, they take as many at the other.
-use Rattle.std.proofs.Common.{◌≡◌, ℕ, suc, ◌+◌, ◌*◌, ◌-◌, ◌<◌, ◌≤◌, ◌⊎◌, inl, inr, max, min, List, [], ◌∷◌, map, length, refl, sym, ap, ◌∙◌, subst, arith}
+use Rattle.std.proofs.Common.{◌≡◌, ℕ, suc, ◌+◌, ◌*◌, ◌-◌, ◌<◌, ◌≤◌, ◌⊎◌, inl, inr, max, min, List, [], ◌∷◌, map, length}
+use Rattle.std.proofs.Common.{refl, sym, ap, ◌∙◌, subst, arith}
 use Rattle.std.proofs.lemmas.Bool.Decides.{leb_tells}
 use Rattle.std.proofs.Math.Nat.{eq-or-lt_of_le, le-max_left, le-max_right, le-min, min_comm}
 use Rattle.pp_prog.specs.declared.expr.BinaryOp.{BinaryOp}
@@ -13,7 +14,8 @@ use Rattle.pp_estimate_laws.proofs.Numbers.{le_then, times_grow}
 use Rattle.pp_estimate_laws.proofs.Sizes.{bits_grow, nodes_grow}
 use Rattle.pp_steps.specs.declared.step.Step.{Step}
 use Rattle.pp_steps.specs.declared.step.Step.TheVariants as steps
-use Rattle.pp_steps.specs.Gates.{AllHigh, Heights, all_gates, binary_gates, choice_gates, descent_gates, equality_gates, gates_of, height_of}
+use Rattle.pp_steps.specs.Gates.{AllHigh, Heights, all_gates, binary_gates, choice_gates, descent_gates, equality_gates}
+use Rattle.pp_steps.specs.Gates.{gates_of, height_of}
 use Rattle.pp_steps.specs.Reads.{AllRead, Below, Reads}
 use Rattle.pp_steps.specs.Sorted.{Sorts}
 use Rattle.pp_steps_gates.proofs.Measures.{product_more}

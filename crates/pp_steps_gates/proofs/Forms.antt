@@ -1,5 +1,6 @@
 -- The forms of expressions: their steps take at most twice what their visits cost.
-use Rattle.std.proofs.Common.{◌≡◌, ℕ, suc, ◌+◌, ◌≤◌, max, List, [], ◌∷◌, ◌++◌, Option, Some, refl, sym, ap, ◌∙◌, subst, arith}
+use Rattle.std.proofs.Common.{◌≡◌, ℕ, suc, ◌+◌, ◌≤◌, max, List, [], ◌∷◌, ◌++◌, Option, Some, refl, sym, ap, ◌∙◌, subst}
+use Rattle.std.proofs.Common.{arith}
 use Rattle.std.proofs.lemmas.Option.{same_Some}
 use Rattle.std.proofs.Math.Nat.{le-max_left, le-max_right}
 use Rattle.pp_prog.specs.declared.expr.UnaryOp.{UnaryOp}
@@ -22,7 +23,8 @@ use Rattle.pp_steps.specs.Compile.{Compiling, branches, one, unless, when}
 use Rattle.pp_steps.specs.Gates.{Heights, unary_gates}
 use Rattle.pp_steps.specs.Piece.{Piece, after, asks, bind, choice, demand, joined, possible}
 use Rattle.pp_steps.specs.Sorted.{Sorts}
-use Rattle.pp_steps_gates.proofs.Pieces.{Has, IsBit, choice_few, demand_few, joined_few, load, made_left, made_one, made_other, made_right, one_few, unless_few, when_few}
+use Rattle.pp_steps_gates.proofs.Pieces.{Has, IsBit, choice_few, demand_few, joined_few, load, made_left, made_one}
+use Rattle.pp_steps_gates.proofs.Pieces.{made_other, made_right, one_few, unless_few, when_few}
 use Rattle.pp_steps_gates.proofs.Scopes.{Covers, are_join, cost_of_node, covered, covered_of, has_more}
 
 -- the operand of an operator has a sort

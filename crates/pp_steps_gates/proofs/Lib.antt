@@ -9,7 +9,7 @@ mod Exprs
 mod Measures
 mod Calls
 mod Runs
-mod Heights
+pub mod Heights
 mod Sizes
 mod Deep
 pub mod Laws

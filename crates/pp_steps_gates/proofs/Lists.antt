@@ -1,5 +1,6 @@
 -- Expressions in a row, constructors, fields and calls: their steps take at most twice what their visits cost.
-use Rattle.std.proofs.Common.{◌≡◌, ℕ, ◌+◌, ◌*◌, ◌-◌, ◌≤◌, nat_eq, true, false, if◌then◌else◌, List, [], ◌∷◌, ◌++◌, map, length, Option, Some, None, sym, ap, ◌∙◌, subst, arith, append_assoc, append-nil}
+use Rattle.std.proofs.Common.{◌≡◌, ℕ, ◌+◌, ◌*◌, ◌-◌, ◌≤◌, nat_eq, true, false, if◌then◌else◌, List, [], ◌∷◌, ◌++◌, map}
+use Rattle.std.proofs.Common.{length, Option, Some, None, sym, ap, ◌∙◌, subst, arith, append_assoc, append-nil}
 use Rattle.std.proofs.lemmas.Option.{same_Some}
 use Rattle.std.proofs.Math.Nat.{le-min}
 use Rattle.std.specs.Prelude.{slice_get}
@@ -13,7 +14,8 @@ use Rattle.pp_prog.specs.declared.sort.Sort.TheVariants as sort
 use Rattle.pp_prog.specs.declared.types.Ctor.{Ctor}
 use Rattle.pp_prog.specs.declared.types.Datatype.{Datatype}
 use Rattle.pp_prog.specs.declared.types.TypeTable.{TypeTable}
-use Rattle.pp_prog.specs.ExprSorts.{Sorting, a_tree, call_sort, field_of_ctor, field_of_data, field_sort, sorts_in, tree_sort}
+use Rattle.pp_prog.specs.ExprSorts.{Sorting, a_tree, call_sort, field_of_ctor, field_of_data, field_sort, sorts_in}
+use Rattle.pp_prog.specs.ExprSorts.{tree_sort}
 use Rattle.pp_prog.specs.Results.{field_result, fields_of_ctor, first_ctor, or_int, sort_at, tree_result}
 use Rattle.pp_prog.specs.Sizes.{height_at}
 use Rattle.pp_prog.specs.Sorts.{param_sorts}
@@ -21,7 +23,8 @@ use Rattle.pp_prog.specs.Values.{greatest}
 use Rattle.pp_estimate.specs.declared.shape.Shape.{Shape}
 use Rattle.pp_estimate.specs.Cut.{cut, top}
 use Rattle.pp_estimate.specs.Events.{Event, called, cost}
-use Rattle.pp_estimate.specs.Visits.{Calls, Visit, Visiting, all_events, look_at, node, part, shape, shape_of, tallest, visit, visits}
+use Rattle.pp_estimate.specs.Visits.{Calls, Visit, Visiting, all_events, look_at, node, part, shape, shape_of, tallest}
+use Rattle.pp_estimate.specs.Visits.{visit, visits}
 use Rattle.pp_estimate_laws.proofs.Growth.{cost_of_both}
 use Rattle.pp_estimate_laws.proofs.Numbers.{le_same}
 use Rattle.pp_estimate_laws.proofs.Sizes.{height_grows}
@@ -31,8 +34,10 @@ use Rattle.pp_steps.specs.Compile.{Compiling, Site, all, all_from, one}
 use Rattle.pp_steps.specs.Gates.{Heights}
 use Rattle.pp_steps.specs.Piece.{Piece, after, bind, joined}
 use Rattle.pp_steps.specs.Sorted.{Constructs, SelectsOnly, Sorts}
-use Rattle.pp_steps_gates.proofs.Pieces.{Has, IsBit, IsMade, joined_few, load, load_of_both, made_left, made_right, one_few}
-use Rattle.pp_steps_gates.proofs.Scopes.{Are, Covers, are_as_high, are_join, cost_of_look, cost_of_node, covered, covered_of}
+use Rattle.pp_steps_gates.proofs.Pieces.{Has, IsBit, IsMade, joined_few, load, load_of_both, made_left, made_right}
+use Rattle.pp_steps_gates.proofs.Pieces.{one_few}
+use Rattle.pp_steps_gates.proofs.Scopes.{Are, Covers, are_as_high, are_join, cost_of_look, cost_of_node, covered}
+use Rattle.pp_steps_gates.proofs.Scopes.{covered_of}
 
 same_data : (a b : DataId) (s : Sort) → s ≡ sort.Tree a → s ≡ sort.Tree b → a ≡ b
 same_data a b s h g = cc

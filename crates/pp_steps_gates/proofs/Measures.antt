@@ -1,6 +1,7 @@
 -- Measures that are compared: their steps take at most twice what the comparison costs, and four gates for each
 -- component.
-use Rattle.std.proofs.Common.{◌≡◌, ℕ, suc, false, ◌+◌, ◌*◌, ◌≤◌, max, min, List, [], ◌∷◌, map, length, Option, Some, None, refl, sym, ap, ◌∙◌, subst, arith}
+use Rattle.std.proofs.Common.{◌≡◌, ℕ, suc, false, ◌+◌, ◌*◌, ◌≤◌, max, min, List, [], ◌∷◌, map, length, Option, Some}
+use Rattle.std.proofs.Common.{None, refl, sym, ap, ◌∙◌, subst, arith}
 use Rattle.std.proofs.lemmas.List.{length-map}
 use Rattle.std.proofs.Math.Nat.{min-le_left}
 use Rattle.pp_prog.specs.declared.expr.BinaryOp.TheVariants.{Equal}
@@ -21,7 +22,8 @@ use Rattle.pp_steps.specs.Gates.{Heights, descent_gates, equality_gates}
 use Rattle.pp_steps.specs.Piece.{Piece, after, asks, demand, joined, plain}
 use Rattle.pp_steps.specs.Sorted.{Sorts}
 use Rattle.pp_steps_gates.proofs.Operators.{equality_fits}
-use Rattle.pp_steps_gates.proofs.Pieces.{Has, IsBit, IsFew, IsMade, bit_choice, demand_few, fewer, joined_few, load, made_left, made_right, one_few, plain_few}
+use Rattle.pp_steps_gates.proofs.Pieces.{Has, IsBit, IsFew, IsMade, bit_choice, demand_few, fewer, joined_few, load}
+use Rattle.pp_steps_gates.proofs.Pieces.{made_left, made_right, one_few, plain_few}
 use Rattle.pp_steps_gates.proofs.Scopes.{Are}
 
 module _ (types : TypeTable) where

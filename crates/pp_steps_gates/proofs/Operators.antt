@@ -1,10 +1,12 @@
 -- Operators on two values: their steps take at most twice what their visits cost.
-use Rattle.std.proofs.Common.{◌≡◌, ℕ, suc, ◌+◌, ◌*◌, ◌≤◌, max, min, List, [], ◌∷◌, ◌++◌, Option, Some, None, refl, sym, ap, ◌∙◌, subst, arith}
+use Rattle.std.proofs.Common.{◌≡◌, ℕ, suc, ◌+◌, ◌*◌, ◌≤◌, max, min, List, [], ◌∷◌, ◌++◌, Option, Some, None, refl, sym}
+use Rattle.std.proofs.Common.{ap, ◌∙◌, subst, arith}
 use Rattle.std.proofs.lemmas.Option.{same_Some}
 use Rattle.std.proofs.Math.Nat.{add-zero, le-max_left, min-le_left}
 use Rattle.std.specs.Prelude.{pos}
 use Rattle.pp_prog.specs.declared.expr.BinaryOp.{BinaryOp}
-use Rattle.pp_prog.specs.declared.expr.BinaryOp.TheVariants.{Add, Sub, Mul, Div, Rem, Equal, Differ, Less, AtMost, More, AtLeast, AndAlso, OrElse, And, Or, Xor, Shl, Shr, Ushr}
+use Rattle.pp_prog.specs.declared.expr.BinaryOp.TheVariants.{Add, Sub, Mul, Div, Rem, Equal, Differ, Less, AtMost, More}
+use Rattle.pp_prog.specs.declared.expr.BinaryOp.TheVariants.{AtLeast, AndAlso, OrElse, And, Or, Xor, Shl, Shr, Ushr}
 use Rattle.pp_prog.specs.declared.id.CheckId.{CheckId}
 use Rattle.pp_prog.specs.declared.sort.Sort.{Sort}
 use Rattle.pp_prog.specs.declared.sort.Sort.TheVariants as sort
@@ -25,7 +27,8 @@ use Rattle.pp_steps.specs.Compile.{Compiling, binary, one, quotient, skipping, u
 use Rattle.pp_steps.specs.Gates.{Heights, binary_gates, equality_gates}
 use Rattle.pp_steps.specs.Piece.{Piece, after, asks, bind, demand, joined, plain}
 use Rattle.pp_steps.specs.Sorted.{IsSorted, Sorts, operated_sort}
-use Rattle.pp_steps_gates.proofs.Pieces.{Has, IsBit, IsFew, IsMade, choice_few, demand_few, joined_few, load, made_left, made_one, made_right, one_few, unless_few, when_few}
+use Rattle.pp_steps_gates.proofs.Pieces.{Has, IsBit, IsFew, IsMade, choice_few, demand_few, joined_few, load, made_left}
+use Rattle.pp_steps_gates.proofs.Pieces.{made_one, made_right, one_few, unless_few, when_few}
 use Rattle.pp_steps_gates.proofs.Scopes.{Are, Covers, IsCovered, cost_of_node, covered}
 
 -- both operands have sorts

@@ -1,5 +1,6 @@
 -- Patterns: their steps and tests take at most twice what their events cost.
-use Rattle.std.proofs.Common.{◌≡◌, ℕ, suc, ◌+◌, ◌*◌, ◌-◌, ◌≤◌, min, true, false, if◌then◌else◌, List, [], ◌∷◌, ◌++◌, map, length, Option, Some, None, refl, sym, ap, ◌∙◌, subst, arith, length-append}
+use Rattle.std.proofs.Common.{◌≡◌, ℕ, suc, ◌+◌, ◌*◌, ◌-◌, ◌≤◌, min, true, false, if◌then◌else◌, List, [], ◌∷◌, ◌++◌}
+use Rattle.std.proofs.Common.{map, length, Option, Some, None, refl, sym, ap, ◌∙◌, subst, arith, length-append}
 use Rattle.std.proofs.lemmas.Option.{same_Some}
 use Rattle.std.proofs.Math.Nat.{add-zero, zero-add}
 use Rattle.std.specs.Prelude.{slice_get}
@@ -18,9 +19,11 @@ use Rattle.pp_prog.specs.PatternSorts.{bind_fields, bind_tree, binds_none, bound
 use Rattle.pp_prog.specs.Results.{fields_of_ctor, tree_result}
 use Rattle.pp_prog.specs.Sizes.{height_at}
 use Rattle.pp_prog.specs.Sorts.{same_sort}
+use Rattle.pp_sound.proofs.Binding.{bind_then, none_binds, tree_binds}
 use Rattle.pp_estimate.specs.declared.shape.Shape.{Shape}
 use Rattle.pp_estimate.specs.Events.{Event, cost}
-use Rattle.pp_estimate.specs.Visits.{Binding, bind_each, bind_step, bound, look_at, node, part, pattern_events, pattern_step}
+use Rattle.pp_estimate.specs.Visits.{Binding, bind_each, bind_step, bound, look_at, node, part, pattern_events}
+use Rattle.pp_estimate.specs.Visits.{pattern_step}
 use Rattle.pp_estimate_laws.proofs.Growth.{cost_of_both}
 use Rattle.pp_estimate_laws.proofs.Sizes.{height_grows}
 use Rattle.pp_steps.specs.Gates.{Heights, equality_gates}
@@ -28,26 +31,6 @@ use Rattle.pp_steps.specs.Patterns.{Fitting, Matching, fit_fields, fitting, fitt
 use Rattle.pp_steps.specs.Sorted.{Selects, Sorts}
 use Rattle.pp_steps_gates.proofs.Pieces.{IsMade, add_suc, gates, gates_of_both, made_first, made_rest}
 use Rattle.pp_steps_gates.proofs.Scopes.{Are, IsOf, are_join}
-
--- ---- the sorts that patterns bind
-
-none_bound : (b : _) (l : List Sort) → binds_none b ≡ Some l → [] ≡ l
-none_bound true l e = cc
-none_bound false l e = let no : None ≡ Some l = e in cc
-
-tree_bound : (o : Option Ctor) (ps : List sorts.Binding) (s : Sort) (l : List Sort) → bind_tree o ps s ≡ Some l
-    → (k : Ctor) × (o ≡ Some k) × (bind_fields ps k.fields ≡ Some l)
-tree_bound None ps s l e = let no : None ≡ Some l = e in cc
-tree_bound (Some k) ps s l e = (k, refl, test (same_sort (sort.Tree k.of) s) (bind_fields ps k.fields) e)
-  where
-    test : (b : _) (o : Option (List Sort)) → (if b then o else None) ≡ Some l → o ≡ Some l
-    test true o e = e
-    test false o e = let no : None ≡ Some l = e in cc
-
-then_bound : (o : Option (List Sort)) (go : List Sort → Option (List Sort)) (l : List Sort) → then_bind o go ≡ Some l
-    → (here : List Sort) × (o ≡ Some here) × (go here ≡ Some l)
-then_bound None go l e = let no : None ≡ Some l = e in cc
-then_bound (Some here) go l e = (here, refl, e)
 
 module _ (types : TypeTable) (σ : Sorts) (η : Heights) where
   -- The steps of a pattern begin at number k: what they bind is of these shapes and sorts, and its steps and tests take
@@ -82,9 +65,9 @@ module _ (types : TypeTable) (σ : Sorts) (η : Heights) where
   fields_match c k is (p ∷ ps) j [] at n t h low l e m = let no : None ≡ Some l = e in cc
   fields_match c k is (p ∷ ps) j (s ∷ ss) at n t h low l e m =
       let inner = map (bound_sorts types.ctors) (patterns ps) in
-      let here = then_bound (bound_sorts types.ctors p.0 s)
+      let here = bind_then (bound_sorts types.ctors p.0 s)
       (λ a. then_bind (bind_fields inner ss) (λ more. Some (a ++ more))) l e in
-      let rest = then_bound (bind_fields inner ss) (λ more. Some (here.0 ++ more)) l here.2 in
+      let rest = bind_then (bind_fields inner ss) (λ more. Some (here.0 ++ more)) l here.2 in
       let x = fitting p.0 (suc n) n in
       let i = suc n + length x.steps in
       let y = fit_fields c (suc j) (map fitting (patterns ps)) i t in
@@ -131,7 +114,7 @@ module _ (types : TypeTable) (σ : Sorts) (η : Heights) where
       let same : [] ≡ l = same_Some [] l e in
       record { bound = subst (λ z. Are types σ η [] [] z) same tt; few = omega arith }
   pattern_level (pattern.Bind inner) k t h s l of e m =
-      let q = then_bound (bound_sorts types.ctors inner.0 s) (λ more. Some (s ∷ more)) l e in
+      let q = bind_then (bound_sorts types.ctors inner.0 s) (λ more. Some (s ∷ more)) l e in
       let x = fitting inner.0 k t in
       let hx = inner.1 k t h s q.0 of q.1 m in
       let few = hx.few in
@@ -142,20 +125,20 @@ module _ (types : TypeTable) (σ : Sorts) (η : Heights) where
         few = omega arith;
       }
   pattern_level (pattern.Int n) k t h s l of e m =
-      let same = none_bound _ l e in
+      let same = (none_binds _ l e).1 in
       let int : σ k ≡ sort.Int = m.0.0.0 in
       let gates_are = ap (equality_gates types (min (η k) (η t))) int in
       record { bound = subst (λ z. Are types σ η [] [] z) same tt; few = omega arith }
   pattern_level (pattern.Bool b) k t h s l of e m =
-      let same = none_bound _ l e in
+      let same = (none_binds _ l e).1 in
       let bit : σ k ≡ sort.Bool = m.0.0 in
       let gates_are = ap (equality_gates types (min (η k) (η t))) bit in
       record { bound = subst (λ z. Are types σ η [] [] z) same tt; few = omega arith }
   pattern_level (pattern.Ctor c ps) k t h s l of e m =
-      let q = tree_bound (slice_get types.ctors c.0) (map (bound_sorts types.ctors) (patterns ps)) s l e in
+      let q = tree_binds (slice_get types.ctors c.0) (map (bound_sorts types.ctors) (patterns ps)) s l e in
       let x = fit_fields c 0 (map fitting (patterns ps)) (suc k) t in
       let hx = fields_match c q.0 q.1 ps 0 q.0.fields (λ i. ap (slice_get q.0.fields) (zero-add i)) (suc k) t h
-      of.has.height l q.2 m.1 in
+      of.has.height l q.3 m.1 in
       let few = hx.few in
       let events = joined (map (pattern_events types.ctors) (patterns ps)) in
       let r = tree_result (slice_get types.ctors c.0) in

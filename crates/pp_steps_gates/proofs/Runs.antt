@@ -1,5 +1,6 @@
 -- Runs: the steps of a run take less than twice what its frame costs.
-use Rattle.std.proofs.Common.{◌≡◌, ℕ, ◌+◌, ◌*◌, ◌≤◌, max, true, false, List, [], ◌∷◌, ◌++◌, map, length, Option, Some, None, sym, ◌∙◌, arith}
+use Rattle.std.proofs.Common.{◌≡◌, ℕ, ◌+◌, ◌*◌, ◌≤◌, max, true, false, List, [], ◌∷◌, ◌++◌, map, length, Option, Some}
+use Rattle.std.proofs.Common.{None, sym, ◌∙◌, arith}
 use Rattle.pp_prog.specs.declared.expr.Expr.{Expr}
 use Rattle.pp_prog.specs.declared.expr.Function.{Function}
 use Rattle.pp_prog.specs.declared.id.CheckId.{CheckId}
@@ -25,7 +26,8 @@ use Rattle.pp_steps.specs.Sorted.{Sorts}
 use Rattle.pp_steps_gates.proofs.Calls.{demand_covered, measuring_few, own_answers}
 use Rattle.pp_steps_gates.proofs.Exprs.{expr_covers}
 use Rattle.pp_steps_gates.proofs.Lists.{Answers}
-use Rattle.pp_steps_gates.proofs.Pieces.{IsBit, IsFew, IsMade, bit_choice, gates, gates_of_both, load, load_of_both, made_left, made_right, plain_few}
+use Rattle.pp_steps_gates.proofs.Pieces.{IsBit, IsFew, IsMade, bit_choice, gates, gates_of_both, load, load_of_both}
+use Rattle.pp_steps_gates.proofs.Pieces.{made_left, made_right, plain_few}
 use Rattle.pp_steps_gates.proofs.Scopes.{Are, are_join, covered_of}
 
 module _ (p : Program) (σ : Sorts) (η : Heights) where

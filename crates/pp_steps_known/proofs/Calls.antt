@@ -9,11 +9,13 @@ use Rattle.pp_prog.specs.declared.id.CheckId.{CheckId}
 use Rattle.pp_prog.specs.declared.types.Ctor.{Ctor}
 use Rattle.pp_steps.specs.declared.step.Step.TheVariants as steps
 use Rattle.pp_steps.specs.Compile.{Site, all, compile}
-use Rattle.pp_steps.specs.Frames.{Frame, admitting, allowing, any_of, descending, entering, finishing, inlined, measuring, running, starting, stopped}
+use Rattle.pp_steps.specs.Frames.{Frame, admitting, allowing, any_of, descending, entering, finishing, inlined}
+use Rattle.pp_steps.specs.Frames.{measuring, running, starting, stopped}
 use Rattle.pp_steps.specs.Meaning.{Missing, Values}
 use Rattle.pp_steps.specs.Piece.{Piece, after, asks, demand, joined, plain}
 use Rattle.pp_steps_run.specs.Told.{On}
-use Rattle.pp_steps_known.proofs.Given.{IsEndKnown, IsGiven, IsKnown, bit_is, demand_known, end_known, given_left, given_right, known_joined, known_plain}
+use Rattle.pp_steps_known.proofs.Given.{IsEndKnown, IsGiven, IsKnown, bit_is, demand_known, end_known, given_left}
+use Rattle.pp_steps_known.proofs.Given.{given_right, known_joined, known_plain}
 use Rattle.pp_steps_known.proofs.Forms.{IsScope, SiteKnows, all_known, scope_on, scope_push}
 use Rattle.pp_steps_known.proofs.Exprs.{expr_knows, exprs_know}
 use Rattle.pp_steps_known.proofs.Measures.{IsFrameKnown, descending_known}

@@ -11,7 +11,8 @@ use Rattle.pp_prog.specs.declared.types.Ctor.{Ctor}
 use Rattle.pp_steps.specs.declared.step.Step.TheVariants as steps
 use Rattle.pp_steps.specs.Compile.{Arm, Compiling, Site, arm, arm_step, compile, compile_step}
 use Rattle.pp_steps.specs.Meaning.{Missing, Values}
-use Rattle.pp_steps_known.proofs.Forms.{AllKnow, Knows, SiteKnows, assert_knows, binary_knows, call_knows, construct_knows, if_knows, literal_knows, map_knows, val_knows, variable_knows}
+use Rattle.pp_steps_known.proofs.Forms.{AllKnow, Knows, SiteKnows, assert_knows, binary_knows, call_knows}
+use Rattle.pp_steps_known.proofs.Forms.{construct_knows, if_knows, literal_knows, map_knows, val_knows, variable_knows}
 use Rattle.pp_steps_known.proofs.Matches.{AllArmsKnow, ArmKnows, match_knows}
 
 module _ (ctors : List Ctor) (missing : Missing) (ρ : Values) (K : ℕ → Type 0) (first : K 0) (C : Type 0)

@@ -16,12 +16,15 @@ use Rattle.pp_eval.specs.Equality.{equal}
 use Rattle.pp_eval.proofs.Trees.{same_equal}
 use Rattle.pp_steps.specs.declared.step.Step.{Step}
 use Rattle.pp_steps.specs.declared.step.Step.TheVariants as steps
-use Rattle.pp_steps.specs.Compile.{Compiling, Site, all, all_from, binary, branches, one, operating, quotient, skipping, unless, when}
+use Rattle.pp_steps.specs.Compile.{Compiling, Site, all, all_from, binary, branches, one, operating, quotient, skipping}
+use Rattle.pp_steps.specs.Compile.{unless, when}
 use Rattle.pp_steps.specs.Known.{IsDefined, Tells}
 use Rattle.pp_steps.specs.Meaning.{Missing, Values}
 use Rattle.pp_steps.specs.Piece.{Piece, after, asks, bind, demand, joined, plain, possible}
 use Rattle.pp_steps_run.specs.Told.{On}
-use Rattle.pp_steps_known.proofs.Given.{IsGiven, IsKnown, bit_is, choice_known, demand_known, given_left, given_right, known_behind, known_joined, known_plain, known_within, possible_known, unless_known, when_known}
+use Rattle.pp_steps_known.proofs.Given.{IsGiven, IsKnown, bit_is, choice_known, demand_known, given_left, given_right}
+use Rattle.pp_steps_known.proofs.Given.{known_behind, known_joined, known_plain, known_within, possible_known}
+use Rattle.pp_steps_known.proofs.Given.{unless_known, when_known}
 
 -- ---- what is known where an expression begins
 

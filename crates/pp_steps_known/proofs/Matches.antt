@@ -11,7 +11,9 @@ use Rattle.pp_steps.specs.Meaning.{Missing, Values}
 use Rattle.pp_steps.specs.Patterns.{fitting}
 use Rattle.pp_steps.specs.Piece.{Piece, after, asks, bind, choice, failing, joined, plain}
 use Rattle.pp_steps_run.specs.Told.{On}
-use Rattle.pp_steps_known.proofs.Given.{IsGiven, IsKnown, IsKnownSome, bit_is, choice_known, chosen_on, given_left, given_right, known_behind, known_joined, known_within, possible_known, unless_known, when_known}
+use Rattle.pp_steps_known.proofs.Given.{IsGiven, IsKnown, IsKnownSome, bit_is, choice_known, chosen_on, given_left}
+use Rattle.pp_steps_known.proofs.Given.{given_right, known_behind, known_joined, known_within, possible_known}
+use Rattle.pp_steps_known.proofs.Given.{unless_known, when_known}
 use Rattle.pp_steps_known.proofs.Fitting.{all_of_known, pattern_known}
 use Rattle.pp_steps_known.proofs.Forms.{IsScope, Knows, scope_join, scope_on}
 

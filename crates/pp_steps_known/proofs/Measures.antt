@@ -10,7 +10,8 @@ use Rattle.pp_steps.specs.Frames.{Frame, descending, falling, lower, shaped}
 use Rattle.pp_steps.specs.Meaning.{Missing, Values}
 use Rattle.pp_steps.specs.Piece.{Piece, after, asks, demand, plain}
 use Rattle.pp_steps_run.specs.Told.{On}
-use Rattle.pp_steps_known.proofs.Given.{IsEndKnown, IsGiven, demand_known, end_known, given_left, given_right, known_behind, known_plain, known_within}
+use Rattle.pp_steps_known.proofs.Given.{IsEndKnown, IsGiven, demand_known, end_known, given_left, given_right}
+use Rattle.pp_steps_known.proofs.Given.{known_behind, known_plain, known_within}
 
 -- a piece that stops nothing, and whose outcome is known where Q holds
 pub record IsTest (K : ℕ → Type 0) (Q : Type 0) (reach : ℕ) (x : Piece ℕ) : Type 0 where

@@ -15,7 +15,8 @@ use Rattle.pp_steps.specs.Meaning.{Missing, Values, bit}
 use Rattle.pp_steps.specs.Compile.{Compiling, branches, unless, when}
 use Rattle.pp_steps.specs.Piece.{Piece, after, bind, joined, possible}
 use Rattle.pp_steps_run.specs.Told.{AreValues, IsMade, IsQuiet, IsTold, IsValue, MayBe, Off, On}
-use Rattle.pp_steps_run.proofs.Choices.{Chosen, choice_first, choice_left, choice_quiet, choice_right, choice_second, unless_dead, unless_off, unless_on, when_dead, when_off, when_on}
+use Rattle.pp_steps_run.proofs.Choices.{Chosen, choice_first, choice_left, choice_quiet, choice_right, choice_second}
+use Rattle.pp_steps_run.proofs.Choices.{unless_dead, unless_off, unless_on, when_dead, when_off, when_on}
 use Rattle.pp_steps_run.proofs.Lasting.{Lasts, lasts_first, told_either, told_then, truth_is}
 use Rattle.pp_steps_run.proofs.Pieces.{made_left, made_right, quiet_bind, quiet_plain, told_after}
 use Rattle.pp_steps_run.proofs.Rights.{IsRight}

@@ -1,5 +1,6 @@
 -- Calls that are followed tell what calls do.
-use Rattle.std.proofs.Common.{◌≡◌, ℕ, zero, suc, Bool, true, false, List, [], ◌∷◌, map, Option, Some, None, Ok, Err, refl, sym, ap, ◌∙◌, subst}
+use Rattle.std.proofs.Common.{◌≡◌, ℕ, zero, suc, Bool, true, false, List, [], ◌∷◌, map, Option, Some, None, Ok, Err}
+use Rattle.std.proofs.Common.{refl, sym, ap, ◌∙◌, subst}
 use Rattle.std.specs.Prelude.{slice_get, ⊤}
 use Rattle.pp_prog.specs.declared.expr.Expr.{Expr}
 use Rattle.pp_prog.specs.declared.expr.Function.{Function}
@@ -8,13 +9,14 @@ use Rattle.pp_prog.specs.declared.id.FunctionId.{FunctionId}
 use Rattle.pp_prog.specs.declared.types.Ctor.{Ctor}
 use Rattle.pp_prog.specs.declared.value.Value.{Value}
 use Rattle.pp_eval.specs.declared.outcome.Stop.{Stop}
-use Rattle.pp_eval.specs.declared.outcome.Stop.TheVariants.{Fails, Inner, Deep}
-use Rattle.pp_eval.specs.Calls.{admits, calls_over, calls_to, descends, enters, frame_of}
-use Rattle.pp_eval.specs.Meaning.{Calls, Frame, Meaning, meaning}
+use Rattle.pp_eval.specs.declared.outcome.Stop.TheVariants.{Fails, Inner, Deep, Stuck}
+use Rattle.pp_eval.specs.Invocation.{admits, calls_over, calls_to, descends, enters, frame_of}
+use Rattle.pp_eval.specs.Meaning.{CallMeaning, Frame, Meaning, meaning}
 use Rattle.pp_eval.specs.Meaning as run
 use Rattle.pp_eval.specs.Operators.{truth}
 use Rattle.pp_eval.specs.Part.{Part, and_then, either, failed, inside, raised}
-use Rattle.pp_eval.proofs.Extends.{CallsCover, Extends, enters_cover, expr_covers, frame_extends, same_extends, then_extends}
+use Rattle.pp_eval.proofs.Extends.{CallsCover, Extends, admits_extends, enters_cover, expr_covers, frame_extends}
+use Rattle.pp_eval.proofs.Extends.{inside_extends, same_extends, then_extends}
 use Rattle.pp_steps.specs.declared.step.Asked.{Asked}
 use Rattle.pp_steps.specs.Compile.{Site, all, compile}
 use Rattle.pp_steps.specs.Frames as code
@@ -32,23 +34,19 @@ use Rattle.pp_steps_run.proofs.Rights.{IsRight}
 
 -- ---- parts inside a frame
 
-inside_extends : {A : Type 0} (g : FunctionId) (r s : Part A) → Extends r s → Extends (inside g r) (inside g s)
-inside_extends g (Ok a) s e = ap (inside g) e
-inside_extends g (Err (Fails c)) s e = ap (inside g) e
-inside_extends g (Err (Inner h c)) s e = ap (inside g) e
-inside_extends g (Err Deep) s e = tt
-
 inside_lasts : {A : Type 0} (g : FunctionId) (part : Part A) → Lasts (inside g part) → Lasts part
-inside_lasts g (Ok a) h = record { lasts = λ e. absurd (cc) }
-inside_lasts g (Err (Fails c)) h = record { lasts = λ e. absurd (cc) }
-inside_lasts g (Err (Inner f c)) h = record { lasts = λ e. absurd (cc) }
+inside_lasts g (Ok a) h = record { lasts = λ e. absurd (cc); meant = λ e. absurd (cc) }
+inside_lasts g (Err (Fails c)) h = record { lasts = λ e. absurd (cc); meant = λ e. absurd (cc) }
+inside_lasts g (Err (Inner f c)) h = record { lasts = λ e. absurd (cc); meant = λ e. absurd (cc) }
 inside_lasts g (Err Deep) h = absurd (h.lasts refl)
+inside_lasts g (Err Stuck) h = absurd (h.meant refl)
 
 -- where nothing is asked, and no check of a frame inside is
 inner_looked : (asked : Option CheckId) (g : FunctionId) (s : Stop) → looked asked (raised g s) ≡ looked None s
 inner_looked asked g (Fails c) = refl
 inner_looked asked g (Inner f c) = refl
 inner_looked asked g Deep = refl
+inner_looked asked g Stuck = refl
 
 inside_told : {A B : Type 0} {R : A → B
     → Type 0} (ρ : Values) (asked : Option CheckId) (g : FunctionId) (x : Piece A) (part : Part B)
@@ -56,15 +54,6 @@ inside_told : {A B : Type 0} {R : A → B
 inside_told ρ asked g x (Ok b) h = record { told = h.told }
 inside_told ρ asked g x (Err s) h =
     record { told = (h.told.0, subst (λ b. Flags ρ b x.fails) (sym (inner_looked asked g s)) h.told.1) }
-
-admits_extends : (c d : Calls) → CallsCover c d
-    → (g : FunctionId) (pre : Option Expr) (check : Option CheckId) (args : List Value)
-    → Extends (admits c g pre check args) (admits d g pre check args)
-admits_extends c d more g None check args = refl
-admits_extends c d more g (Some pre) check args =
-    then_extends _ _ _ _ (inside_extends g _ _
-    (then_extends _ _ _ _ (expr_covers c d more pre None args) (λ v. same_extends (truth v))))
-    (λ t. same_extends (either t (Ok tt) (failed check)))
 
 abbrev pub IsAny : ℕ → ⊤ → Type 0
 IsAny n u = Unit {0}
@@ -83,12 +72,12 @@ module _ (ctors : List Ctor) (missing : Missing) (ρ : Values) (Meets : Asked �
   some_frame (Some ks) = (Some (map ρ ks), values_at ks)
 
   -- the steps of calls are right in each frame, whatever check is asked
-  pub record AreSites (sites : Option CheckId → code.Frame → Site) (c d : Calls) : Type 0 where
+  pub record AreSites (sites : Option CheckId → code.Frame → Site) (c d : CallMeaning) : Type 0 where
     pub cover : CallsCover c d
     pub site : (asked : Option CheckId) (ks : code.Frame) (frame : Frame) → IsFrame ctors missing ρ Meets ks frame
         → IsSite ctors missing ρ Meets asked frame (sites asked ks) c d
 
-  module _ (sites : Option CheckId → code.Frame → Site) (c d : Calls) (are : AreSites sites c d) where
+  module _ (sites : Option CheckId → code.Frame → Site) (c d : CallMeaning) (are : AreSites sites c d) where
     -- an expression in a frame
     pub right_in : (asked : Option CheckId) (ks : code.Frame) (frame : Frame)
         → IsFrame ctors missing ρ Meets ks frame → (e : Expr)
@@ -301,12 +290,12 @@ module _ (ctors : List Ctor) (missing : Missing) (ρ : Values) (Meets : Asked �
 
 -- ---- calls that are followed
 
-module _ (ctors : List Ctor) (functions : List Function) (deeper : Calls) (missing : Missing) (ρ : Values)
+module _ (ctors : List Ctor) (functions : List Function) (deeper : CallMeaning) (missing : Missing) (ρ : Values)
     (Meets : Asked → Type 0) where
-  abbrev Fueled : ℕ → Calls
+  abbrev Fueled : ℕ → CallMeaning
   Fueled n = calls_to ctors functions n
 
-  abbrev Full : ℕ → Calls
+  abbrev Full : ℕ → CallMeaning
   Full n = calls_over deeper ctors functions n
 
   pub full_covers : (n : ℕ) → CallsCover (Fueled n) (Full n)
@@ -339,7 +328,7 @@ module _ (ctors : List Ctor) (functions : List Function) (deeper : Calls) (missi
         → (vs : List Value) → AreValues ρ args vs → Lasts (enters (Full n) ctors o frame g pre down vs)
         → IsTold ρ asked (IsValue ρ) (entering (inlined functions n None) asked ks o k reach pre down args)
         (enters (Fueled n) ctors o frame g pre down vs)
-    entering_told None k reach args h on vs values lasts = stopped_told asked None k h
+    entering_told None k reach args h on vs values lasts = absurd (lasts.meant refl)
     entering_told (Some f) k reach args h on vs values lasts = entered_told ctors missing ρ Meets
         (inlined functions n) (Fueled n) (Full n) are asked ks frame its g pre down f k reach args h on vs values lasts
 

@@ -1,5 +1,6 @@
 -- The cases of a match.
-use Rattle.std.proofs.Common.{◌≡◌, ℕ, Bool, true, false, List, [], ◌∷◌, ◌++◌, Option, Some, None, Ok, Err, refl, sym, ap, ◌∙◌, subst}
+use Rattle.std.proofs.Common.{◌≡◌, ℕ, Bool, true, false, List, [], ◌∷◌, ◌++◌, Option, Some, None, Ok, Err, refl, sym}
+use Rattle.std.proofs.Common.{ap, ◌∙◌, subst}
 use Rattle.pp_prog.specs.declared.expr.Pattern.{Pattern}
 use Rattle.pp_prog.specs.declared.id.CheckId.{CheckId}
 use Rattle.pp_prog.specs.declared.types.Ctor.{Ctor}
@@ -18,7 +19,8 @@ use Rattle.pp_steps.specs.Piece.{Piece, after, asks, bind, failing, joined, plai
 use Rattle.pp_steps_run.specs.Told.{AllOf, AreValues, Flags, IsMade, IsQuiet, IsTold, IsValue, MayBe, Off, On, here}
 use Rattle.pp_steps_run.proofs.Branches.{quiet_possible, told_possible}
 use Rattle.pp_steps_run.proofs.Choices.{Chosen, choice_first, choice_left, choice_quiet, choice_right, choice_second}
-use Rattle.pp_steps_run.proofs.Deciding.{IsDecided, RightGuard, all_of_dead, all_of_fails, all_of_off, all_of_on, decided_fits, decided_idle, decided_misses, guard_extends}
+use Rattle.pp_steps_run.proofs.Deciding.{IsDecided, RightGuard, all_of_dead, all_of_fails, all_of_off, all_of_on}
+use Rattle.pp_steps_run.proofs.Deciding.{decided_fits, decided_idle, decided_misses, guard_extends}
 use Rattle.pp_steps_run.proofs.Lasting.{Lasts, failed_is, lasts_first, lasts_next, told_then}
 use Rattle.pp_steps_run.proofs.Patterns.{IsFitting, are_more, pattern_tested}
 use Rattle.pp_steps_run.proofs.Pieces.{all_join, bit_truth, made_left, made_right, quiet_bind, told_after, told_stop}

@@ -12,7 +12,8 @@ use Rattle.pp_steps.specs.Meaning.{Missing, Obeys, Values, bit}
 use Rattle.pp_steps.specs.Compile.{unless, when}
 use Rattle.pp_steps.specs.Piece.{Piece, after, choice, demand, pick_step, picked}
 use Rattle.pp_steps_run.specs.Told.{AllOf, Flags, IsMade, IsQuiet, IsTold, IsValue, MayBe, Off, On, here, looked}
-use Rattle.pp_steps_run.proofs.Pieces.{all_join, all_left, all_right, bit_truth, flags_left, flags_right, obeys_left, obeys_right}
+use Rattle.pp_steps_run.proofs.Pieces.{all_join, all_left, all_right, bit_truth, flags_left, flags_right, obeys_left}
+use Rattle.pp_steps_run.proofs.Pieces.{obeys_right}
 
 pub both_true : (a b : Bool) → a ≡ true → b ≡ true → (a && b) ≡ true
 both_true true b h g = g

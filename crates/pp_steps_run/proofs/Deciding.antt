@@ -1,5 +1,6 @@
 -- Where a case of a match is taken, and where the next one is tried.
-use Rattle.std.proofs.Common.{◌≡◌, ℕ, suc, Bool, true, false, List, [], ◌∷◌, Option, Some, None, Ok, Err, refl, sym, ap, ◌∙◌, subst}
+use Rattle.std.proofs.Common.{◌≡◌, ℕ, suc, Bool, true, false, List, [], ◌∷◌, Option, Some, None, Ok, Err, refl, sym, ap}
+use Rattle.std.proofs.Common.{◌∙◌, subst}
 use Rattle.std.specs.Prelude.{if◌then◌else◌}
 use Rattle.pp_prog.specs.declared.id.CheckId.{CheckId}
 use Rattle.pp_prog.specs.declared.types.Ctor.{Ctor}
@@ -13,7 +14,8 @@ use Rattle.pp_steps.specs.declared.step.Step.TheVariants as steps
 use Rattle.pp_steps.specs.Meaning.{Missing, Values, bit}
 use Rattle.pp_steps.specs.Compile.{Compiling, all_of, deciding, unless, when}
 use Rattle.pp_steps.specs.Piece.{Piece, after, joined, plain}
-use Rattle.pp_steps_run.specs.Told.{AllOf, AreValues, Flags, IsMade, IsQuiet, IsTold, IsValue, Off, On, SomeOf, here, looked, there}
+use Rattle.pp_steps_run.specs.Told.{AllOf, AreValues, Flags, IsMade, IsQuiet, IsTold, IsValue, Off, On, SomeOf, here}
+use Rattle.pp_steps_run.specs.Told.{looked, there}
 use Rattle.pp_steps_run.proofs.Choices.{unless_dead, unless_off, unless_on, when_dead, when_off, when_on}
 use Rattle.pp_steps_run.proofs.Lasting.{Lasts, lasts_first, lasts_next, truth_is}
 use Rattle.pp_steps_run.proofs.Pieces.{all_join, flags_left, made_left, made_right}

@@ -11,7 +11,7 @@ use Rattle.pp_prog.specs.declared.expr.Pattern.{Pattern}
 use Rattle.pp_prog.specs.declared.id.CheckId.{CheckId}
 use Rattle.pp_prog.specs.declared.types.Ctor.{Ctor}
 use Rattle.pp_prog.specs.declared.value.Value.TheVariants.{Int, Bool as Truth}
-use Rattle.pp_eval.specs.Meaning.{Calls, Frame, Meaning, binary, meaning, meaning_step}
+use Rattle.pp_eval.specs.Meaning.{CallMeaning, Frame, Meaning, binary, meaning, meaning_step}
 use Rattle.pp_eval.specs.Meaning as run
 use Rattle.pp_eval.proofs.Extends.{CallsCover}
 use Rattle.pp_steps.specs.declared.step.Asked.{Asked}
@@ -28,7 +28,7 @@ use Rattle.pp_steps_run.proofs.Strict.{strict_right}
 
 module _ (ctors : List Ctor) (missing : Missing) (ρ : Values) (Meets : Asked → Type 0) (asked : Option CheckId)
     (frame : Frame)
-    (site : Site) (c d : Calls) (more : CallsCover c d) (its : IsSite ctors missing ρ Meets asked frame site c d) where
+    (site : Site) (c d : CallMeaning) (more : CallsCover c d) (its : IsSite ctors missing ρ Meets asked frame site c d) where
   abbrev Right : Compiling → Meaning → Meaning → Type 0
   Right = IsRight ctors missing ρ Meets asked frame
 

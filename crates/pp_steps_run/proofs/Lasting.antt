@@ -6,7 +6,7 @@ use Rattle.pp_prog.specs.declared.id.CheckId.{CheckId}
 use Rattle.pp_prog.specs.declared.value.Value.{Value}
 use Rattle.pp_prog.specs.declared.value.Value.TheOpen as layer
 use Rattle.pp_prog.specs.declared.value.Value.TheViews.{out-Value}
-use Rattle.pp_eval.specs.declared.outcome.Stop.TheVariants.{Deep}
+use Rattle.pp_eval.specs.declared.outcome.Stop.TheVariants.{Deep, Stuck}
 use Rattle.pp_eval.specs.Operators.{truth, truth_in}
 use Rattle.pp_eval.specs.Part.{Part, and_then, failed}
 use Rattle.pp_eval.proofs.Extends.{Extends}
@@ -15,13 +15,17 @@ use Rattle.pp_steps.specs.Piece.{Piece, joined}
 use Rattle.pp_steps_run.specs.Told.{IsQuiet, IsTold, Off, On}
 use Rattle.pp_steps_run.proofs.Pieces.{told_bind}
 
--- the part isn't Deep
+-- the part isn't Deep, and isn't stuck
 pub record Lasts {A : Type 0} (part : Part A) : Type 0 where
   pub lasts : part ≢ Err Deep
+  pub meant : part ≢ Err Stuck
 
 pub lasts_first : {A B : Type 0} (part : Part A) (go : A → Part B) → Lasts (and_then part go) → Lasts part
-lasts_first (Ok a) go h = record { lasts = λ e. absurd (cc) }
-lasts_first (Err s) go h = record { lasts = λ e. let same : s ≡ Deep = cc in h.lasts (ap Err same) }
+lasts_first (Ok a) go h = record { lasts = λ e. absurd (cc); meant = λ e. absurd (cc) }
+lasts_first (Err s) go h = record {
+  lasts = λ e. let same : s ≡ Deep = cc in h.lasts (ap Err same);
+  meant = λ e. let same : s ≡ Stuck = cc in h.meant (ap Err same);
+}
 
 pub lasts_next : {A B : Type 0} (part full : Part A) (go : A → Part B) → Extends part full → (a : A) → part ≡ Ok a
     → Lasts (and_then full go) → Lasts (go a)
@@ -30,16 +34,16 @@ lasts_next (Err s) full go e a is h = absurd (cc)
 
 -- the truth value of a value that has one
 truth_there : (o : layer.Value-F Value) → Lasts (truth_in o) → truth_in o ≡ Ok (bit_in o)
-truth_there (layer.Int n) h = absurd (h.lasts refl)
+truth_there (layer.Int n) h = absurd (h.meant refl)
 truth_there (layer.Bool b) h = refl
-truth_there (layer.Tree c fields) h = absurd (h.lasts refl)
+truth_there (layer.Tree c fields) h = absurd (h.meant refl)
 
 pub truth_is : (v : Value) → Lasts (truth v) → truth v ≡ Ok (bit v)
 truth_is v h = truth_there (out-Value v) h
 
 -- a check that fails isn't absent
 pub failed_is : {A : Type 0} (check : Option CheckId) → Lasts (failed {A = A} check) → (c : CheckId) × (check ≡ Some c)
-failed_is None h = absurd (h.lasts refl)
+failed_is None h = absurd (h.meant refl)
 failed_is (Some c) h = (c, refl)
 
 module _ (ρ : Values) (asked : Option CheckId) where

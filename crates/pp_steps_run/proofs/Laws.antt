@@ -1,5 +1,6 @@
 -- Values that obey the steps of a run tell the run.
-use Rattle.std.proofs.Common.{◌≡◌, ℕ, Bool, true, false, List, [], ◌∷◌, ◌++◌, map, Option, Some, None, Ok, Err, sym, ap, ◌∙◌}
+use Rattle.std.proofs.Common.{◌≡◌, ℕ, Bool, true, false, List, [], ◌∷◌, ◌++◌, map, Option, Some, None, Ok, Err, sym, ap}
+use Rattle.std.proofs.Common.{◌∙◌}
 use Rattle.std.specs.Prelude.{◌↔◌, nat_eq}
 use Rattle.std.proofs.Math.Logic.{∥∥₁_elim}
 use Rattle.std.proofs.Props.{props}
@@ -14,12 +15,12 @@ use Rattle.pp_prog.specs.Sorts.{param_sorts}
 use Rattle.pp_eval.specs.declared.outcome.Outcome.{Outcome}
 use Rattle.pp_eval.specs.declared.outcome.Outcome.TheVariants.{Done, Outside}
 use Rattle.pp_eval.specs.declared.outcome.Outcome.TheVariants as end
-use Rattle.pp_eval.specs.declared.outcome.Stop.TheVariants.{Fails, Inner, Deep}
-use Rattle.pp_eval.specs.Calls.{calls_over, calls_to, frame_of}
-use Rattle.pp_eval.specs.Meaning.{Calls, Frame, meaning}
+use Rattle.pp_eval.specs.declared.outcome.Stop.TheVariants.{Fails, Inner, Deep, Stuck}
+use Rattle.pp_eval.specs.Invocation.{allowed, calls_over, calls_to, frame_of}
+use Rattle.pp_eval.specs.Meaning.{CallMeaning, Frame, meaning}
 use Rattle.pp_eval.specs.Operators.{truth}
 use Rattle.pp_eval.specs.Part.{Part, and_then, either}
-use Rattle.pp_eval.specs.Runs.{allowed, finished, outcome, run, run_with, started}
+use Rattle.pp_eval.specs.Runs.{finished, outcome, run, run_with, started}
 use Rattle.pp_sound.specs.Sound.{AnswersSorted, IsCalled}
 use Rattle.pp_sound.proofs.Answered.{can_answer_sorted}
 use Rattle.pp_sound.proofs.Laws.{deep_by_fuel_alone}
@@ -59,18 +60,18 @@ end_either : (b : Bool) (p q : Part Outcome) → Ending p → Ending q → Endin
 end_either true p q h k = h
 end_either false p q h k = k
 
-finished_ends : (c : Calls) (post : Option (CheckId × Expr)) (frame : Frame) (args : List Value) (v : Value)
+finished_ends : (c : CallMeaning) (post : Option (CheckId × Expr)) (frame : Frame) (args : List Value) (v : Value)
     → Ending (finished c post frame args v)
 finished_ends c None frame args v = record { ends = tt }
 finished_ends c (Some post) frame args v =
     end_then (meaning c post.1 frame (args ++ v ∷ [])) _
     (λ p. end_then (truth p) _ (λ t. end_either t _ _ (record { ends = tt }) (record { ends = tt })))
 
-started_ends : (c : Calls) (f : Function) (args : List Value) → Ending (started c f args)
+started_ends : (c : CallMeaning) (f : Function) (args : List Value) → Ending (started c f args)
 started_ends c f args = end_then (frame_of c f.measure args) _
     (λ frame. end_then (meaning c f.body frame args) _ (λ v. finished_ends c f.post frame args v))
 
-run_ends : (c : Calls) (f : Function) (args : List Value) → Ending (run_with c f args)
+run_ends : (c : CallMeaning) (f : Function) (args : List Value) → Ending (run_with c f args)
 run_ends c f args = end_then (allowed c f.pre args) _
     (λ allows. end_either allows _ _ (started_ends c f args) (record { ends = tt }))
 
@@ -90,9 +91,10 @@ fails_is check (Err (Fails c)) h = (
 )
 fails_is check (Err (Inner g c)) h = (λ e. absurd (cc), λ e. absurd (cc))
 fails_is check (Err Deep) h = (λ e. absurd (cc), λ e. absurd (cc))
+fails_is check (Err Stuck) h = (λ e. absurd (cc), λ e. absurd (cc))
 
 lasts_from : (part : Part Outcome) → (outcome part ≡ end.Deep → ⊥) → Lasts part
-lasts_from part h = record { lasts = λ e. h (ap outcome e) }
+lasts_from part h = record { lasts = λ e. h (ap outcome e); meant = λ e. h (ap outcome e) }
 
 -- ---- the run
 
@@ -138,7 +140,7 @@ module _ (p : Program) (i : ℕ) (f : Function) (args : List Value) (called : Is
       let o : Piece ℕ = plain (map open_step (param_sorts f.params)) 0 0 in
       ap bit (obeys_right ctors missing ρ 0 o.steps (steps.Bool true ∷ []) made_args).0 ∙ bit_truth true
 
-  told_from : (deeper : Calls) × AnswersSorted p deeper
+  told_from : (deeper : CallMeaning) × AnswersSorted p deeper
       → bit (ρ F.out) ≡ fails_in (Some check) (run_with (calls_to ctors p.functions fuel) f args)
   told_from answers =
       let lasts = lasts_from (run_with (calls_over answers.0 ctors p.functions fuel) f args)

@@ -6,7 +6,7 @@ use Rattle.pp_prog.specs.declared.id.FunctionId.{FunctionId}
 use Rattle.pp_prog.specs.declared.types.Ctor.{Ctor}
 use Rattle.pp_prog.specs.declared.value.Value.{Value}
 use Rattle.pp_prog.specs.declared.value.Value.TheVariants.{Tree}
-use Rattle.pp_eval.specs.Meaning.{Calls, Frame, Meaning}
+use Rattle.pp_eval.specs.Meaning.{CallMeaning, Frame, Meaning}
 use Rattle.pp_eval.specs.Meaning as run
 use Rattle.pp_eval.specs.Part.{and_then}
 use Rattle.pp_eval.proofs.Extends.{CallsCover, Extends, then_extends}
@@ -87,7 +87,7 @@ module _ (ctors : List Ctor) (missing : Missing) (ρ : Values) (Meets : Asked �
   all_told (m ∷ ms) (p ∷ ps) [] r done known are_done k env reach h vs on are lasts = absurd r
 
   -- what the steps of a call tell of it, and of one that isn't reached
-  pub record IsSite (site : Site) (calls full : Calls) : Type 0 where
+  pub record IsSite (site : Site) (calls full : CallMeaning) : Type 0 where
     pub quiet : (k reach : ℕ) (g : FunctionId) (pre down : Option CheckId) (args : List ℕ)
         → IsMade ctors missing ρ Meets k (site k reach g pre down args) → Off ρ reach
         → IsQuiet ρ (site k reach g pre down args)
@@ -120,7 +120,7 @@ module _ (ctors : List Ctor) (missing : Missing) (ρ : Values) (Meets : Asked �
           ((made_right ctors missing ρ Meets k x y h).steps.0 ∙ ap (Tree c) (values_are ρ x.out us values)));
     }
 
-    pub call_right : (site : Site) (calls full : Calls) → CallsCover calls full → IsSite site calls full
+    pub call_right : (site : Site) (calls full : CallMeaning) → CallsCover calls full → IsSite site calls full
         → (g : FunctionId) (pre down : Option CheckId)
         → Right (λ k env reach. bind k (all ms k env reach) (λ n xs alive. site n alive g pre down xs))
         (λ f vs. and_then (run.all ps f vs) (λ values. calls f g pre down values))

@@ -1,5 +1,6 @@
 -- The steps that compare measure values.
-use Rattle.std.proofs.Common.{◌≡◌, ℕ, suc, Bool, true, false, List, [], ◌∷◌, ◌++◌, Option, Some, None, Ok, Err, refl, sym, ap, ◌∙◌, subst}
+use Rattle.std.proofs.Common.{◌≡◌, ℕ, suc, Bool, true, false, List, [], ◌∷◌, ◌++◌, Option, Some, None, Ok, Err, refl}
+use Rattle.std.proofs.Common.{sym, ap, ◌∙◌, subst}
 use Rattle.std.specs.Prelude.{◌&&◌, ◌||◌, if◌then◌else◌}
 use Rattle.pp_prog.specs.declared.expr.BinaryOp.TheVariants.{Equal}
 use Rattle.pp_prog.specs.declared.id.CheckId.{CheckId}
@@ -7,7 +8,7 @@ use Rattle.pp_prog.specs.declared.types.Ctor.{Ctor}
 use Rattle.pp_prog.specs.declared.value.Value.{Value}
 use Rattle.pp_prog.specs.declared.value.Value.TheViews.{out-Value}
 use Rattle.pp_eval.specs.declared.outcome.Stop.TheVariants.{Fails}
-use Rattle.pp_eval.specs.Calls.{descends}
+use Rattle.pp_eval.specs.Invocation.{descends}
 use Rattle.pp_eval.specs.Equality.{equal}
 use Rattle.pp_eval.specs.Measure.{falls, goes_down, is_below, of_one_shape, one_sort}
 use Rattle.pp_eval.specs.Meaning as run

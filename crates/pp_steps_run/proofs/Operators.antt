@@ -5,7 +5,8 @@ use Rattle.std.specs.Ordering.{int_eq}
 use Rattle.std.specs.Int.{w32}
 use Rattle.pp_word.specs.Word.{word_div, word_rem}
 use Rattle.pp_prog.specs.declared.expr.BinaryOp.{BinaryOp}
-use Rattle.pp_prog.specs.declared.expr.BinaryOp.TheVariants.{Add, Sub, Mul, Div, Rem, Equal, Differ, Less, AtMost, More, AtLeast, AndAlso, OrElse, And, Or, Xor, Shl, Shr, Ushr}
+use Rattle.pp_prog.specs.declared.expr.BinaryOp.TheVariants.{Add, Sub, Mul, Div, Rem, Equal, Differ, Less, AtMost, More}
+use Rattle.pp_prog.specs.declared.expr.BinaryOp.TheVariants.{AtLeast, AndAlso, OrElse, And, Or, Xor, Shl, Shr, Ushr}
 use Rattle.pp_prog.specs.declared.expr.UnaryOp.{UnaryOp}
 use Rattle.pp_prog.specs.declared.expr.UnaryOp.TheVariants.{Neg, Not, Flip}
 use Rattle.pp_prog.specs.declared.id.CheckId.{CheckId}
@@ -43,14 +44,14 @@ equal_truth b v =
 neg_ends : (o : layer.Value-F Value) (go : ℤ → Value) → Lasts (and_then (number_in o) (λ n. Ok (go n)))
     → Ends (and_then (number_in o) (λ n. Ok (go n)))
 neg_ends (layer.Int n) go h = record { value = go n; is = refl }
-neg_ends (layer.Bool b) go h = absurd (h.lasts refl)
-neg_ends (layer.Tree c fields) go h = absurd (h.lasts refl)
+neg_ends (layer.Bool b) go h = absurd (h.meant refl)
+neg_ends (layer.Tree c fields) go h = absurd (h.meant refl)
 
 not_ends : (o : layer.Value-F Value) (go : Bool → Value) → Lasts (and_then (truth_in o) (λ b. Ok (go b)))
     → Ends (and_then (truth_in o) (λ b. Ok (go b)))
-not_ends (layer.Int n) go h = absurd (h.lasts refl)
+not_ends (layer.Int n) go h = absurd (h.meant refl)
 not_ends (layer.Bool b) go h = record { value = go b; is = refl }
-not_ends (layer.Tree c fields) go h = absurd (h.lasts refl)
+not_ends (layer.Tree c fields) go h = absurd (h.meant refl)
 
 pub unary_ends : (op : UnaryOp) (v : Value) → Lasts (unary op v) → Ends (unary op v)
 unary_ends Neg v h = neg_ends (out-Value v) _ h
@@ -78,14 +79,14 @@ numbers_end Sub d check a b h = record { value = _; is = refl; other_is = refl }
 numbers_end Mul d check a b h = record { value = _; is = refl; other_is = refl }
 numbers_end Div d check a b h = absurd (cc)
 numbers_end Rem d check a b h = absurd (cc)
-numbers_end Equal d check a b h = absurd (h.lasts refl)
-numbers_end Differ d check a b h = absurd (h.lasts refl)
+numbers_end Equal d check a b h = absurd (h.meant refl)
+numbers_end Differ d check a b h = absurd (h.meant refl)
 numbers_end Less d check a b h = record { value = _; is = refl; other_is = refl }
 numbers_end AtMost d check a b h = record { value = _; is = refl; other_is = refl }
 numbers_end More d check a b h = record { value = _; is = refl; other_is = refl }
 numbers_end AtLeast d check a b h = record { value = _; is = refl; other_is = refl }
-numbers_end AndAlso d check a b h = absurd (h.lasts refl)
-numbers_end OrElse d check a b h = absurd (h.lasts refl)
+numbers_end AndAlso d check a b h = absurd (h.meant refl)
+numbers_end OrElse d check a b h = absurd (h.meant refl)
 numbers_end And d check a b h = record { value = _; is = refl; other_is = refl }
 numbers_end Or d check a b h = record { value = _; is = refl; other_is = refl }
 numbers_end Xor d check a b h = record { value = _; is = refl; other_is = refl }
@@ -97,17 +98,17 @@ truths_end : (op : BinaryOp) (a b : Bool) → Lasts (on_truths op a b) → EndAl
 truths_end And a b h = record { value = _; is = refl; other_is = refl }
 truths_end Or a b h = record { value = _; is = refl; other_is = refl }
 truths_end Xor a b h = record { value = _; is = refl; other_is = refl }
-truths_end op a b h = absurd (h.lasts refl)
+truths_end op a b h = absurd (h.meant refl)
 
 layers_end : (op : BinaryOp) → divides op ≡ false → (check : Option CheckId) (o q : layer.Value-F Value)
     → Lasts (on_layers op check o q) → EndAlike (on_layers op check o q) (on_layers op None o q)
 layers_end op d check (layer.Int a) (layer.Int b) h = numbers_end op d check a b h
-layers_end op d check (layer.Int a) (layer.Bool b) h = absurd (h.lasts refl)
-layers_end op d check (layer.Int a) (layer.Tree c fields) h = absurd (h.lasts refl)
-layers_end op d check (layer.Bool a) (layer.Int b) h = absurd (h.lasts refl)
+layers_end op d check (layer.Int a) (layer.Bool b) h = absurd (h.meant refl)
+layers_end op d check (layer.Int a) (layer.Tree c fields) h = absurd (h.meant refl)
+layers_end op d check (layer.Bool a) (layer.Int b) h = absurd (h.meant refl)
 layers_end op d check (layer.Bool a) (layer.Bool b) h = truths_end op a b h
-layers_end op d check (layer.Bool a) (layer.Tree c fields) h = absurd (h.lasts refl)
-layers_end op d check (layer.Tree c fields) q h = absurd (h.lasts refl)
+layers_end op d check (layer.Bool a) (layer.Tree c fields) h = absurd (h.meant refl)
+layers_end op d check (layer.Tree c fields) q h = absurd (h.meant refl)
 
 -- an operator without a check ends alike in a run and in steps
 pub operated_ends : (op : BinaryOp) → divides op ≡ false → (check : Option CheckId) (x y : Value)
@@ -138,12 +139,12 @@ div_there check x y (layer.Int a) (layer.Int b) e f h = record {
   applied_is = ap (λ o. and_then (number_in o) (λ m. and_then (number y) (λ n. Ok (Int (word_div w32 m n))))) e
       ∙ ap (λ q. and_then (number_in q) (λ n. Ok (Int (word_div w32 a n)))) f;
 }
-div_there check x y (layer.Int a) (layer.Bool b) e f h = absurd (h.lasts refl)
-div_there check x y (layer.Int a) (layer.Tree c fields) e f h = absurd (h.lasts refl)
-div_there check x y (layer.Bool a) (layer.Int b) e f h = absurd (h.lasts refl)
-div_there check x y (layer.Bool a) (layer.Bool b) e f h = absurd (h.lasts refl)
-div_there check x y (layer.Bool a) (layer.Tree c fields) e f h = absurd (h.lasts refl)
-div_there check x y (layer.Tree c fields) q e f h = absurd (h.lasts refl)
+div_there check x y (layer.Int a) (layer.Bool b) e f h = absurd (h.meant refl)
+div_there check x y (layer.Int a) (layer.Tree c fields) e f h = absurd (h.meant refl)
+div_there check x y (layer.Bool a) (layer.Int b) e f h = absurd (h.meant refl)
+div_there check x y (layer.Bool a) (layer.Bool b) e f h = absurd (h.meant refl)
+div_there check x y (layer.Bool a) (layer.Tree c fields) e f h = absurd (h.meant refl)
+div_there check x y (layer.Tree c fields) q e f h = absurd (h.meant refl)
 
 rem_there : (check : Option CheckId) (x y : Value) (o q : layer.Value-F Value) → out-Value x ≡ o → out-Value y ≡ q
     → Lasts (on_layers Rem check o q) → Divided Rem check x y
@@ -155,12 +156,12 @@ rem_there check x y (layer.Int a) (layer.Int b) e f h = record {
   applied_is = ap (λ o. and_then (number_in o) (λ m. and_then (number y) (λ n. Ok (Int (word_rem w32 m n))))) e
       ∙ ap (λ q. and_then (number_in q) (λ n. Ok (Int (word_rem w32 a n)))) f;
 }
-rem_there check x y (layer.Int a) (layer.Bool b) e f h = absurd (h.lasts refl)
-rem_there check x y (layer.Int a) (layer.Tree c fields) e f h = absurd (h.lasts refl)
-rem_there check x y (layer.Bool a) (layer.Int b) e f h = absurd (h.lasts refl)
-rem_there check x y (layer.Bool a) (layer.Bool b) e f h = absurd (h.lasts refl)
-rem_there check x y (layer.Bool a) (layer.Tree c fields) e f h = absurd (h.lasts refl)
-rem_there check x y (layer.Tree c fields) q e f h = absurd (h.lasts refl)
+rem_there check x y (layer.Int a) (layer.Bool b) e f h = absurd (h.meant refl)
+rem_there check x y (layer.Int a) (layer.Tree c fields) e f h = absurd (h.meant refl)
+rem_there check x y (layer.Bool a) (layer.Int b) e f h = absurd (h.meant refl)
+rem_there check x y (layer.Bool a) (layer.Bool b) e f h = absurd (h.meant refl)
+rem_there check x y (layer.Bool a) (layer.Tree c fields) e f h = absurd (h.meant refl)
+rem_there check x y (layer.Tree c fields) q e f h = absurd (h.meant refl)
 
 pub div_is : (check : Option CheckId) (x y : Value) → Lasts (operated Div check x y) → Divided Div check x y
 div_is check x y h = div_there check x y (out-Value x) (out-Value y) refl refl h

@@ -1,5 +1,6 @@
 -- What it means that the steps of an expression are right, and the forms without branches.
-use Rattle.std.proofs.Common.{◌≡◌, ℕ, zero, suc, false, List, [], ◌∷◌, ◌++◌, Option, Some, None, Ok, refl, sym, ap, ◌∙◌, subst}
+use Rattle.std.proofs.Common.{◌≡◌, ℕ, zero, suc, false, List, [], ◌∷◌, ◌++◌, Option, Some, None, Ok, refl, sym, ap, ◌∙◌}
+use Rattle.std.proofs.Common.{subst}
 use Rattle.std.specs.Prelude.{slice_get, slice_index_or}
 use Rattle.pp_prog.specs.declared.expr.UnaryOp.{UnaryOp}
 use Rattle.pp_prog.specs.declared.id.CheckId.{CheckId}
@@ -67,7 +68,7 @@ module _ (ctors : List Ctor) (missing : Missing) (ρ : Values) (Meets : Asked �
   found_at : (env : List ℕ) (vs : List Value) (i reach : ℕ) → On ρ reach → AreValues ρ env vs
       → Lasts (found (slice_get vs i))
       → IsTold ρ asked (IsValue ρ) (plain [] (slice_index_or env i 0) reach) (found (slice_get vs i))
-  found_at [] [] i reach on are lasts = absurd (lasts.lasts refl)
+  found_at [] [] i reach on are lasts = absurd (lasts.meant refl)
   found_at [] (v ∷ vs) i reach on are lasts = absurd are
   found_at (n ∷ env) [] i reach on are lasts = absurd are
   found_at (n ∷ env) (v ∷ vs) zero reach on are lasts = record { told = (on, tt, are.0) }
@@ -85,12 +86,12 @@ module _ (ctors : List Ctor) (missing : Missing) (ρ : Values) (Meets : Asked �
   -- ---- one operand
 
   field_ends : (o : layer.Value-F Value) (i : ℕ) → Lasts (field_in o i) → Ends (field_in o i)
-  field_ends (layer.Int n) i h = absurd (h.lasts refl)
-  field_ends (layer.Bool b) i h = absurd (h.lasts refl)
+  field_ends (layer.Int n) i h = absurd (h.meant refl)
+  field_ends (layer.Bool b) i h = absurd (h.meant refl)
   field_ends (layer.Tree c fields) i h = found_ends (slice_get fields i) h
     where
       found_ends : (o : Option Value) → Lasts (found o) → Ends (found o)
-      found_ends None h = absurd (h.lasts refl)
+      found_ends None h = absurd (h.meant refl)
       found_ends (Some v) h = record { value = v; is = refl }
 
   module _ (m : Compiling) (part full : Meaning) (r : IsRight m part full) where

@@ -1,5 +1,6 @@
 -- The steps of a run tell whether it fails the asked check.
-use Rattle.std.proofs.Common.{◌≡◌, ℕ, Bool, true, false, List, [], ◌∷◌, ◌++◌, Option, Some, None, Ok, Err, refl, sym, ap, ◌∙◌, subst}
+use Rattle.std.proofs.Common.{◌≡◌, ℕ, Bool, true, false, List, [], ◌∷◌, ◌++◌, Option, Some, None, Ok, Err, refl, sym}
+use Rattle.std.proofs.Common.{ap, ◌∙◌, subst}
 use Rattle.std.specs.Prelude.{◌||◌}
 use Rattle.pp_prog.specs.declared.expr.Expr.{Expr}
 use Rattle.pp_prog.specs.declared.expr.Function.{Function}
@@ -9,11 +10,11 @@ use Rattle.pp_prog.specs.declared.value.Value.{Value}
 use Rattle.pp_eval.specs.declared.outcome.Outcome.{Outcome}
 use Rattle.pp_eval.specs.declared.outcome.Outcome.TheVariants.{Done, Outside}
 use Rattle.pp_eval.specs.declared.outcome.Stop.TheVariants.{Fails}
-use Rattle.pp_eval.specs.Calls.{frame_of}
-use Rattle.pp_eval.specs.Meaning.{Calls, Frame, meaning}
+use Rattle.pp_eval.specs.Invocation.{allowed, frame_of}
+use Rattle.pp_eval.specs.Meaning.{CallMeaning, Frame, meaning}
 use Rattle.pp_eval.specs.Operators.{truth}
 use Rattle.pp_eval.specs.Part.{Part, and_then, either}
-use Rattle.pp_eval.specs.Runs.{allowed, finished, run_with, started}
+use Rattle.pp_eval.specs.Runs.{finished, run_with, started}
 use Rattle.pp_eval.proofs.Extends.{Extends, expr_covers, frame_extends}
 use Rattle.pp_steps.specs.declared.step.Asked.{Asked}
 use Rattle.pp_steps.specs.declared.step.Step.TheVariants as steps
@@ -22,13 +23,15 @@ use Rattle.pp_steps.specs.Frames as code
 use Rattle.pp_steps.specs.Frames.{allowing, any_of, finishing, measuring, running, starting}
 use Rattle.pp_steps.specs.Meaning.{Missing, Values, bit}
 use Rattle.pp_steps.specs.Piece.{Piece, after, asks, demand, joined, plain}
-use Rattle.pp_steps_run.specs.Told.{AllOf, AreValues, Flags, IsMade, IsQuiet, IsTold, IsValue, Off, On, SomeOf, here, looked, there}
+use Rattle.pp_steps_run.specs.Told.{AllOf, AreValues, Flags, IsMade, IsQuiet, IsTold, IsValue, Off, On, SomeOf, here}
+use Rattle.pp_steps_run.specs.Told.{looked, there}
 use Rattle.pp_steps_run.proofs.Calls.{AreSites, measuring_quiet, measuring_told, right_in, some_frame}
 use Rattle.pp_steps_run.proofs.Choices.{demand_off, demand_on, demand_quiet}
 use Rattle.pp_steps_run.proofs.Lasting.{Lasts, lasts_first, told_either, told_then, truth_is}
 use Rattle.pp_steps_run.proofs.Measures.{IsFrame, bit_if, or_if}
 use Rattle.pp_steps_run.proofs.Patterns.{are_more}
-use Rattle.pp_steps_run.proofs.Pieces.{bit_truth, flags_left, made_left, made_right, quiet_bind, quiet_plain, told_after}
+use Rattle.pp_steps_run.proofs.Pieces.{bit_truth, flags_left, made_left, made_right, quiet_bind, quiet_plain}
+use Rattle.pp_steps_run.proofs.Pieces.{told_after}
 
 abbrev pub AnyEnd : ℕ → Outcome → Type 0
 AnyEnd n o = Unit {0}
@@ -45,7 +48,7 @@ told_fails ρ asked x (Err s) h = h.told.1
 
 module _ (ctors : List Ctor) (missing : Missing) (ρ : Values) (Meets : Asked → Type 0)
     (sites : Option CheckId → code.Frame
-    → Site) (c d : Calls) (are : AreSites ctors missing ρ Meets sites c d) (asked : Option CheckId) where
+    → Site) (c d : CallMeaning) (are : AreSites ctors missing ρ Meets sites c d) (asked : Option CheckId) where
   abbrev Made : {A : Type 0} → ℕ → Piece A → Type 0
   Made k x = IsMade ctors missing ρ Meets k x
 

@@ -1,5 +1,6 @@
 -- `&&`, `||` and assertions: one part is evaluated where a truth value says so.
-use Rattle.std.proofs.Common.{◌≡◌, ℕ, ◌+◌, suc, Bool, true, false, List, [], Option, Some, Ok, Err, refl, sym, ap, subst, arith}
+use Rattle.std.proofs.Common.{◌≡◌, ℕ, ◌+◌, suc, Bool, true, false, List, [], Option, Some, Ok, Err, refl, sym, ap}
+use Rattle.std.proofs.Common.{subst, arith}
 use Rattle.pp_prog.specs.declared.id.CheckId.{CheckId}
 use Rattle.pp_prog.specs.declared.types.Ctor.{Ctor}
 use Rattle.pp_prog.specs.declared.value.Value.{Value}
@@ -14,7 +15,9 @@ use Rattle.pp_steps.specs.Compile.{Compiling, skipping, unless, when}
 use Rattle.pp_steps.specs.Piece.{Piece, after, asks, bind, choice, demand, joined, plain}
 use Rattle.pp_steps_run.specs.Told.{AreValues, IsMade, IsQuiet, IsTold, IsValue, Off, On}
 use Rattle.pp_steps_run.proofs.Branches.{GoesOn}
-use Rattle.pp_steps_run.proofs.Choices.{Chosen, choice_first, choice_left, choice_quiet, choice_right, demand_off, demand_on, demand_quiet, unless_dead, unless_off, unless_on, when_dead, when_off, when_on}
+use Rattle.pp_steps_run.proofs.Choices.{Chosen, choice_first, choice_left, choice_quiet, choice_right, demand_off}
+use Rattle.pp_steps_run.proofs.Choices.{demand_on, demand_quiet, unless_dead, unless_off, unless_on, when_dead}
+use Rattle.pp_steps_run.proofs.Choices.{when_off, when_on}
 use Rattle.pp_steps_run.proofs.Lasting.{Lasts}
 use Rattle.pp_steps_run.proofs.Pieces.{made_left, made_right, quiet_bind, quiet_plain, told_after, told_stop}
 use Rattle.pp_steps_run.proofs.Rights.{IsRight}

@@ -1,5 +1,6 @@
 -- Operators that evaluate both operands.
-use Rattle.std.proofs.Common.{◌≡◌, ℕ, suc, Bool, true, false, List, [], ◌∷◌, Option, None, Ok, Err, refl, sym, ap, ◌∙◌, subst}
+use Rattle.std.proofs.Common.{◌≡◌, ℕ, suc, Bool, true, false, List, [], ◌∷◌, Option, None, Ok, Err, refl, sym, ap, ◌∙◌}
+use Rattle.std.proofs.Common.{subst}
 use Rattle.std.specs.Prelude.{pos, not}
 use Rattle.std.specs.Ordering.{int_eq}
 use Rattle.pp_prog.specs.declared.expr.BinaryOp.{BinaryOp}

@@ -4,7 +4,7 @@ use Rattle.pp_prog.specs.declared.id.CheckId.{CheckId}
 use Rattle.pp_prog.specs.declared.types.Ctor.{Ctor}
 use Rattle.pp_prog.specs.declared.value.Value.{Value}
 use Rattle.pp_eval.specs.declared.outcome.Stop.{Stop}
-use Rattle.pp_eval.specs.declared.outcome.Stop.TheVariants.{Fails, Inner, Deep}
+use Rattle.pp_eval.specs.declared.outcome.Stop.TheVariants.{Fails, Inner, Deep, Stuck}
 use Rattle.pp_eval.specs.Part.{Part}
 use Rattle.pp_steps.specs.declared.step.Asked.{Asked}
 use Rattle.pp_steps.specs.Meaning.{Missing, Obeys, Values, bit}
@@ -23,6 +23,7 @@ abbrev pub looked : Option CheckId → Stop → Bool
 looked asked (Fails c) = asks asked (Some c)
 looked asked (Inner g c) = false
 looked asked Deep = false
+looked asked Stuck = false
 
 module _ (ρ : Values) where
   -- the number's value is true, and isn't

@@ -1,5 +1,6 @@
 -- The steps of calls are well sorted in a program that has a plan.
-use Rattle.std.proofs.Common.{◌≡◌, ℕ, zero, suc, Bool, true, false, List, [], ◌∷◌, map, Option, Some, None, is_some, slice_get, refl, sym, ap, ◌∙◌, subst}
+use Rattle.std.proofs.Common.{◌≡◌, ℕ, zero, suc, Bool, true, false, List, [], ◌∷◌, map, Option, Some, None, is_some}
+use Rattle.std.proofs.Common.{slice_get, refl, sym, ap, ◌∙◌, subst}
 use Rattle.std.proofs.lemmas.Bool.{and_parts}
 use Rattle.std.specs.List.{list_all}
 use Rattle.pp_prog.specs.declared.expr.Expr.{Expr}
@@ -24,7 +25,7 @@ use Rattle.pp_checks.proofs.Plans.{shared_sorts}
 use Rattle.pp_sound.proofs.Calls.{whole}
 use Rattle.pp_sound.proofs.Listed.{all_at}
 use Rattle.pp_sound.proofs.Sites.{AreMet, IsMet, met_left, met_right}
-use Rattle.pp_sound.proofs.Sorting.{has_the_sort_is}
+use Rattle.pp_sound.proofs.Sorting.{has_the_sort_is, some_sort}
 use Rattle.pp_steps.specs.declared.step.Step.TheVariants as steps
 use Rattle.pp_steps.specs.Compile.{Site, all, compile}
 use Rattle.pp_steps.specs.Frames.{Frame, admitting, descending, entering, inlined, measuring, stopped}
@@ -33,11 +34,8 @@ use Rattle.pp_steps.specs.Sorted.{Sorts}
 use Rattle.pp_steps_sorted.proofs.Exprs.{IsSiteSorted, expr_compiles}
 use Rattle.pp_steps_sorted.proofs.Forms.{AllCompile, Compiles, all_sorted}
 use Rattle.pp_steps_sorted.proofs.Measures.{FrameOf, descending_sorted}
-use Rattle.pp_steps_sorted.proofs.Pieces.{AreOf, IsOf, WellSorted, demand_sorted, joined_sorted, none_sorted, plain_sorted}
-
-some_sort : (o : Option Sort) → is_some o ≡ true → (s : Sort) × (o ≡ Some s)
-some_sort None h = cc
-some_sort (Some s) h = (s, refl)
+use Rattle.pp_steps_sorted.proofs.Pieces.{AreOf, IsOf, WellSorted, demand_sorted, joined_sorted, none_sorted}
+use Rattle.pp_steps_sorted.proofs.Pieces.{plain_sorted}
 
 module _ (p : Program) (σ : Sorts) where
   -- the sorts of a list of measures, read off their forms

@@ -1,8 +1,10 @@
 -- The steps of an expression of a sort are well sorted where those of its calls are.
-use Rattle.std.proofs.Common.{◌≡◌, ℕ, List, [], ◌∷◌, ◌++◌, map, Option, Some, None, slice_get, refl, sym, ap, ◌∙◌, subst}
+use Rattle.std.proofs.Common.{◌≡◌, ℕ, List, [], ◌∷◌, ◌++◌, map, Option, Some, None, slice_get, refl, sym, ap, ◌∙◌}
+use Rattle.std.proofs.Common.{subst}
 use Rattle.pp_prog.specs.declared.expr.Case.{Case}
 use Rattle.pp_prog.specs.declared.expr.Expr.{Expr}
-use Rattle.pp_prog.specs.declared.expr.Expr.TheFolds.{fold-Case, fold-roll-Case, fold-roll-Expr, ind-Expr, map-Case, map-Expr, para-Case, para-roll-Case, para-roll-Expr}
+use Rattle.pp_prog.specs.declared.expr.Expr.TheFolds.{fold-Case, fold-roll-Case, fold-roll-Expr, ind-Expr, map-Case}
+use Rattle.pp_prog.specs.declared.expr.Expr.TheFolds.{map-Expr, para-Case, para-roll-Case, para-roll-Expr}
 use Rattle.pp_prog.specs.declared.expr.Expr.TheOpen as layer
 use Rattle.pp_prog.specs.declared.expr.Expr.TheViews.{roll-Case, roll-Expr}
 use Rattle.pp_prog.specs.declared.expr.Function.{Function}
@@ -14,7 +16,8 @@ use Rattle.pp_prog.specs.declared.sort.Sort.{Sort}
 use Rattle.pp_prog.specs.declared.sort.Sort.TheVariants as sort
 use Rattle.pp_prog.specs.ExprSorts.{Sorting, alike, arm_with, arms_sort, field_sort, sort_of, sort_step, sorts_in}
 use Rattle.pp_prog.specs.ExprSorts as sorts
-use Rattle.pp_prog.specs.Listing.{CaseSites, Sites, at_sort, case_sites, guard_sites, matching, measure, site_step, sites, sites_of_all, sites_of_cases, unguarded, with_bound}
+use Rattle.pp_prog.specs.Listing.{CaseSites, Sites, at_sort, case_sites, guard_sites, matching, measure, site_step}
+use Rattle.pp_prog.specs.Listing.{sites, sites_of_all, sites_of_cases, unguarded, with_bound}
 use Rattle.pp_prog.specs.PatternSorts.{bound_sorts}
 use Rattle.pp_prog.specs.Sorts.{is_int, param_sorts}
 use Rattle.pp_sound.proofs.Cases.{EachArm, each_arm}
@@ -23,7 +26,8 @@ use Rattle.pp_sound.proofs.Sorting.{alike_are, bool_then, call_sort_is, sort_the
 use Rattle.pp_steps.specs.declared.step.Step.TheVariants as steps
 use Rattle.pp_steps.specs.Compile.{Arm, Compiling, Site, all, arm, arm_step, compile, compile_step}
 use Rattle.pp_steps.specs.Sorted.{Sorts}
-use Rattle.pp_steps_sorted.proofs.Forms.{AllCompile, Compiles, all_sorted, assert_compiles, construct_compiles, if_compiles, map_compiles, val_compiles, variable_is}
+use Rattle.pp_steps_sorted.proofs.Forms.{AllCompile, Compiles, all_sorted, assert_compiles, construct_compiles}
+use Rattle.pp_steps_sorted.proofs.Forms.{if_compiles, map_compiles, val_compiles, variable_is}
 use Rattle.pp_steps_sorted.proofs.Matches.{AllArms, ArmCompiles, match_compiles}
 use Rattle.pp_steps_sorted.proofs.Operators.{binary_compiles, unary_compiles}
 use Rattle.pp_steps_sorted.proofs.Pieces.{AreOf, IsOf, WellSorted, joined_sorted, none_sorted, one_sorted}

@@ -1,5 +1,6 @@
 -- The forms of expressions: their steps are well sorted where those of their parts are.
-use Rattle.std.proofs.Common.{◌≡◌, ℕ, zero, suc, List, [], ◌∷◌, ◌++◌, map, Option, Some, slice_get, refl, sym, ◌∙◌, subst, append_assoc, append-nil}
+use Rattle.std.proofs.Common.{◌≡◌, ℕ, zero, suc, List, [], ◌∷◌, ◌++◌, map, Option, Some, slice_get, refl, sym, ◌∙◌}
+use Rattle.std.proofs.Common.{subst, append_assoc, append-nil}
 use Rattle.std.specs.Prelude.{slice_index_or}
 use Rattle.pp_prog.specs.declared.id.CheckId.{CheckId}
 use Rattle.pp_prog.specs.declared.id.CtorId.{CtorId}
@@ -12,7 +13,8 @@ use Rattle.pp_steps.specs.declared.step.Step.TheVariants as steps
 use Rattle.pp_steps.specs.Compile.{Compiling, all, all_from, branches, one, unless, when}
 use Rattle.pp_steps.specs.Piece.{after, asks, bind, demand, possible}
 use Rattle.pp_steps.specs.Sorted.{Sorts}
-use Rattle.pp_steps_sorted.proofs.Pieces.{AreOf, IsOf, Makes, WellSorted, choice_sorted, demand_sorted, joined_sorted, none_sorted, of_more, one_sorted, possible_sorted, unless_sorted, when_sorted}
+use Rattle.pp_steps_sorted.proofs.Pieces.{AreOf, IsOf, Makes, WellSorted, choice_sorted, demand_sorted, joined_sorted}
+use Rattle.pp_steps_sorted.proofs.Pieces.{none_sorted, of_more, one_sorted, possible_sorted, unless_sorted, when_sorted}
 use Rattle.pp_steps_sorted.proofs.Steps.{construct_makes}
 
 module _ (types : TypeTable) (σ : Sorts) where

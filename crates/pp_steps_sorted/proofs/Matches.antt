@@ -1,5 +1,6 @@
 -- The steps of a match are well sorted where those of its cases are.
-use Rattle.std.proofs.Common.{◌≡◌, ℕ, Bool, true, false, List, [], ◌∷◌, ◌++◌, Option, Some, None, refl, sym, ap, ◌∙◌, subst}
+use Rattle.std.proofs.Common.{◌≡◌, ℕ, Bool, true, false, List, [], ◌∷◌, ◌++◌, Option, Some, None, refl, sym, ap, ◌∙◌}
+use Rattle.std.proofs.Common.{subst}
 use Rattle.pp_prog.specs.declared.id.CheckId.{CheckId}
 use Rattle.pp_prog.specs.declared.sort.Sort.{Sort}
 use Rattle.pp_prog.specs.declared.sort.Sort.TheVariants as sort
@@ -12,7 +13,9 @@ use Rattle.pp_steps.specs.Piece.{Piece, after, asks, bind, choice, failing, join
 use Rattle.pp_steps.specs.Sorted.{Sorts}
 use Rattle.pp_steps_sorted.proofs.Forms.{Compiles}
 use Rattle.pp_steps_sorted.proofs.Patterns.{IsFitSorted, pattern_fits}
-use Rattle.pp_steps_sorted.proofs.Pieces.{AreBool, AreOf, IsOf, MaybeOf, WellSorted, choice_sorted, joined_sorted, none_sorted, of_join, plain_sorted, possible_sorted, unless_sorted, when_sorted}
+use Rattle.pp_steps_sorted.proofs.Pieces.{AreBool, AreOf, IsOf, MaybeOf, WellSorted, choice_sorted, joined_sorted}
+use Rattle.pp_steps_sorted.proofs.Pieces.{none_sorted, of_join, plain_sorted, possible_sorted, unless_sorted}
+use Rattle.pp_steps_sorted.proofs.Pieces.{when_sorted}
 
 module _ (types : TypeTable) (σ : Sorts) where
   all_of_sorted : (ts : List ℕ) (k alive : ℕ) → AreBool types σ ts → σ alive ≡ sort.Bool

@@ -10,7 +10,8 @@ use Rattle.pp_steps.specs.Compile.{one}
 use Rattle.pp_steps.specs.Frames.{Frame, descending, falling, lower, shaped}
 use Rattle.pp_steps.specs.Piece.{asks, plain}
 use Rattle.pp_steps.specs.Sorted.{Sorts}
-use Rattle.pp_steps_sorted.proofs.Pieces.{AreOf, IsOf, WellSorted, demand_sorted, joined_sorted, none_sorted, one_sorted, plain_sorted}
+use Rattle.pp_steps_sorted.proofs.Pieces.{AreOf, IsOf, WellSorted, demand_sorted, joined_sorted, none_sorted}
+use Rattle.pp_steps_sorted.proofs.Pieces.{one_sorted, plain_sorted}
 use Rattle.pp_steps_sorted.proofs.Steps.{equal_makes}
 
 module _ (types : TypeTable) (σ : Sorts) where

@@ -9,56 +9,18 @@ use Rattle.pp_prog.specs.declared.id.CheckId.{CheckId}
 use Rattle.pp_prog.specs.declared.sort.Sort.{Sort}
 use Rattle.pp_prog.specs.declared.sort.Sort.TheVariants as sort
 use Rattle.pp_prog.specs.declared.types.TypeTable.{TypeTable}
-use Rattle.pp_prog.specs.ExprSorts.{a_bool, alike, an_int, binary_sort, bits_sort, equality_sort, truth_sort, unary_sort}
+use Rattle.pp_prog.specs.ExprSorts.{a_bool, alike, an_int, binary_sort, bits_sort, equality_sort, truth_sort}
+use Rattle.pp_prog.specs.ExprSorts.{unary_sort}
 use Rattle.pp_sound.proofs.Sorting.{alike_are, bool_then, int_then, sort_then}
+use Rattle.pp_sound.proofs.Operands.{HasASort, operand, operands}
 use Rattle.pp_steps.specs.declared.step.Step.TheVariants as steps
 use Rattle.pp_steps.specs.Compile.{Compiling, binary, one, operating, quotient, skipping, unless, when}
 use Rattle.pp_steps.specs.Piece.{Piece, after, asks, bind, choice, demand, plain}
 use Rattle.pp_steps.specs.Sorted.{Sorts, operated_sort}
 use Rattle.pp_steps_sorted.proofs.Forms.{Compiles}
-use Rattle.pp_steps_sorted.proofs.Pieces.{AreOf, IsOf, MaybeOf, WellSorted, choice_sorted, demand_sorted, joined_sorted, none_sorted, one_sorted, plain_sorted, unless_sorted, when_sorted}
+use Rattle.pp_steps_sorted.proofs.Pieces.{AreOf, IsOf, MaybeOf, WellSorted, choice_sorted, demand_sorted, joined_sorted}
+use Rattle.pp_steps_sorted.proofs.Pieces.{none_sorted, one_sorted, plain_sorted, unless_sorted, when_sorted}
 use Rattle.pp_steps_sorted.proofs.Steps.{binary_makes, equal_makes, unary_makes}
-
--- ---- the sorts of operands
-
-abbrev HasSort : Option Sort → Type 0
-HasSort o = (s : Sort) × (o ≡ Some s)
-
-number_operands : (r : Sort) (a b : Option Sort) (s : Sort) → an_int a (an_int b (Some r)) ≡ Some s
-    → HasSort a × HasSort b
-number_operands r a b s h =
-    let x = int_then a (an_int b (Some r)) s h in ((sort.Int, x.0), (sort.Int, (int_then b (Some r) s x.1).0))
-
-truth_operands : (a b : Option Sort) (s : Sort) → truth_sort a b ≡ Some s → HasSort a × HasSort b
-truth_operands a b s h =
-    let x = bool_then a (a_bool b (Some sort.Bool)) s h in
-    ((sort.Bool, x.0), (sort.Bool, (bool_then b (Some sort.Bool) s x.1).0))
-
-equality_operands : (a b : Option Sort) (s : Sort) → equality_sort a b ≡ Some s → HasSort a × HasSort b
-equality_operands a b s h =
-    let d = sort_then (alike a b) (λ t. Some sort.Bool) s h in
-    let e = alike_are a b d.0 d.1 in ((d.0, e.0), (d.0, e.1))
-
-bits_operands : (a b : Option Sort) (s : Sort) → bits_sort a b ≡ Some s → HasSort a × HasSort b
-bits_operands (Some sort.Int) b s h = ((sort.Int, refl), (sort.Int, (int_then b (Some sort.Int) s h).0))
-bits_operands (Some sort.Bool) b s h = ((sort.Bool, refl), (sort.Bool, (bool_then b (Some sort.Bool) s h).0))
-bits_operands (Some (sort.Tree d)) b s h = cc
-bits_operands None b s h = cc
-
-binary_operands : (op : BinaryOp) (a b : Option Sort) (s : Sort) → binary_sort op a b ≡ Some s → HasSort a × HasSort b
-binary_operands Equal a b s h = equality_operands a b s h
-binary_operands Differ a b s h = equality_operands a b s h
-binary_operands AndAlso a b s h = truth_operands a b s h
-binary_operands OrElse a b s h = truth_operands a b s h
-binary_operands And a b s h = bits_operands a b s h
-binary_operands Or a b s h = bits_operands a b s h
-binary_operands Xor a b s h = bits_operands a b s h
-binary_operands op a b s h = number_operands _ a b s h
-
-unary_operand : (op : UnaryOp) (a : Option Sort) (s : Sort) → unary_sort op a ≡ Some s → HasSort a
-unary_operand Neg a s h = (sort.Int, (int_then a (Some sort.Int) s h).0)
-unary_operand Not a s h = (sort.Bool, (bool_then a (Some sort.Bool) s h).0)
-unary_operand Flip a s h = (sort.Int, (int_then a (Some sort.Int) s h).0)
 
 right_int : (a b s : Sort) → an_int (Some a) (an_int (Some b) (Some sort.Int)) ≡ Some s → b ≡ sort.Int
 right_int a b s h =
@@ -125,7 +87,7 @@ module _ (types : TypeTable) (σ : Sorts) where
       → ((t : Sort) → q ≡ Some t → Compiles types σ scope t b)
       → binary_sort op o q ≡ Some s → Compiles types σ scope s (binary asked op a b check)
   binary_compiles asked op check a b scope o q s ha hb h =
-      let both = binary_operands op o q s h in
+      let both = operands op o q s h in
       on_sorts asked op check a b scope both.0.0 both.1.0 s (ha both.0.0 both.0.1) (hb both.1.0 both.1.1)
       (sym (ap (λ v. binary_sort op v q) both.0.1 ∙ ap (λ v. binary_sort op (Some both.0.0) v) both.1.1) ∙ h)
     where
@@ -156,7 +118,7 @@ module _ (types : TypeTable) (σ : Sorts) where
       → ((t : Sort) → o ≡ Some t → Compiles types σ scope t a) → unary_sort op o ≡ Some s
       → Compiles types σ scope s (λ k env reach. bind k (a k env reach) (λ n x alive. one (steps.Unary op x) n alive))
   unary_compiles op a scope o s ha h k env reach e r =
-      let has = unary_operand op o s h in
+      let has = operand op o s h in
       let there = sym (ap (unary_sort op) has.1) ∙ h in
       joined_sorted types σ k (a k env reach) _ (ha has.0 has.1 k env reach e r)
       (λ x. one_sorted types σ (steps.Unary op _) s _ _

@@ -1,5 +1,6 @@
 -- The steps of a pattern of a sort are well sorted.
-use Rattle.std.proofs.Common.{◌≡◌, ℕ, suc, ◌+◌, Bool, true, false, List, [], ◌∷◌, ◌++◌, length, map, Option, Some, None, slice_get, refl, sym, ap, ◌∙◌, subst, arith}
+use Rattle.std.proofs.Common.{◌≡◌, ℕ, suc, ◌+◌, Bool, true, false, List, [], ◌∷◌, ◌++◌, length, map, Option, Some, None}
+use Rattle.std.proofs.Common.{slice_get, refl, sym, ap, ◌∙◌, subst, arith}
 use Rattle.std.proofs.lemmas.Bool.{and_parts}
 use Rattle.std.specs.Prelude.{◌&&◌, if◌then◌else◌}
 use Rattle.pp_prog.specs.declared.expr.Pattern.{Pattern}
@@ -14,6 +15,7 @@ use Rattle.pp_prog.specs.declared.types.TypeTable.{TypeTable}
 use Rattle.pp_prog.specs.PatternSorts.{Binding, bind_fields, bind_step, bind_tree, binds_none, bound_sorts, then_bind}
 use Rattle.pp_prog.specs.Sorts.{is_int, same_sort}
 use Rattle.pp_sound.proofs.Env.{one_sort}
+use Rattle.pp_sound.proofs.Binding.{bind_then, none_binds, tree_binds}
 use Rattle.pp_steps.specs.declared.step.Step.{Step}
 use Rattle.pp_steps.specs.declared.step.Step.TheVariants as steps
 use Rattle.pp_steps.specs.Patterns.{Fitting, Matching, equals, fit_fields, fitting, fitting_step}
@@ -21,26 +23,6 @@ use Rattle.pp_steps.specs.Sorted.{AllSorted, Sorts}
 use Rattle.pp_steps_sorted.proofs.Assigned.{AllAssigned, assigned_parts}
 use Rattle.pp_steps_sorted.proofs.Pieces.{AreBool, AreOf, Makes, bool_join, of_join, sorted_join}
 use Rattle.pp_steps_sorted.proofs.Steps.{equal_makes, select_makes}
-
-bind_then : (r : Option (List Sort)) (go : List Sort → Option (List Sort)) (ss : List Sort) → then_bind r go ≡ Some ss
-    → (here : List Sort) × (r ≡ Some here) × (go here ≡ Some ss)
-bind_then None go ss h = cc
-bind_then (Some here) go ss h = (here, refl, h)
-
-none_binds : (b : Bool) (ss : List Sort) → binds_none b ≡ Some ss → (b ≡ true) × ([] ≡ ss)
-none_binds true ss h = (refl, cc)
-none_binds false ss h = cc
-
--- a constructor's pattern, at a tree of its datatype
-tree_binds : (o : Option Ctor) (bs : List Binding) (s : Sort) (ss : List Sort) → bind_tree o bs s ≡ Some ss
-    → (c : Ctor) × (o ≡ Some c) × (sort.Tree c.of ≡ s) × (bind_fields bs c.fields ≡ Some ss)
-tree_binds None bs s ss h = cc
-tree_binds (Some c) bs s ss h = by (same_sort (sort.Tree c.of) s) refl h
-  where
-    by : (b : Bool) → same_sort (sort.Tree c.of) s ≡ b → (if b then bind_fields bs c.fields else None) ≡ Some ss
-        → (k : Ctor) × (Some c ≡ Some k) × (sort.Tree k.of ≡ s) × (bind_fields bs k.fields ≡ Some ss)
-    by true e g = (c, refl, one_sort (sort.Tree c.of) s e, g)
-    by false e g = cc
 
 plus_zero : (j : ℕ) → j + 0 ≡ j
 plus_zero j = omega arith

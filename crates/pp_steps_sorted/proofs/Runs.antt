@@ -1,5 +1,6 @@
 -- The steps of a run are well sorted where those of its calls are.
-use Rattle.std.proofs.Common.{◌≡◌, ℕ, suc, true, false, List, [], ◌∷◌, ◌++◌, map, Option, Some, None, slice_get, refl, sym, ap, ◌∙◌}
+use Rattle.std.proofs.Common.{◌≡◌, ℕ, suc, true, false, List, [], ◌∷◌, ◌++◌, map, Option, Some, None, slice_get, refl}
+use Rattle.std.proofs.Common.{sym, ap, ◌∙◌}
 use Rattle.std.proofs.lemmas.Bool.{and_parts}
 use Rattle.std.specs.List.{list_all}
 use Rattle.pp_prog.specs.declared.expr.Expr.{Expr}
@@ -18,14 +19,16 @@ use Rattle.pp_sound.proofs.Calls.{whole}
 use Rattle.pp_sound.proofs.Sites.{AreMet, met_left}
 use Rattle.pp_steps.specs.declared.step.Step.TheVariants as steps
 use Rattle.pp_steps.specs.Compile.{Site, compile}
-use Rattle.pp_steps.specs.Frames.{Frame, allowing, any_of, arguments, finishing, measuring, numbers, open_step, running, starting}
+use Rattle.pp_steps.specs.Frames.{Frame, allowing, any_of, arguments, finishing, measuring, numbers, open_step, running}
+use Rattle.pp_steps.specs.Frames.{starting}
 use Rattle.pp_steps.specs.Piece.{asks}
 use Rattle.pp_steps.specs.Sorted.{AllSorted, Sorts}
 use Rattle.pp_steps_sorted.proofs.Assigned.{AllAssigned, assigned_parts}
 use Rattle.pp_steps_sorted.proofs.Calls.{AllSites, condition_sorted, measuring_sorted}
 use Rattle.pp_steps_sorted.proofs.Exprs.{expr_compiles}
 use Rattle.pp_steps_sorted.proofs.Measures.{FrameOf}
-use Rattle.pp_steps_sorted.proofs.Pieces.{AreBool, AreOf, IsOf, WellSorted, joined_sorted, none_sorted, of_more, one_sorted, sorted_join}
+use Rattle.pp_steps_sorted.proofs.Pieces.{AreBool, AreOf, IsOf, WellSorted, joined_sorted, none_sorted, of_more}
+use Rattle.pp_steps_sorted.proofs.Pieces.{one_sorted, sorted_join}
 
 -- ---- the arguments
 

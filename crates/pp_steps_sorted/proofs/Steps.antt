@@ -12,15 +12,11 @@ use Rattle.pp_prog.specs.declared.types.Ctor.{Ctor}
 use Rattle.pp_prog.specs.declared.types.TypeTable.{TypeTable}
 use Rattle.pp_prog.specs.ExprSorts.{a_tree, field_of_ctor, field_sort, sort_if, then_sort, unary_sort}
 use Rattle.pp_prog.specs.Sorts.{same_sort}
+use Rattle.pp_sound.proofs.Env.{its_sort}
 use Rattle.pp_steps.specs.declared.step.Step.TheVariants as steps
 use Rattle.pp_steps.specs.Sorted.{Sorts, operated_sort}
 use Rattle.pp_steps_sorted.proofs.Assigned.{or_bool, tree_of}
 use Rattle.pp_steps_sorted.proofs.Pieces.{AreOf, Makes}
-
-its_sort : (s : Sort) → same_sort s s ≡ true
-its_sort sort.Int = refl
-its_sort sort.Bool = refl
-its_sort (sort.Tree d) = eq-eqb d.0 d.0 refl
 
 equal_sort : (s t : Sort) → s ≡ t → operated_sort Equal (Some s) (Some t) ≡ Some sort.Bool
 equal_sort s t e =

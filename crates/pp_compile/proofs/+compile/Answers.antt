@@ -1,7 +1,8 @@
 use Rattle.std.proofs.Common.{◌∙◌, [], ◌∷◌, ◌++◌, ap, arith}
 use Rattle.pp_eval.proofs.Width.{cases_of_match, most_case}
 use Rattle.pp_steps.specs.Frames.{inlined}
-use Rattle.pp_compile.proofs.Arms.{assert_arm, binary_arm, call_arm, construct_arm, field_arm, if_arm, match_arm, unary_arm, val_arm}
+use Rattle.pp_compile.proofs.Arms.{assert_arm, binary_arm, call_arm, construct_arm, field_arm, if_arm, match_arm}
+use Rattle.pp_compile.proofs.Arms.{unary_arm, val_arm}
 use Rattle.pp_compile.proofs.Matching.{attempt_made, case_made}
 use Rattle.pp_compile.proofs.Joining.{enter_made, ok_map}
 use Rattle.pp_compile.proofs.+compile.Goals as goal
@@ -81,9 +82,12 @@ calls::enter-returns t c =
     c.in_ok-allowed.ensures.made c.in_ok-allowed.ensures.kept c.as_slice.ensures c.in_ok-new.ensures.made
     c.in_ok-new.ensures.kept c.in_ok-entered.ensures h)
 
-pub exprs::value_of-returns-in_ok-found-in-Match-clause-made : goal.exprs::value_of-returns-in_ok-found-in-Match-clause-made
+pub exprs::value_of-returns-in_ok-found-in-Match-clause-made :
+    goal.exprs::value_of-returns-in_ok-found-in-Match-clause-made
 exprs::value_of-returns-in_ok-found-in-Match-clause-made t c =
-    match_arm c.args.asked (inlined c.args.calls.functions.now c.args.calls.fuel c.args.asked c.args.frame.now) c.args.work.now c.args.env.now c.args.reach c.in-Match.is c.get-in-Match.ensures c.as_slice-cases.ensures c.in_ok-x-in-Match.ensures.made c.in_ok-x-in-Match.ensures.kept
+    match_arm c.args.asked (inlined c.args.calls.functions.now c.args.calls.fuel c.args.asked c.args.frame.now)
+    c.args.work.now c.args.env.now c.args.reach c.in-Match.is c.get-in-Match.ensures c.as_slice-cases.ensures
+    c.in_ok-x-in-Match.ensures.made c.in_ok-x-in-Match.ensures.kept
     c.in_ok-found-in-Match.ensures.made c.matched.ensures.out c.matched.ensures.alive
 
 pub exprs::value_of-case_of-requires : goal.exprs::value_of-case_of-requires
@@ -92,13 +96,18 @@ exprs::value_of-case_of-requires t c =
 
 pub cases::attempt-returns-clause-made : goal.cases::attempt-returns-clause-made
 cases::attempt-returns-clause-made t c =
-    attempt_made c.args.asked (inlined c.args.calls.functions.now c.args.calls.fuel c.args.asked c.args.frame.now) c.args.case.now
-    c.args.work.now c.args.value c.args.env.now c.args.reach c.new.ensures c.new-2.ensures c.in_ok-fit.ensures c.as_slice.ensures
-    c.in_ok-fits.ensures.written c.in_ok-fits.ensures.number c.in_ok-append.ensures c.in_ok-goes.ensures.made c.in_ok-goes.ensures.kept
+    attempt_made c.args.asked (inlined c.args.calls.functions.now c.args.calls.fuel c.args.asked c.args.frame.now)
+    c.args.case.now
+    c.args.work.now c.args.value c.args.env.now c.args.reach c.new.ensures c.new-2.ensures c.in_ok-fit.ensures
+    c.as_slice.ensures
+    c.in_ok-fits.ensures.written c.in_ok-fits.ensures.number c.in_ok-append.ensures c.in_ok-goes.ensures.made
+    c.in_ok-goes.ensures.kept
     c.in_ok-left.ensures.made
 
 pub cases::case_of-returns-in_ok-both-in-Some-clause-made : goal.cases::case_of-returns-in_ok-both-in-Some-clause-made
 cases::case_of-returns-in_ok-both-in-Some-clause-made t c =
-    case_made c.args.asked (inlined c.args.calls.functions.now c.args.calls.fuel c.args.asked c.args.frame.now) c.args.check c.args.value
-    c.args.work.now c.args.env.now c.args.reach c.args.cases.now c.in-Some.ensures.cases.0 c.in_ok-tried-in-Some.ensures.made
+    case_made c.args.asked (inlined c.args.calls.functions.now c.args.calls.fuel c.args.asked c.args.frame.now)
+    c.args.check c.args.value
+    c.args.work.now c.args.env.now c.args.reach c.args.cases.now c.in-Some.ensures.cases.0
+    c.in_ok-tried-in-Some.ensures.made
     c.in_ok-tried-in-Some.ensures.kept c.in_ok-right-in-Some.ensures.made c.in_ok-both-in-Some.ensures

@@ -54,7 +54,8 @@ invariant-exprs::values_of-loop-e l =
     × (l.env ≡ l.initial.env)
 
 abbrev pub decreases-cases::case_of : goal.decreases-cases::case_of
-decreases-cases::case_of l = l.calls.fuel * span l.calls.functions.now + (wide * most_case l.cases.now + (length l.cases.now + 5))
+decreases-cases::case_of l = l.calls.fuel * span l.calls.functions.now +
+    (wide * most_case l.cases.now + (length l.cases.now + 5))
 
 abbrev pub decreases-cases::attempt : goal.decreases-cases::attempt
 decreases-cases::attempt l = l.calls.fuel * span l.calls.functions.now + (wide * size-Case l.case.now + 4)

@@ -5,4 +5,5 @@ use Rattle.pp_eval.proofs.equality.is_subtree.Goals as goal
 
 pub returns : goal.returns
 returns c =
-    one_answer (IsBelow c.args.t.now c.args.u.now) c.is_below.result (below c.args.t.now c.args.u.now) c.is_below.ensures (trees.subtree c.args.t.now c.args.u.now)
+    one_answer (IsBelow c.args.t.now c.args.u.now) c.is_below.result (below c.args.t.now c.args.u.now)
+    c.is_below.ensures (trees.subtree c.args.t.now c.args.u.now)
