@@ -1,5 +1,6 @@
 -- Unknown arguments, and the steps behind them: what the registers tell.
-use Rattle.std.proofs.Common.{◌≡◌, ℕ, zero, suc, ◌+◌, ◌≤◌, ◌<◌, ◌^◌, List, [], ◌∷◌, ◌++◌, length, map, drop, Bool, Some, refl, sym, ap, ◌∙◌, subst, arith, length-append}
+use Rattle.std.proofs.Common.{◌≡◌, ℕ, zero, suc, ◌+◌, ◌≤◌, ◌<◌, ◌^◌, List, [], ◌∷◌, ◌++◌, length, map, drop, Bool, Some}
+use Rattle.std.proofs.Common.{refl, sym, ap, ◌∙◌, subst, arith, length-append}
 use Rattle.std.specs.Prelude.{slice_get, sum, IsTrue}
 use Rattle.std.proofs.Math.Seq.{drop-append_seam}
 use Rattle.std.proofs.lemmas.List.{length-map}
@@ -35,7 +36,8 @@ use Rattle.pp_build.specs.Registers.{AreRegisters, IsKnown}
 use Rattle.pp_build.specs.Unknown.{AreUnknown, AreUpTo, StandUpTo}
 use Rattle.pp_symbolic.specs.Evaluated.{AllKnown, CanEvaluate, IsEvaluated}
 use Rattle.pp_symbolic.specs.declared.frame.Frame.{Frame}
-use Rattle.pp_symbolic.proofs.Arguments.{as_many, height_of, known_from, opens_tell, registers_first, sort_at, sorts_from, symbol_of}
+use Rattle.pp_symbolic.proofs.Arguments.{as_many, height_of, known_from, opens_tell, registers_first, sort_at}
+use Rattle.pp_symbolic.proofs.Arguments.{sorts_from, symbol_of}
 
 zero_plus : (k : ℕ) → 0 + k ≡ k
 zero_plus k = omega arith
@@ -91,7 +93,8 @@ module _ {D T : Type 0} (m : Sense D T) (types : TypeTable) (d : D) (gs : List G
         registers : AreRegisters m c fs can.sorts can.heights args
         registers = record {
           of = λ k r at. subst (λ j. IsSymbol m c fs (can.sorts j) r) (zero_plus k)
-              (symbol_of m c fs 0 params args can.sorts unknown.symbols (sorts_from can.sorts 0 params can.arguments) k r at);
+              (symbol_of m c fs 0 params args can.sorts unknown.symbols (sorts_from can.sorts 0 params can.arguments) k
+              r at);
           high = λ k r at.
               let h = height_of m c fs depth params args unknown.heights k r at in h.2 ∙ sym (can.tall k h.0 h.1);
         }
@@ -162,7 +165,8 @@ module _ {D T : Type 0} (m : Sense D T) (types : TypeTable) (d : D) (gs : List G
                 record {
                   tell = subst (λ l. AllTell ρ K 0 l) (sym can.split) (opens_tell ρ K 0 params can.rest tell_rest);
                   arguments = known_from m types e a n can.sorts ρ rs 0 params args vs
-                      (registers_first args rs built.front) (sorts_from can.sorts 0 params can.arguments) stand have are;
+                      (registers_first args rs built.front) (sorts_from can.sorts 0 params can.arguments) stand have
+                      are;
                 }
 
             pub evaluated : Lawful m
@@ -177,7 +181,8 @@ module _ {D T : Type 0} (m : Sense D T) (types : TypeTable) (d : D) (gs : List G
                   let b = unknown.bounded n a (later.back n a good) in
                   record {
                     values = b.values;
-                    stand = SymbolsStand_later m types c e fs hs rest_gates n a a params args b.values later unknown.symbols
+                    stand = SymbolsStand_later m types c e fs hs rest_gates n a a params args b.values later
+                        unknown.symbols
                         (agree_self (length fs) a) b.stand;
                     are = b.are;
                   };
@@ -190,7 +195,8 @@ module _ {D T : Type 0} (m : Sense D T) (types : TypeTable) (d : D) (gs : List G
                       agree = agree_along (length gs) (length fs) a x.0.next y.next le x.0.agree y.agree;
                       good = y.good;
                     },
-                    SymbolsStand_later m types c e fs hs rest_gates n x.0.next y.next params args vs later unknown.symbols
+                    SymbolsStand_later m types c e fs hs rest_gates n x.0.next y.next params args vs later
+                        unknown.symbols
                         y.agree x.1,
                   );
               registers = rs;
@@ -204,7 +210,8 @@ module _ {D T : Type 0} (m : Sense D T) (types : TypeTable) (d : D) (gs : List G
           where
             later_at : Moves m types c fs e hs rest_gates
             later_at =
-                subst (λ zs. (k : ℕ) → CanBuild m types c fs steps zs k → Moves m types c fs e hs k) same moves rest_gates
+                subst (λ zs. (k : ℕ) → CanBuild m types c fs steps zs k → Moves m types c fs e hs k) same moves
+                rest_gates
                 can_build
 
             pub moves_after : Moves m types d gs e hs most

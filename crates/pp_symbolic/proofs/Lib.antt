@@ -3,4 +3,5 @@ mod Evaluated
 mod Owner
 mod Real
 mod Ready
+mod Simplified
 mod Whole

@@ -1,5 +1,6 @@
 -- The steps of a run can be performed in a circuit that has nothing yet.
-use Rattle.std.proofs.Common.{◌≡◌, ℕ, zero, suc, ◌+◌, ◌-◌, ◌≤◌, ◌<◌, ◌^◌, List, [], ◌∷◌, ◌++◌, length, map, Bool, true, Some, refl, sym, ap, ◌∙◌, subst, arith}
+use Rattle.std.proofs.Common.{◌≡◌, ℕ, zero, suc, ◌+◌, ◌-◌, ◌≤◌, ◌<◌, ◌^◌, List, [], ◌∷◌, ◌++◌, length, map, Bool, true}
+use Rattle.std.proofs.Common.{Some, refl, sym, ap, ◌∙◌, subst, arith}
 use Rattle.std.specs.Prelude.{slice_get, sum, IsTrue}
 use Rattle.std.specs.List.{list_all}
 use Rattle.std.proofs.lemmas.Bool.{and_parts}
@@ -30,7 +31,8 @@ use Rattle.pp_symbolic.specs.Evaluated.{CanEvaluate}
 holds_at : {X : Type 0} (test : X → Bool) (xs : List X) (k : ℕ) (x : X) → list_all test xs ≡ true
     → slice_get xs k ≡ Some x → test x ≡ true
 holds_at test [] k x h at = absurd (cc)
-holds_at test (y ∷ ys) zero x h at = subst (λ z. test z ≡ true) (same y x at) (and_parts (test y) (list_all test ys) h).0
+holds_at test (y ∷ ys) zero x h at = subst (λ z. test z ≡ true) (same y x at)
+    (and_parts (test y) (list_all test ys) h).0
   where
     same : {X : Type 0} (y x : X) → Some y ≡ Some x → y ≡ x
     same y x e = cc

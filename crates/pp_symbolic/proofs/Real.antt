@@ -1,5 +1,6 @@
 -- The frame of a run: what its symbols mean, by the laws of steps.
-use Rattle.std.proofs.Common.{◌≡◌, ◌↔◌, ℕ, zero, suc, ◌+◌, ◌-◌, ◌≤◌, ◌<◌, List, [], ◌∷◌, length, Bool, true, false, Some, refl, sym, ap, ◌∙◌, subst, arith}
+use Rattle.std.proofs.Common.{◌≡◌, ◌↔◌, ℕ, zero, suc, ◌+◌, ◌-◌, ◌≤◌, ◌<◌, List, [], ◌∷◌, length, Bool, true, false}
+use Rattle.std.proofs.Common.{Some, refl, sym, ap, ◌∙◌, subst, arith}
 use Rattle.std.specs.Prelude.{slice_get}
 use Rattle.std.proofs.lemmas.Option.{slice_get_within}
 use Rattle.pp_prog.specs.declared.check.Check.{Check}
@@ -25,20 +26,23 @@ use Rattle.pp_domain.specs.Laws.{Lawful}
 use Rattle.pp_domain.specs.Naming.{Naming}
 use Rattle.pp_domain.specs.Sense.{Sense, Good}
 use Rattle.pp_domain.specs.Symbols.{SymbolStands}
+use Rattle.pp_steps.specs.declared.step.Step.{Step}
 use Rattle.pp_steps.specs.Frames.{run_steps}
-use Rattle.pp_steps.specs.Meaning.{Missing, Values, bit}
+use Rattle.pp_steps.specs.Meaning.{Missing, Obeys, Values, bit}
 use Rattle.pp_steps.specs.Sorted.{Sorts}
 use Rattle.pp_steps_run.specs.Laws.{TellRuns}
 use Rattle.pp_steps_run.proofs.Pieces.{bit_truth}
 use Rattle.pp_steps_exist.specs.Laws.{RunsExist}
 use Rattle.pp_steps_known.proofs.Laws.{runs_are_known}
+use Rattle.pp_simplify_laws.proofs.Following.{Follows}
 use Rattle.pp_build.specs.Registers.{IsKnown}
 use Rattle.pp_symbolic.specs.declared.frame.Frame.{Frame}
 use Rattle.pp_symbolic.specs.Evaluated.{IsEvaluated}
 use Rattle.pp_symbolic.specs.Frame.{AreStoodFor, IsFrame, IsFrameOf, IsSupposed, TellsRun}
+use Rattle.pp_symbolic.proofs.Simplified.{known_first, values_first}
 
 -- any value will do where a value has another constructor
-no_field : Missing
+pub no_field : Missing
 no_field c k = Truth false
 
 some_same : {X : Type 0} (x y : X) → Some x ≡ Some y → x ≡ y
@@ -72,25 +76,31 @@ module _ {D T : Type 0} (m : Sense D T) (p : Program) (d : D) (gs : List Gate) (
 
 -- ---- the frame of one function
 
+zero_less : (i n : ℕ) → i < 0 + n → i < n
+zero_less i n h = omega arith
+
+-- the steps follow those of the run
+abbrev pub FollowRun : (p : Program) (c : CheckId) (round : ℕ) (f : Function) (new : List Step) (next : ℕ) → Type 1
+FollowRun p c round f new next =
+    (ρ : Values) → Obeys p.types.ctors no_field ρ 0 (run_steps p.functions f c round).steps
+    → Follows p.types.ctors no_field (length (param_sorts f.params)) (run_steps p.functions f c round).fails next
+    (run_steps p.functions f c round).steps new ρ
+
 module _ {D T : Type 0} (m : Sense D T) (p : Program) (c : CheckId) (round depth : ℕ) (d : D) (gs : List Gate)
     (e : D) (hs : List Gate) (frame : Frame T) (law : Lawful m) (fresh : Fresh m p.types d gs) (one : length gs ≡ 1)
     (told : TellRuns) (exist : RunsExist) (i : ℕ) (f : Function) (here : slice_get p.functions i ≡ Some f)
-    (σ : Sorts)
-    (ev : IsEvaluated m p.types d gs (param_sorts f.params) depth (run_steps p.functions f c round).steps
-    (run_steps p.functions f c round).fails σ e hs frame)
+    (new : List Step) (next : ℕ) (follow : FollowRun p c round f new next) (σ : Sorts)
+    (ev : IsEvaluated m p.types d gs (param_sorts f.params) depth new next σ e hs frame)
   where
-    abbrev asked : ℕ
-    asked = (run_steps p.functions f c round).fails
-
     module _ (n : Naming) (a : ℕ → Bool) (good : Good m p.types e hs n a) where
-      -- the literal has the value that the step which is asked for has in values that obey the run's steps
-      literal_tells : (ρ : Values) → IsKnown m p.types e a n σ ρ ev.registers asked
-          → bit (ρ asked) ≡ lit_value a frame.fails
+      -- the literal has the value that the step which is asked for has in values that obey the steps
+      literal_tells : (ρ : Values) → IsKnown m p.types e a n σ ρ ev.registers next
+          → bit (ρ next) ≡ lit_value a frame.fails
       literal_tells ρ known =
           let same : known.register ≡ symbol.Bit frame.fails =
           some_same known.register (symbol.Bit frame.fails) (sym known.at ∙ ev.fails) in
-          let stands : ρ asked ≡ Truth (lit_value a frame.fails) =
-          subst (λ r. SymbolStands m e a n r (ρ asked)) same known.stands in
+          let stands : ρ next ≡ Truth (lit_value a frame.fails) =
+          subst (λ r. SymbolStands m e a n r (ρ next)) same known.stands in
           ap bit stands ∙ bit_truth (lit_value a frame.fails)
 
       tells_run : TellsRun m p c round depth e hs frame i f n a
@@ -99,12 +109,17 @@ module _ {D T : Type 0} (m : Sense D T) (p : Program) (c : CheckId) (round depth
           let args = stands.values in
           let called : IsCalled p i f args = record { function = here; arguments = stands.are.sorted } in
           let made = exist p i f args called c round no_field in
-          let known = ev.known n a made.0 no_field args good made.1.steps stands.stand stands.are.sorted
-          made.1.arguments in
-          let asked_known : IsKnown m p.types e a n σ made.0 ev.registers asked =
-          runs_are_known (IsKnown m p.types e a n σ made.0 ev.registers) p.functions f c round p.types.ctors no_field
-          made.0 made.1.steps known.tell known.arguments in
-          let same = literal_tells made.0 asked_known in
+          let after = follow made.0 made.1.steps in
+          let K : ℕ → Type 0 = IsKnown m p.types e a n σ after.values ev.registers in
+          let known = ev.known n a after.values no_field args good after.obeys stands.stand stands.are.sorted
+          (values_first made.0 after.values 0 (param_sorts f.params) args
+          (λ j lt. after.front j (zero_less j (length (param_sorts f.params)) lt)) made.1.arguments) in
+          let learned = after.learns K known.tell in
+          let next_known : K next = learned.target (runs_are_known learned.known p.functions f c round p.types.ctors
+          no_field made.0 made.1.steps learned.tells
+          (known_first K learned.known 0 (param_sorts f.params)
+          (λ j lt. learned.front j (zero_less j (length (param_sorts f.params)) lt)) known.arguments)) in
+          let same = ap bit (sym after.target) ∙ literal_tells after.values next_known in
           let both = told p i f args called c round no_field made.0 made.1 in
           record {
             args = args;

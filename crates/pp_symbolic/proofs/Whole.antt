@@ -1,5 +1,6 @@
 -- The evaluation as a whole: from the steps that were written to the frame's meaning.
-use Rattle.std.proofs.Common.{◌≡◌, ℕ, ◌+◌, ◌-◌, ◌≤◌, ◌<◌, ◌^◌, List, length, Result, Ok, Err, IfOk, OnOk, sym, subst, arith}
+use Rattle.std.proofs.Common.{◌≡◌, ℕ, ◌+◌, ◌-◌, ◌≤◌, ◌<◌, ◌^◌, List, [], length, Result, Ok, Err, IfOk, OnOk, sym}
+use Rattle.std.proofs.Common.{subst, arith}
 use Rattle.pp_prog.specs.declared.expr.Function.{Function}
 use Rattle.pp_prog.specs.declared.id.CheckId.{CheckId}
 use Rattle.pp_prog.specs.declared.program.Program.{Program}
@@ -26,7 +27,11 @@ use Rattle.pp_symbolic.specs.declared.frame.Frame.{Frame}
 use Rattle.pp_symbolic.specs.Evaluated.{CanEvaluate, IsEvaluated}
 use Rattle.pp_symbolic.specs.Frame.{IsFrame, IsOwner}
 use Rattle.pp_symbolic.proofs.Ready.{can_evaluate, some_gates}
-use Rattle.pp_symbolic.proofs.Real.{is_frame}
+use Rattle.pp_simplify.specs.Folded.{folded_rest}
+use Rattle.pp_simplify.specs.Pruned.{IsPruned}
+use Rattle.pp_simplify_laws.proofs.Following.{follows_folded, follows_more, follows_pruned}
+use Rattle.pp_symbolic.proofs.Simplified.{arguments_stand, can_folded, can_pruned}
+use Rattle.pp_symbolic.proofs.Real.{FollowRun, is_frame, no_field}
 
 -- the laws of steps that the evaluation rests on
 pub record StepLaws : Type 0 where
@@ -63,32 +68,60 @@ module _ {D T : Type 0} (m : Sense D T) (law : Lawful m) (laws : StepLaws) (p : 
     can_run = subst (λ k. Can r.steps k (most - 1)) (sym is.fails)
         (subst (λ ss. Can ss (run_steps p.functions f c round).fails (most - 1)) (sym is.steps) can_steps)
 
+    pub few_arguments : length (param_sorts f.params) ≤ length r.steps
+    few_arguments = arguments_stand p.types gs (param_sorts f.params) depth r.steps r.fails (most - 1) can_run
+
     some_most : 1 ≤ most
     some_most = some_gates p f c round plan is_plan own.number own.here own.owner depth some small
         (subst (λ (ss : List Step). length ss < 2 ^ 32) is.steps few) laws.sorted laws.fit laws.read laws.ask
 
-    module _ (e : D) (hs : List Gate) where
-      pub moves_run : ((k : ℕ) → Can r.steps r.fails k → Moves m p.types d gs e hs k)
-          → Moves m p.types d gs e hs most
-      moves_run moves = Moves_weaker m p.types d e gs hs (most - 1) most (moves (most - 1) can_run) (less_all most)
+    -- where the steps were folded and pruned
+    module _ (new : List Step) (pruned : IsPruned (length (param_sorts f.params)) r.fails (folded_rest [] r.steps) new)
+      where
+        pub can_new : Can new r.fails (most - 1)
+        can_new = can_pruned p.types gs (param_sorts f.params) depth (folded_rest [] r.steps) r.fails (most - 1)
+            (can_folded p.types gs (param_sorts f.params) depth r.steps r.fails (most - 1) can_run) new pruned
 
-      pub size_run : ((k : ℕ) → Can r.steps r.fails k → Moves m p.types d gs e hs k) → length hs ≤ most
-      size_run moves =
-          let grown = (length-Grows gs hs (most - 1) (moves (most - 1) can_run).grows).1 in
-          size_after (length gs) (length hs) most one some_most grown
+        abbrev steps_of_run : List Step
+        steps_of_run = (run_steps p.functions f c round).steps
 
-      pub frame_run : (frame : Frame T)
-          → ((k : ℕ) → (can : Can r.steps r.fails k)
-          → IsEvaluated m p.types d gs (param_sorts f.params) depth r.steps r.fails can.sorts e hs frame)
-          → IsFrame m p c round depth e hs frame
-      frame_run frame evaluates =
-          let at_steps = subst (λ ss. (k : ℕ) → (can : Can ss r.fails k)
-          → IsEvaluated m p.types d gs (param_sorts f.params) depth ss r.fails can.sorts e hs frame) is.steps evaluates in
-          let at_asked = subst (λ j. (k : ℕ) → (can : Can (run_steps p.functions f c round).steps j k)
-          → IsEvaluated m p.types d gs (param_sorts f.params) depth (run_steps p.functions f c round).steps j can.sorts
-          e hs frame) is.fails at_steps in
-          is_frame m p c round depth d gs e hs frame law fresh one laws.tell laws.exist own.number f own.here
-          can_steps.sorts (at_asked (most - 1) can_steps) own.owner
+        abbrev asked : ℕ
+        asked = (run_steps p.functions f c round).fails
+
+        pruned_run : IsPruned (length (param_sorts f.params)) asked (folded_rest [] steps_of_run) new
+        pruned_run =
+            subst (λ ss. IsPruned (length (param_sorts f.params)) asked (folded_rest [] ss) new) is.steps
+            (subst (λ j. IsPruned (length (param_sorts f.params)) j (folded_rest [] r.steps) new) is.fails pruned)
+
+        follow : FollowRun p c round f new asked
+        follow ρ obeys =
+            let many = length (param_sorts f.params) in
+            let folds = follows_folded p.types.ctors no_field many asked steps_of_run ρ obeys in
+            follows_more p.types.ctors no_field many asked asked asked steps_of_run (folded_rest [] steps_of_run) new ρ
+            folds
+            (follows_pruned p.types.ctors no_field many asked (folded_rest [] steps_of_run) new folds.values pruned_run
+            folds.obeys)
+
+        module _ (e : D) (hs : List Gate) where
+          pub moves_run : ((k : ℕ) → Can new r.fails k → Moves m p.types d gs e hs k)
+              → Moves m p.types d gs e hs most
+          moves_run moves = Moves_weaker m p.types d e gs hs (most - 1) most (moves (most - 1) can_new) (less_all most)
+
+          pub size_run : ((k : ℕ) → Can new r.fails k → Moves m p.types d gs e hs k) → length hs ≤ most
+          size_run moves =
+              let grown = (length-Grows gs hs (most - 1) (moves (most - 1) can_new).grows).1 in
+              size_after (length gs) (length hs) most one some_most grown
+
+          pub frame_run : (frame : Frame T)
+              → ((k : ℕ) → (can : Can new r.fails k)
+              → IsEvaluated m p.types d gs (param_sorts f.params) depth new r.fails can.sorts e hs frame)
+              → IsFrame m p c round depth e hs frame
+          frame_run frame evaluates =
+              let σ = can_new.sorts in
+              let at_asked = subst (λ j. IsEvaluated m p.types d gs (param_sorts f.params) depth new j σ e hs frame) is.fails
+              (evaluates (most - 1) can_new) in
+              is_frame m p c round depth d gs e hs frame law fresh one laws.tell laws.exist own.number f own.here new
+              asked follow σ at_asked own.owner
 
 -- ---- facts of results
 

@@ -1,6 +1,7 @@
 -- When the steps of a run can be performed over a domain, and what is left of them: the symbols of the arguments, and the
 -- literal of the step that is asked for. Source: own.
-use Rattle.std.specs.Prelude.{◌≡◌, ◌≤◌, ◌<◌, ◌^◌, ℕ, ◌+◌, Bool, List, ◌++◌, Some, All, IsTrue, length, map, slice_get, sum}
+use Rattle.std.specs.Prelude.{◌≡◌, ◌≤◌, ◌<◌, ◌^◌, ℕ, ◌+◌, Bool, List, ◌++◌, Some, All, IsTrue, length, map, slice_get}
+use Rattle.std.specs.Prelude.{sum}
 use Rattle.std.specs.List.{list_all}
 use Rattle.pp_prog.specs.declared.sort.Sort.{Sort}
 use Rattle.pp_prog.specs.declared.sort.Sort.TheVariants as sort

@@ -16,6 +16,7 @@ use pp_compile::compile_run;
 use pp_domain::Domain;
 use pp_gate::Circuit;
 use pp_prog::{CheckId, Function, Program};
+use pp_simplify::simplify;
 use pp_steps_exist::{runs_ask, runs_exist, runs_read};
 use pp_steps_gates::runs_fit_estimates;
 use pp_steps_run::tell_runs;
@@ -24,7 +25,7 @@ use std::alloc::Global;
 
 /// The circuit of a round of a check, over a fresh domain and a circuit without inputs and gates: the run of the check's
 /// function with the round as its fuel, on arguments up to the depth. What the circuit gets, its constant included, is at
-/// most the estimate of the round. Until guess runs come the mode is `Real`, and the domain is exact. After want of memory,
+/// most the estimate of the round: what is known before the run, and what the literal doesn't stand on, isn't built. Until guess runs come the mode is `Real`, and the domain is exact. After want of memory,
 /// the only error, the old gates stand and some new ones may be left; more than 2^32 - 1 steps are want of memory too.
 pub fn symbolic<D: Domain>(
     alloc: Global,
@@ -59,10 +60,11 @@ pub fn symbolic<D: Domain>(
     runs_are_sorted();
     runs_fit_estimates();
     let f = owner(program, check);
-    let run = compile_run(alloc, program.functions.as_slice(), f, check, round)?;
+    let mut run = compile_run(alloc, program.functions.as_slice(), f, check, round)?;
     if run.steps.len() > u32::MAX as usize {
         return Err(NoMemory);
     }
+    simplify(alloc, &mut run.steps, f.params.len(), run.fails)?;
     evaluate(
         alloc,
         domain,

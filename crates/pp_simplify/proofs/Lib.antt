@@ -1,0 +1,4 @@
+mod Cones
+pub mod Turns
+mod Marking
+mod Replacing

@@ -1,0 +1,4 @@
+pub mod Operands
+pub mod Folded
+pub mod Marks
+pub mod Pruned

@@ -1,0 +1,5 @@
+use Rattle.pp_simplify_laws.proofs.FoldLaws as laws
+use Rattle.pp_simplify_laws.proofs.folded_sorted.Goals as goal
+
+pub returns : goal.returns
+returns c = laws.folded_sorted
