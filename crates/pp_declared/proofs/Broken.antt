@@ -1,13 +1,17 @@
 -- A fault that is computed stands there.
-use Rattle.std.proofs.Common.{◌≡◌, ◌∙◌, ◌⊎◌, inl, inr, ℕ, ◌<◌, Bool, true, false, ◌&&◌, not, List, [], ◌∷◌, ◌++◌, Contains, Option, Some, None, Ok, Err, refl, sym, ap, subst, true≢false, append_assoc, nat_le, length, slice_get, if◌then◌else◌}
+use Rattle.std.proofs.Common.{◌≡◌, ◌∙◌, ◌⊎◌, inl, inr, ℕ, ◌<◌, Bool, true, false, ◌&&◌, not, List, [], ◌∷◌, ◌++◌}
+use Rattle.std.proofs.Common.{Contains, Option, Some, None, Ok, Err, refl, sym, ap, subst, true≢false, append_assoc}
+use Rattle.std.proofs.Common.{nat_le, length, slice_get, if◌then◌else◌}
 use Rattle.std.proofs.lemmas.Bool.{leb-false}
 use Rattle.std.proofs.lemmas.List.{map_push}
-use Rattle.pp_declared.specs.Declare.{imports_checked, all_checked, classes_new_after, defs_new_after, parent_word, parent_place, is_open_to, extends_whole, owner_at, owner_found, owner_of}
+use Rattle.pp_declared.specs.Declare.{imports_checked, all_checked, classes_new_after, defs_new_after, parent_word}
+use Rattle.pp_declared.specs.Declare.{parent_place, is_open_to, extends_whole, owner_at, owner_found, owner_of}
 use Rattle.pp_declared.specs.Declares.{class_names, def_names}
 use Rattle.pp_declared.specs.Fault as broken
 use Rattle.pp_declared.specs.Fault.{HeadBreaks, DeclBreaks, OwnerBreaks, DeclaresBreak}
 use Rattle.pp_declared.specs.Listed.{DeclIn, ClassIn, DefIn, ImportIn}
-use Rattle.pp_declared.specs.WellFormed.{AreNew, are_new_after, checked, head_checked, is_taken, most_params, most_type_params, params_checked, params_new_after, param_names}
+use Rattle.pp_declared.specs.WellFormed.{AreNew, are_new_after, checked, head_checked, is_taken, most_params}
+use Rattle.pp_declared.specs.WellFormed.{most_type_params, params_checked, params_new_after, param_names}
 use Rattle.pp_declared.proofs.Complete.{are_new}
 use Rattle.pp_declared.proofs.Steps.{step_breaks, held_breaks, failed_breaks, fault_is, has_first, has_later}
 use Rattle.pp_fault.specs.Part.{fault}

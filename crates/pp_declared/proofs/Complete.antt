@@ -1,11 +1,20 @@
 -- What units declare is what is computed.
-use Rattle.std.proofs.Common.{◌≡◌, ◌∙◌, ℕ, ◌<◌, true, false, ◌&&◌, not, List, [], ◌∷◌, ◌++◌, All, Option, Some, None, Ok, refl, sym, ap, subst, map, append_assoc, count_by, eq-eqb, nat_eq, length, if◌then◌else◌}
+use Rattle.std.proofs.Common.{◌≡◌, ◌∙◌, ℕ, ◌<◌, true, false, ◌&&◌, not, List, [], ◌∷◌, ◌++◌, All, Option, Some, None}
+use Rattle.std.proofs.Common.{Ok, refl, sym, ap, subst, map, append_assoc, count_by, eq-eqb, nat_eq, length}
+use Rattle.std.proofs.Common.{if◌then◌else◌}
 use Rattle.std.proofs.lemmas.Bool.{le-leb, lt-ltb}
 use Rattle.std.proofs.lemmas.List.{append-nil}
-use Rattle.pp_declared.specs.Declare.{imports_checked, all_checked, classes_new_after, defs_new_after, parent_word, parent_place, is_open_to, extends_whole, owner_at, owner_found, owner_of, typed_ctor, ctor_of_root, ctor_after, next_ctor, ctors_after, typed_signature, signature, signatures_after, with_sorts, with_names, of_decls, declare}
-use Rattle.pp_declared.specs.Declares.{Declares, IsOwner, itself, extended, IsCtor, AreCtors, no_ctors, more_ctors, IsSignature, AreSignatures, no_signatures, more_signatures, are_params, class_names, def_names, field_names, typed_root}
-use Rattle.pp_declared.specs.Listed.{DeclIn, ClassIn, DefIn, ImportIn, decls_in, imports_in, objects_in, roots_of, ctors_of, defs_of}
-use Rattle.pp_declared.specs.WellFormed.{AreNewAfter, IsHead, IsWellFormed, are_new_after, checked, head_checked, most_ctors, params_checked, params_new_after, param_names}
+use Rattle.pp_declared.specs.Declare.{imports_checked, all_checked, classes_new_after, defs_new_after, parent_word}
+use Rattle.pp_declared.specs.Declare.{parent_place, is_open_to, extends_whole, owner_at, owner_found, owner_of}
+use Rattle.pp_declared.specs.Declare.{typed_ctor, ctor_of_root, ctor_after, next_ctor, ctors_after, typed_signature}
+use Rattle.pp_declared.specs.Declare.{signature, signatures_after, with_sorts, with_names, of_decls, declare}
+use Rattle.pp_declared.specs.Declares.{Declares, IsOwner, itself, extended, IsCtor, AreCtors, no_ctors, more_ctors}
+use Rattle.pp_declared.specs.Declares.{IsSignature, AreSignatures, no_signatures, more_signatures, are_params}
+use Rattle.pp_declared.specs.Declares.{class_names, def_names, field_names, typed_root}
+use Rattle.pp_declared.specs.Listed.{DeclIn, ClassIn, DefIn, ImportIn, decls_in, imports_in, objects_in, roots_of}
+use Rattle.pp_declared.specs.Listed.{ctors_of, defs_of}
+use Rattle.pp_declared.specs.WellFormed.{AreNewAfter, IsHead, IsWellFormed, are_new_after, checked, head_checked}
+use Rattle.pp_declared.specs.WellFormed.{most_ctors, params_checked, params_new_after, param_names}
 use Rattle.pp_declared.proofs.Steps.{all_first, all_rest}
 use Rattle.pp_fault.specs.Part.{Part, and_then, fault}
 use Rattle.pp_fault.specs.declared.Rule.TheVariants.{Unknown, Duplicate, Arity, OverLimit}

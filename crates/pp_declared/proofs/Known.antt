@@ -1,12 +1,15 @@
 -- What is known of declarations that were computed.
-use Rattle.std.proofs.Common.{◌≡◌, ◌∙◌, ℕ, ◌<◌, ◌^◌, Bool, true, false, List, [], ◌∷◌, All, Ok, Some, refl, sym, ap, subst, map, length, arith}
+use Rattle.std.proofs.Common.{◌≡◌, ◌∙◌, ℕ, ◌<◌, ◌^◌, Bool, true, false, List, [], ◌∷◌, All, Ok, Some, refl, sym, ap}
+use Rattle.std.proofs.Common.{subst, map, length, arith}
 use Rattle.std.proofs.lemmas.List.{length-map}
 use Rattle.std.proofs.lemmas.List.Elements.{All-nil, All-cons, All-append}
 use Rattle.std.proofs.lemmas.List.Quantifiers.{position-Some}
 use Rattle.std.specs.Str.{bytes_eq}
 use Rattle.pp_declared.specs.Declare.{all_checked, ctors_after, signatures_after, with_sorts}
-use Rattle.pp_declared.specs.Declares.{IsOwner, itself, extended, AreCtors, no_ctors, more_ctors, AreSignatures, no_signatures, more_signatures, class_names, def_names, field_names, typed_root}
-use Rattle.pp_declared.specs.Listed.{DeclIn, ClassIn, DefIn, ctor_of, ctors_of, def_of, defs_of, is_missing, root_of, roots_of, unparented}
+use Rattle.pp_declared.specs.Declares.{IsOwner, itself, extended, AreCtors, no_ctors, more_ctors, AreSignatures}
+use Rattle.pp_declared.specs.Declares.{no_signatures, more_signatures, class_names, def_names, field_names, typed_root}
+use Rattle.pp_declared.specs.Listed.{DeclIn, ClassIn, DefIn, ctor_of, ctors_of, def_of, defs_of, is_missing, root_of}
+use Rattle.pp_declared.specs.Listed.{roots_of, unparented}
 use Rattle.pp_declared.specs.Shown.{AreFew, AreFewOfDefs}
 use Rattle.pp_declared.specs.WellFormed.{IsWellFormed, checked}
 use Rattle.pp_declared.proofs.Owned.{names_of_roots}

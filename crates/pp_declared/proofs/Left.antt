@@ -1,5 +1,6 @@
 -- What is left to look at, once some names are declared.
-use Rattle.std.proofs.Common.{◌≡◌, ◌∙◌, ℕ, ◌+◌, ◌<◌, Bool, true, false, not, List, [], ◌∷◌, ◌++◌, Ok, length, drop, drop-cons, get_or, refl, sym, ap, add-one, append_assoc, length-append, if◌then◌else◌}
+use Rattle.std.proofs.Common.{◌≡◌, ◌∙◌, ℕ, ◌+◌, ◌<◌, Bool, true, false, not, List, [], ◌∷◌, ◌++◌, Ok, length, drop}
+use Rattle.std.proofs.Common.{drop-cons, get_or, refl, sym, ap, add-one, append_assoc, length-append, if◌then◌else◌}
 use Rattle.pp_declared.specs.Declare.{classes_new_after, new_class_names, defs_new_after, new_def_names}
 use Rattle.pp_declared.specs.Declares.{class_names, def_names}
 use Rattle.pp_declared.specs.Listed.{ClassIn, DefIn}

@@ -1,12 +1,21 @@
 -- What is computed is what units declare.
-use Rattle.std.proofs.Common.{◌≡◌, ◌∙◌, ℕ, ◌<◌, Bool, true, false, ◌&&◌, not, List, [], ◌∷◌, ◌++◌, All, Option, Some, None, Ok, refl, subst, true≢false, sym, map, append_assoc, count_by, nat_eq, nat_lt, length, slice_get, if◌then◌else◌}
+use Rattle.std.proofs.Common.{◌≡◌, ◌∙◌, ℕ, ◌<◌, Bool, true, false, ◌&&◌, not, List, [], ◌∷◌, ◌++◌, All, Option, Some}
+use Rattle.std.proofs.Common.{None, Ok, refl, subst, true≢false, sym, map, append_assoc, count_by, nat_eq, nat_lt}
+use Rattle.std.proofs.Common.{length, slice_get, if◌then◌else◌}
 use Rattle.std.proofs.lemmas.Bool.{eqb-true, leb-true, ltb-true}
 use Rattle.std.proofs.lemmas.List.{append-nil}
 use Rattle.std.proofs.lemmas.List.Elements.{All-nil, All-cons}
-use Rattle.pp_declared.specs.Declare.{imports_checked, all_checked, classes_new_after, defs_new_after, parent_word, is_open_to, extends_whole, owner_at, owner_found, owner_of, typed_ctor, ctor_of_root, ctor_after, next_ctor, ctors_after, typed_signature, signature, signatures_after, with_sorts, with_names, of_decls, declare}
-use Rattle.pp_declared.specs.Declares.{Declares, IsOwner, itself, extended, IsCtor, AreCtors, no_ctors, more_ctors, IsSignature, AreSignatures, no_signatures, more_signatures, are_params, class_names, def_names, field_names, param_types, typed_root}
-use Rattle.pp_declared.specs.Listed.{DeclIn, ClassIn, DefIn, ImportIn, decls_in, imports_in, objects_in, roots_of, ctors_of, defs_of}
-use Rattle.pp_declared.specs.WellFormed.{AreNewAfter, IsHead, IsWellFormed, are_new_after, checked, head_checked, is_taken, most_ctors, params_new_after, param_names}
+use Rattle.pp_declared.specs.Declare.{imports_checked, all_checked, classes_new_after, defs_new_after, parent_word}
+use Rattle.pp_declared.specs.Declare.{is_open_to, extends_whole, owner_at, owner_found, owner_of, typed_ctor}
+use Rattle.pp_declared.specs.Declare.{ctor_of_root, ctor_after, next_ctor, ctors_after, typed_signature, signature}
+use Rattle.pp_declared.specs.Declare.{signatures_after, with_sorts, with_names, of_decls, declare}
+use Rattle.pp_declared.specs.Declares.{Declares, IsOwner, itself, extended, IsCtor, AreCtors, no_ctors, more_ctors}
+use Rattle.pp_declared.specs.Declares.{IsSignature, AreSignatures, no_signatures, more_signatures, are_params}
+use Rattle.pp_declared.specs.Declares.{class_names, def_names, field_names, param_types, typed_root}
+use Rattle.pp_declared.specs.Listed.{DeclIn, ClassIn, DefIn, ImportIn, decls_in, imports_in, objects_in, roots_of}
+use Rattle.pp_declared.specs.Listed.{ctors_of, defs_of}
+use Rattle.pp_declared.specs.WellFormed.{AreNewAfter, IsHead, IsWellFormed, are_new_after, checked, head_checked}
+use Rattle.pp_declared.specs.WellFormed.{is_taken, most_ctors, params_new_after, param_names}
 use Rattle.pp_declared.proofs.Steps.{two_steps, held, failed}
 use Rattle.pp_fault.specs.Part.{Part, and_then, fault}
 use Rattle.pp_fault.specs.declared.Rule.TheVariants.{Unknown, Arity}

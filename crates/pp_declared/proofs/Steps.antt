@@ -1,5 +1,6 @@
 -- What a part that has an answer says of its steps.
-use Rattle.std.proofs.Common.{◌≡◌, ◌∙◌, ◌⊎◌, inl, inr, sym, ap, Contains, Bool, true, false, List, [], ◌∷◌, All, Ok, Err, refl, arith, suc, if◌then◌else◌}
+use Rattle.std.proofs.Common.{◌≡◌, ◌∙◌, ◌⊎◌, inl, inr, sym, ap, Contains, Bool, true, false, List, [], ◌∷◌, All, Ok}
+use Rattle.std.proofs.Common.{Err, refl, arith, suc, if◌then◌else◌}
 use Rattle.std.proofs.lemmas.List.Elements.{Contains-get_or, Contains-append_right}
 use Rattle.pp_fault.specs.Part.{Part, and_then}
 use Rattle.pp_fault.specs.declared.Fault.{Fault}

@@ -1,15 +1,20 @@
 -- A fault of whole units stands there.
-use Rattle.std.proofs.Common.{◌≡◌, ◌∙◌, ◌⊎◌, inl, inr, ℕ, ◌<◌, ◌≤◌, true, false, List, [], ◌∷◌, ◌++◌, Contains, Ok, Err, refl, sym, subst, map, append_assoc, count_by, nat_eq, nat_lt}
+use Rattle.std.proofs.Common.{◌≡◌, ◌∙◌, ◌⊎◌, inl, inr, ℕ, ◌<◌, ◌≤◌, true, false, List, [], ◌∷◌, ◌++◌, Contains, Ok, Err}
+use Rattle.std.proofs.Common.{refl, sym, subst, map, append_assoc, count_by, nat_eq, nat_lt}
 use Rattle.std.proofs.lemmas.Bool.{ltb-false}
 use Rattle.std.proofs.lemmas.List.{append-nil}
 use Rattle.std.proofs.lemmas.List.Elements.{Contains-append_right}
-use Rattle.pp_declared.specs.Declare.{imports_checked, all_checked, classes_new_after, defs_new_after, owner_of, typed_ctor, ctor_of_root, ctor_after, next_ctor, ctors_after, typed_signature, signature, signatures_after, with_sorts, with_names, of_decls, declare}
-use Rattle.pp_declared.specs.Declares.{IsOwner, IsCtor, AreCtors, no_ctors, more_ctors, field_names, param_types, typed_root}
+use Rattle.pp_declared.specs.Declare.{imports_checked, all_checked, classes_new_after, defs_new_after, owner_of}
+use Rattle.pp_declared.specs.Declare.{typed_ctor, ctor_of_root, ctor_after, next_ctor, ctors_after, typed_signature}
+use Rattle.pp_declared.specs.Declare.{signature, signatures_after, with_sorts, with_names, of_decls, declare}
+use Rattle.pp_declared.specs.Declares.{IsOwner, IsCtor, AreCtors, no_ctors, more_ctors, field_names, param_types}
+use Rattle.pp_declared.specs.Declares.{typed_root}
 use Rattle.pp_declared.specs.Fault as broken
 use Rattle.pp_declared.specs.Fault.{DeclaresBreak}
 use Rattle.pp_declared.specs.Listed.{ClassIn, DefIn, decls_in, imports_in, objects_in, roots_of, ctors_of, defs_of}
 use Rattle.pp_declared.specs.WellFormed.{most_ctors}
-use Rattle.pp_declared.proofs.Broken.{fault_at, decls_fail, imports_fail, classes_fail, defs_fail, OwnerFails, owner_fails}
+use Rattle.pp_declared.proofs.Broken.{fault_at, decls_fail, imports_fail, classes_fail, defs_fail, OwnerFails}
+use Rattle.pp_declared.proofs.Broken.{owner_fails}
 use Rattle.pp_declared.proofs.Sound.{owner_sound, ctor_sound}
 use Rattle.pp_declared.proofs.Steps.{step_breaks, held_breaks, has_first, has_later}
 use Rattle.pp_fault.specs.Part.{and_then}

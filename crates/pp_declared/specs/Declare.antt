@@ -1,7 +1,9 @@
 -- What units declare, or a fault in it. Source: own.
-use Rattle.std.specs.Prelude.{ℕ, nat_eq, nat_lt, Bool, false, ◌&&◌, not, if◌then◌else◌, List, [], ◌∷◌, ◌++◌, Option, Some, None, Ok, length, map, count_by, slice_get}
+use Rattle.std.specs.Prelude.{ℕ, nat_eq, nat_lt, Bool, false, ◌&&◌, not, if◌then◌else◌, List, [], ◌∷◌, ◌++◌, Option}
+use Rattle.std.specs.Prelude.{Some, None, Ok, length, map, count_by, slice_get}
 use Rattle.pp_declared.specs.Declares.{are_params, class_names, def_names, field_names, param_types, typed_root}
-use Rattle.pp_declared.specs.Listed.{DeclIn, ClassIn, DefIn, ImportIn, decls_in, imports_in, objects_in, roots_of, ctors_of, defs_of}
+use Rattle.pp_declared.specs.Listed.{DeclIn, ClassIn, DefIn, ImportIn, decls_in, imports_in, objects_in, roots_of}
+use Rattle.pp_declared.specs.Listed.{ctors_of, defs_of}
 use Rattle.pp_declared.specs.WellFormed.{is_taken, checked, most_ctors}
 use Rattle.pp_fault.specs.Part.{Part, and_then, fault}
 use Rattle.pp_fault.specs.declared.Rule.TheVariants.{Unknown, Duplicate, Arity, OverLimit}

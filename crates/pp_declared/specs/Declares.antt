@@ -1,8 +1,10 @@
 -- Which roots, constructors and functions units declare. Source: own; the rules are those of the language's
 -- declarations.
-use Rattle.std.specs.Prelude.{◌≡◌, ℕ, ◌<◌, Bool, true, false, ◌&&◌, List, [], ◌∷◌, ◌++◌, Some, None, length, map, count_by, nat_eq, slice_get, All}
+use Rattle.std.specs.Prelude.{◌≡◌, ℕ, ◌<◌, Bool, true, false, ◌&&◌, List, [], ◌∷◌, ◌++◌, Some, None, length, map}
+use Rattle.std.specs.Prelude.{count_by, nat_eq, slice_get, All}
 use Rattle.std.specs.Str.{bytes_eq}
-use Rattle.pp_declared.specs.Listed.{DeclIn, ClassIn, DefIn, ImportIn, decls_in, imports_in, objects_in, roots_of, ctors_of, defs_of}
+use Rattle.pp_declared.specs.Listed.{DeclIn, ClassIn, DefIn, ImportIn, decls_in, imports_in, objects_in, roots_of}
+use Rattle.pp_declared.specs.Listed.{ctors_of, defs_of}
 use Rattle.pp_declared.specs.WellFormed.{AreNew, IsWellFormed, most_ctors, param_names}
 use Rattle.pp_names.specs.Find.{owners_of}
 use Rattle.pp_names.specs.Places.{Word, has, place_of}

@@ -1,15 +1,18 @@
 -- Where declarations break which rule. Source: own; the rules are those of the language's declarations.
-use Rattle.std.specs.Prelude.{◌≡◌, ◌≤◌, ◌<◌, ℕ, nat_eq, true, false, List, [], ◌∷◌, ◌++◌, Some, None, length, map, count_by, slice_get, Contains}
+use Rattle.std.specs.Prelude.{◌≡◌, ◌≤◌, ◌<◌, ℕ, nat_eq, true, false, List, [], ◌∷◌, ◌++◌, Some, None, length, map}
+use Rattle.std.specs.Prelude.{count_by, slice_get, Contains}
 use Rattle.pp_declared.specs.Declares.{AreCtors, IsOwner, class_names, def_names, param_types, typed_root}
 use Rattle.pp_declared.specs.Declare.{is_open_to, extends_whole}
-use Rattle.pp_declared.specs.Listed.{DeclIn, ClassIn, DefIn, ImportIn, decls_in, imports_in, objects_in, roots_of, ctors_of, defs_of}
+use Rattle.pp_declared.specs.Listed.{DeclIn, ClassIn, DefIn, ImportIn, decls_in, imports_in, objects_in, roots_of}
+use Rattle.pp_declared.specs.Listed.{ctors_of, defs_of}
 use Rattle.pp_declared.specs.WellFormed.{AreNew, is_taken, most_ctors, most_params, most_type_params, param_names}
 use Rattle.pp_fault.specs.declared.Rule.{Rule}
 use Rattle.pp_fault.specs.declared.Rule.TheVariants.{Unknown, Duplicate, Mismatch, Arity, OverLimit}
 use Rattle.pp_names.specs.Find.{owners_of}
 use Rattle.pp_names.specs.Places.{Word, has, place_of}
 use Rattle.pp_sorts.specs.IsSort.{Breaks, OneBreaks}
-use Rattle.pp_tree.specs.Plain.{type_text, TypeTrees, ParamTree, ClassTree, DefTree, DeclTree, root, ctor, other, def, UnitTree}
+use Rattle.pp_tree.specs.Plain.{type_text, TypeTrees, ParamTree, ClassTree, DefTree, DeclTree, root, ctor, other, def}
+use Rattle.pp_tree.specs.Plain.{UnitTree}
 use Rattle.pp_typed.specs.declared.typed.TypedCtor.{TypedCtor}
 
 -- a declaration of this name at this place, with these type parameters and parameters or fields, breaks a rule by

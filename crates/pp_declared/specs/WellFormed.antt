@@ -1,6 +1,8 @@
 -- What a declaration keeps by itself: its limits, and the names that it declares. Source: own; the limits are those
 -- of the language.
-use Rattle.std.specs.Prelude.{◌≡◌, ℕ, ◌≤◌, Bool, true, false, ◌||◌, List, [], ◌∷◌, ◌++◌, Ok, codes, length, map, nat_le, if◌then◌else◌}
+use Rattle.std.specs.Prelude.{◌≡◌, ℕ, ◌≤◌, Bool, true, false, ◌||◌, List, [], ◌∷◌, ◌++◌, Ok, codes, length, map, nat_eq}
+use Rattle.std.specs.Prelude.{nat_le, if◌then◌else◌}
+use Rattle.std.specs.List.{list_any}
 use Rattle.pp_fault.specs.Part.{Part, fault}
 use Rattle.pp_fault.specs.declared.Rule.TheVariants.{Duplicate, Mismatch, OverLimit}
 use Rattle.pp_names.specs.Places.{Word, has}
@@ -22,9 +24,17 @@ abbrev pub reserved : List Word
 reserved = codes "require" ∷ codes "ensuring" ∷ codes "holds" ∷ codes "decreases" ∷ codes "assert" ∷ codes "Int" ∷
     codes "Boolean" ∷ []
 
--- a name can't be declared after these: it is one of them, or such a word
+-- the marks that stand between the parts of a printed type: `,`, `[` and `]`
+abbrev pub is_mark : ℕ → Bool
+is_mark b = nat_eq b 44 || (nat_eq b 91 || nat_eq b 93)
+
+-- a name that can't be declared: such a word, or a name with a mark of printed types, which no source spells
+abbrev pub is_barred : Word → Bool
+is_barred w = has w reserved || list_any is_mark w
+
+-- a name can't be declared after these: it is one of them, or can't be declared at all
 abbrev pub is_taken : List Word → Word → Bool
-is_taken before w = has w reserved || has w before
+is_taken before w = is_barred w || has w before
 
 -- the names with one more, where it can be declared after them
 abbrev pub with_new : List Word → Word → List Word

@@ -6,7 +6,7 @@ ghost use Rattle.pp_declared.specs.Shown.{class_ins, def_ins};
 ghost use Rattle.pp_declared.specs.WellFormed.{is_taken, with_new};
 ghost use Rattle.pp_fault.specs.Part.{Tells};
 
-use crate::well_formed::is_reserved;
+use crate::well_formed::is_barred;
 use crate::{ClassAt, DefAt, NoMemory};
 use pp_fault::{Halt, Rule, broken};
 use pp_names::NameTable;
@@ -43,7 +43,7 @@ fn declare(alloc: Global, table: &mut NameTable, name: &str) -> Result<bool, NoM
     ensures is_new { IfOk result (λ new. new ≡ not (is_taken table.old name.now)) }
     ensures adds { OnOk result (table.new ≡ with_new table.old name.now) }
 {
-    if is_reserved(name) {
+    if is_barred(name) {
         return Ok(false);
     }
     let new = table.add(alloc, name)?;

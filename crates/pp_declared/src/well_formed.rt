@@ -1,9 +1,11 @@
 //! What each declaration keeps by itself.
 
 ghost use Rattle.std.specs.Prelude.{◌≡◌, [], map};
+ghost use Rattle.std.specs.List.{list_any};
 ghost use Rattle.pp_declared.specs.Declare.{all_checked};
 ghost use Rattle.pp_declared.specs.Shown.{decl_ins};
-ghost use Rattle.pp_declared.specs.WellFormed.{are_new_after, checked, head_checked, is_taken, param_names, params_new_after, reserved};
+ghost use Rattle.pp_declared.specs.WellFormed.{are_new_after, checked, head_checked, is_barred, is_mark, is_taken};
+ghost use Rattle.pp_declared.specs.WellFormed.{param_names, params_new_after, reserved};
 ghost use Rattle.pp_fault.specs.Part.{Tells};
 ghost use Rattle.pp_names.specs.Places.{has};
 ghost use Rattle.pp_sorts.specs.Words.{words_of};
@@ -73,7 +75,7 @@ fn check_params(alloc: Global, source: u32, params: &[Param]) -> Result<(), Halt
 {
     for i in 0..params.len() {
         let param = &params[i];
-        if is_reserved(param.name) || has_param(&params[..i], param.name) {
+        if is_barred(param.name) || has_param(&params[..i], param.name) {
             return broken(alloc, Rule::Duplicate, param.name, source, param.at);
         }
     }
@@ -85,15 +87,40 @@ fn are_new(names: &[&str]) -> bool
     ensures { result ≡ are_new_after [] (words_of names.now) }
 {
     for i in 0..names.len() {
-        if is_reserved(names[i]) || has_name(&names[..i], names[i]) {
+        if is_barred(names[i]) || has_name(&names[..i], names[i]) {
             return false;
         }
     }
     true
 }
 
+/// Whether the name can't be declared: it is a word that can't, or holds a mark of printed types.
+pub(crate) fn is_barred(name: &str) -> bool
+    ensures { result ≡ is_barred name.now }
+{
+    is_reserved(name) || has_mark(name.as_bytes())
+}
+
+/// Whether one of these bytes is a mark that stands between the parts of a printed type.
+fn has_mark(name: &[u8]) -> bool
+    ensures { result ≡ list_any is_mark name.now }
+{
+    for byte in name {
+        if is_mark(*byte) {
+            return true;
+        }
+    }
+    false
+}
+
+fn is_mark(byte: u8) -> bool
+    ensures { result ≡ is_mark byte }
+{
+    byte == b',' || (byte == b'[' || byte == b']')
+}
+
 /// Whether the name is a word that can't be declared.
-pub(crate) fn is_reserved(name: &str) -> bool
+fn is_reserved(name: &str) -> bool
     ensures { result ≡ has name.now reserved }
 {
     matches!(

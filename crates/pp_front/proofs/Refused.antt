@@ -16,7 +16,8 @@ use Rattle.pp_source.specs.declared.refusal.Refusal.TheVariants as refusal
 use Rattle.pp_tree.specs.Plain.{UnitTree}
 use Rattle.pp_types.specs.Kinds.{IsKindOf, OnFault}
 use Rattle.pp_types.specs.declared.fault.TypeFault.{TypeFault}
-use Rattle.pp_types.specs.declared.fault.TypeFault.TheVariants.{Unknown, Duplicate, Mismatch, Arity, CannotInfer, Uninhabited, NotABoolean, OverLimit, Memory}
+use Rattle.pp_types.specs.declared.fault.TypeFault.TheVariants.{Unknown, Duplicate, Mismatch, Arity, CannotInfer}
+use Rattle.pp_types.specs.declared.fault.TypeFault.TheVariants.{Uninhabited, NotABoolean, OverLimit, Memory}
 use Rattle.pp_types_laws.specs.Fault.{Stands}
 use Rattle.pp_types_laws.specs.Typing.{HasNoTyping}
 
@@ -41,7 +42,11 @@ module _ (texts : List (List ℕ)) (units : List UnitTree) (r : Refusal) where
   told : (f : Fault) → Stands units f → HasNoTyping units → OnLine r (λ line. line ≡ typing_line texts f)
       → OnLine r (IsUntyped texts units)
   told f stands untyped says =
-      on_line r says (λ line is. record { fault = f; refused = record { stands = stands; untyped = untyped }; says = is })
+      on_line r says (λ line is. record {
+        fault = f;
+        refused = record { stands = stands; untyped = untyped };
+        says = is;
+      })
 
   -- the refusal of units without a typing tells a fault that stands in them
   pub untyped_line : (e : TypeFault) → OnFault e (Stands units) → OnFault e (λ f. HasNoTyping units)
@@ -60,7 +65,8 @@ module _ (texts : List (List ℕ)) (units : List UnitTree) (r : Refusal) where
 -- the refusal of a program whose functions break a rule tells the first
 pub broken_line : (p : Program) (r : Refusal) (f : FunctionId) (kind : NamedFault) (fault : PlanFault)
     (first : IsFirstFault p.types p.functions fault) → BreaksRule f kind fault → f.0 ≡ first.place
-    → ((g : Function) → slice_get p.functions f.0 ≡ Some g → OnLine r (λ line. line ≡ named_fault_text kind g.name g.place))
+    → ((g : Function) → slice_get p.functions f.0 ≡ Some g
+    → OnLine r (λ line. line ≡ named_fault_text kind g.name g.place))
     → OnLine r (BreaksRules p)
 broken_line p r f kind fault first breaks at says =
     let here = ap (slice_get p.functions) at ∙ first.here in

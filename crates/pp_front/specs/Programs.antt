@@ -19,7 +19,8 @@ IsShort source = length source.items ≤ most_bytes
 -- the sources spell these units, one each
 pub data SpellUnits : List (List ℕ) → List UnitTree → Type 0 where
   no_sources : SpellUnits [] []
-  one_source : {bytes : List ℕ} {unit : UnitTree} {sources : List (List ℕ)} {units : List UnitTree} → IsUnitOf bytes unit
+  one_source : {bytes : List ℕ} {unit : UnitTree} {sources : List (List ℕ)} {units : List UnitTree}
+      → IsUnitOf bytes unit
       → SpellUnits sources units → SpellUnits (bytes ∷ sources) (unit ∷ units)
 
 -- the sources spell units that have this typing

@@ -17,7 +17,7 @@ use pp_prog::Program;
 use pp_source::Refusal;
 use pp_text::Text;
 use pp_tree::Unit;
-use pp_typed::Typed;
+use pp_well_sorted::WellSorted;
 use std::alloc::Global;
 
 /// The program of accepted sources, and its plan.
@@ -65,7 +65,7 @@ fn accept_units(alloc: Global, texts: &[Text], units: &[Unit]) -> Result<Accepte
 }
 
 /// The program of typed units, and its plan.
-fn accept_typed(alloc: Global, texts: &[Text], typed: &Typed) -> Result<Accepted, Refusal>
+fn accept_typed(alloc: Global, texts: &[Text], typed: &WellSorted) -> Result<Accepted, Refusal>
     requires typing { HaveTyping texts.now typed.now }
     requires short { AreShort texts.now }
     ensures program { IfOk result (λ accepted. IsProgramOf texts.now accepted.program) }

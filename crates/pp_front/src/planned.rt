@@ -9,7 +9,6 @@ ghost use Rattle.pp_prog.specs.declared.expr.Function.{Function};
 ghost use Rattle.pp_source.specs.Told.{OnLine};
 ghost use Rattle.pp_typed.specs.Limits.{IsSmall};
 ghost use Rattle.pp_typed.specs.Stand.{TypedStands};
-ghost use Rattle.pp_typed.specs.WellSorted.{IsWellSorted};
 
 use pp_checks::{Plan, PlanFault, plan};
 use pp_mono::{MonoFault, concrete};
@@ -17,15 +16,14 @@ use pp_print::{NamedFault, named_fault_line, too_many_instances_line};
 use pp_prog::{FunctionId, Program};
 use pp_source::Refusal;
 use pp_text::Text;
-use pp_typed::Typed;
+use pp_well_sorted::WellSorted;
 use std::alloc::Global;
 
 /// The program of typed units, which stand in these texts.
 ///
 /// # Errors
 /// `Line` where there are more than 512 instances. `Memory` for want of memory.
-pub(crate) fn program(alloc: Global, typed: &Typed, texts: &[Text]) -> Result<Program, Refusal>
-    requires sorted { IsWellSorted typed.now }
+pub(crate) fn program(alloc: Global, typed: &WellSorted, texts: &[Text]) -> Result<Program, Refusal>
     requires small { IsSmall typed.now }
     requires stand { TypedStands texts.now typed.now }
     ensures program { IfOk result (IsConcrete typed.now texts.now) }

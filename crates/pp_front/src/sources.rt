@@ -23,7 +23,8 @@ fn keep<'a>(
     units: &mut Vec<Unit<'a>>,
 ) -> Result<(), NoMemory>
     ensures text { IfOk result (λ _. texts.new.items ≡ texts.old.items ++ source.entry.text ∷ []) }
-    ensures unit { IfOk result (λ _. units_of units.new.items ≡ units_of units.old.items ++ unit_of source.entry.unit ∷ []) }
+    ensures unit { IfOk result (λ _. units_of units.new.items
+        ≡ units_of units.old.items ++ unit_of source.entry.unit ∷ []) }
 {
     let Source { text, unit } = source;
     texts.push(text)?;

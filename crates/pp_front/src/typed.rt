@@ -18,8 +18,8 @@ use pp_source::Refusal;
 use pp_text::Text;
 use pp_translate::place_at;
 use pp_tree::Unit;
-use pp_typed::Typed;
 use pp_types::{TypeFault, check};
+use pp_well_sorted::WellSorted;
 use std::alloc::Global;
 
 /// The refusal for a fault with a name.
@@ -151,7 +151,7 @@ fn untyped(alloc: Global, texts: &[Text], fault: TypeFault) -> Refusal
 ///
 /// # Errors
 /// `Line` with the line on a fault that stands in the units, which have no typing. `Memory` for want of memory.
-pub(crate) fn typed(alloc: Global, texts: &[Text], units: &[Unit]) -> Result<Typed, Refusal>
+pub(crate) fn typed(alloc: Global, texts: &[Text], units: &[Unit]) -> Result<WellSorted, Refusal>
     requires few { length units.now < 2 ^ 31 }
     requires stand { UnitsHave (Stands texts.now) (units_of units.now) }
     ensures typing { IfOk result (HasTyping (units_of units.now)) }

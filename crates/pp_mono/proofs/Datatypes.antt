@@ -1,5 +1,6 @@
 -- The datatypes among all instances of well-sorted typed units are those of a program.
-use Rattle.std.proofs.Common.{◌≡◌, ⊎_elim, ℕ, nat_eq, Bool, true, false, if◌then◌else◌, List, [], ◌∷◌, map, refl, sym, ap, ◌∙◌, subst}
+use Rattle.std.proofs.Common.{◌≡◌, ⊎_elim, ℕ, nat_eq, Bool, true, false, if◌then◌else◌, List, [], ◌∷◌, map, refl, sym}
+use Rattle.std.proofs.Common.{ap, ◌∙◌, subst}
 use Rattle.std.specs.Prelude.{Contains}
 use Rattle.std.proofs.lemmas.List.Elements.{Contains-append_cases}
 use Rattle.pp_concrete_types.proofs.Lists.{stands}
@@ -60,7 +61,8 @@ at_level layer.Bool = none_in (ap types_in (sort.rolls-Bool) ∙ types_bool)
 at_level (layer.Param i) = none_in (ap types_in (sort.rolls-Param i) ∙ types_param i)
 at_level (layer.Root r ns) =
     let ss = map (λ (z : N). z.0) ns in
-    subst AreTypes (sym (ap types_in (sort.rolls-Root r ss) ∙ types_root r ss)) (with_first r ss (types_of ss) (each_in ns))
+    subst AreTypes (sym (ap types_in (sort.rolls-Root r ss) ∙ types_root r ss))
+    (with_first r ss (types_of ss) (each_in ns))
 
 types_are : (s : GenericSort) → P s
 types_are = ind-GenericSort P (λ x y is. subst (λ z. P (roll-GenericSort z)) is (at_level y))
@@ -102,8 +104,10 @@ module _ (typed : Typed) (fs rs : List Instance) (all : AreInstancesOf typed fs 
   among m c =
       let from : IsMapped (stands_for Root) rs m = in_mapped (stands_for Root) rs m c in
       let i = from.from in
-      let at = from.has.0 in
-      (subst (Contains ms) (sym from.is) (all.listed.roots.only at i (stands rs i from.has)), (i.number, ap (λ z. z.of) from.is))
+      let at = from.has.0 in (
+        subst (Contains ms) (sym from.is) (all.listed.roots.only at i (stands rs i from.has)),
+        (i.number, ap (λ z. z.of) from.is),
+      )
 
   -- and each type of these is listed
   listed : (m : Member) → Contains ms m → IsType m → Contains roots m
@@ -114,7 +118,8 @@ module _ (typed : Typed) (fs rs : List Instance) (all : AreInstancesOf typed fs 
     proper = λ m c. members_are_proper typed ms all.sorted all.instances m (among m c).0;
     once = (listed_members_differ typed ms fs rs all.listed).1;
     fields = λ m n c used. (let a = among m c in
-        listed n (uses_are_members typed ms all.instances m n a.0 used) (uses_types typed m.of a.1.0 m.args a.1.1 n used));
+        listed n (uses_are_members typed ms all.instances m n a.0 used)
+        (uses_types typed m.of a.1.0 m.args a.1.1 n used));
     arguments = λ m n s c arg inside. (let a = among m c in
         listed n (types_are_members typed ms all.sorted all.instances m a.0 s arg n inside) (types_are s n inside));
   }

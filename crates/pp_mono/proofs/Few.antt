@@ -1,5 +1,11 @@
--- Small typed units have few functions: each has a body.
-use Rattle.std.proofs.Common.{◌≡◌, ◌≤◌, ◌<◌, ◌^◌, ◌+◌, ℕ, List, [], ◌∷◌, map, sum, fold, length, refl, arith}
+-- Small typed units have few functions, each of which has a body, and their program has few checks.
+use Rattle.std.proofs.Common.{◌≡◌, ◌≤◌, ◌<◌, ◌^◌, ◌+◌, ℕ, List, [], ◌∷◌, map, sum, fold, length, refl, ap, arith}
+use Rattle.pp_instances.specs.declared.member.Instance.{Instance}
+use Rattle.pp_prog.specs.declared.expr.Function.{Function}
+use Rattle.pp_mono.proofs.Counting.{lists_defs}
+use Rattle.pp_translation.specs.Defs.{TranslatesDefs}
+use Rattle.pp_translation.specs.Setting.{Setting}
+use Rattle.pp_translation.specs.declared.frame.CheckAt.{CheckAt}
 use Rattle.pp_typed.specs.Limits.{IsSmall, case_nodes, def_nodes, expr_nodes, kind_nodes, nodes}
 use Rattle.pp_typed.specs.declared.expr.TypedExpr.{TypedExpr}
 use Rattle.pp_typed.specs.declared.expr.TypedKind.TheFolds.{fold-TypedKind, fold_out-TypedExpr}
@@ -30,3 +36,11 @@ at_least (d ∷ ds) =
 
 pub few_defs : (typed : Typed) → IsSmall typed → length typed.defs < 2 ^ 32
 few_defs typed small = let few = small.nodes in let most = at_least typed.defs in omega arith
+
+pub few_checks : (typed : Typed) (set : Setting) (texts : List (List ℕ)) (is : List Instance) (fs : List Function)
+    (old new : List CheckAt) → IsSmall typed → length is ≤ 512 → old ≡ [] → TranslatesDefs typed set texts is fs old new
+    → length new < 2 ^ 32
+few_checks typed set texts is fs old new small few none made =
+    let listed = lists_defs typed set texts small made in
+    let nothing = ap (λ (l : List CheckAt). length l) none in
+    omega (arith, listed, few, nothing)

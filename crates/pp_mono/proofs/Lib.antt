@@ -1,3 +1,4 @@
-pub mod Few
+pub mod Counting
 pub mod Datatypes
+pub mod Few
 pub mod Made

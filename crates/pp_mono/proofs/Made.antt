@@ -20,7 +20,8 @@ use Rattle.pp_translation.specs.declared.frame.CheckAt.{CheckAt}
 use Rattle.pp_typed.specs.declared.typed.Typed.{Typed}
 use Rattle.pp_validity.proofs.BareDefs.{all_bare}
 
-pub made_program : {E : Type 0} {types : TypeTable} {functions : List Function} {checks : List Check} (Q : Program → Type 0)
+pub made_program : {E : Type 0} {types : TypeTable} {functions : List Function} {checks : List Check}
+    (Q : Program → Type 0)
     (r : Result Program E) → IfOk r (λ p. p.types ≡ types) → IfOk r (λ p. p.functions ≡ functions)
     → IfOk r (λ p. p.checks ≡ checks)
     → ((p : Program) → p.types ≡ types → p.functions ≡ functions → p.checks ≡ checks → Q p) → IfOk r Q

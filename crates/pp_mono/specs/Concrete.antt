@@ -36,5 +36,6 @@ pub record IsConcrete (typed : Typed) (texts : List (List ℕ)) (p : Program) : 
   pub listed : AreListed typed members functions roots
   pub has_datatypes : p.types.datatypes ≡ datatypes typed roots
   pub has_ctors : p.types.ctors ≡ ctors typed (root_members roots)
-  pub has_functions : map bare_function p.functions ≡ functions_of typed texts (root_members roots) (function_members functions) functions
+  pub has_functions : map bare_function p.functions ≡ functions_of typed texts (root_members roots)
+      (function_members functions) functions
   pub has_places : map place_of_check p.checks ≡ places_of typed texts p.types p.functions p.functions functions

@@ -10,7 +10,8 @@ use Rattle.pp_typed.specs.declared.typed.Typed.{Typed}
 
 -- two checks of one function differ in kind or in place
 abbrev pub PlacesTellChecks : Type 0
-PlacesTellChecks = (typed : Typed) (texts : List (List ℕ)) (p : Program) → TypedStands texts typed → AreApart typed → All IsUtf8 texts
+PlacesTellChecks = (typed : Typed) (texts : List (List ℕ)) (p : Program) → TypedStands texts typed → AreApart typed
+    → All IsUtf8 texts
     → IsConcrete typed texts p
     → (i j : ℕ) (a b : Check) → slice_get p.checks i ≡ Some a → slice_get p.checks j ≡ Some b
     → a.function ≡ b.function → a.kind ≡ b.kind → a.place ≡ b.place → i ≡ j

@@ -6,7 +6,6 @@ ghost use Rattle.pp_mono.specs.Steps.{AreInstancesOf, IsTargetOf};
 ghost use Rattle.pp_mono.specs.Concrete.{IsConcrete};
 ghost use Rattle.pp_typed.specs.Limits.{IsSmall};
 ghost use Rattle.pp_typed.specs.Stand.{TypedStands};
-ghost use Rattle.pp_typed.specs.WellSorted.{IsWellSorted};
 
 use crate::{MonoFault, NoMemory};
 use pp_call_graph::groups_at;
@@ -19,6 +18,7 @@ use pp_prog::Program;
 use pp_text::Text;
 use pp_translate::{Target, checks_of, functions_of};
 use pp_typed::Typed;
+use pp_well_sorted::WellSorted;
 use std::alloc::Global;
 
 /// All instances of typed units.
@@ -64,15 +64,13 @@ fn program_of(
     roots: &[Instance],
 ) -> Result<Program, NoMemory>
     requires instances { AreInstancesOf typed.now functions.now roots.now }
+    requires small { IsSmall typed.now }
     requires stand { TypedStands texts.now typed.now }
     ensures { IfOk result (IsConcrete typed.now texts.now) }
 {
     let target = target_of(alloc, typed, functions, roots)?;
     let mut sites = Items::new(alloc);
     let functions = functions_of(alloc, typed, texts, &target, functions, &mut sites)?;
-    if sites.len() > u32::MAX as usize {
-        return Err(NoMemory);
-    }
     let checks = checks_of(alloc, texts, sites.as_slice())?;
     Program::of(alloc, target.types, functions, checks)
 }
@@ -81,14 +79,14 @@ fn program_of(
 ///
 /// # Errors
 /// `TooManyInstances`: exactly where some closure of instances has more than 512 members, functions and types together.
-/// `Memory`: for want of memory; it also comes where the program would have 2^32 checks or more.
-pub fn concrete(alloc: Global, typed: &Typed, texts: &[Text]) -> Result<Program, MonoFault>
-    requires sorted { IsWellSorted typed.now }
+/// `Memory`: for want of memory alone. The typed units are small, so their program has fewer than 2^32 checks.
+pub fn concrete(alloc: Global, typed: &WellSorted, texts: &[Text]) -> Result<Program, MonoFault>
     requires small { IsSmall typed.now }
     requires stand { TypedStands texts.now typed.now }
     ensures program { IfOk result (IsConcrete typed.now texts.now) }
     ensures many { IsErrOf result MonoFault.TooManyInstances → FillsOver typed.now 512 }
 {
+    let typed = typed.typed();
     let members = members_of(alloc, typed)?;
     let InstanceLists { functions, roots } = listed(alloc, typed, &members)?;
     let program = program_of(alloc, typed, texts, functions.as_slice(), roots.as_slice())?;

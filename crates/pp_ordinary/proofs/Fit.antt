@@ -18,7 +18,7 @@ use Rattle.pp_ordinary.specs.Spelled.{EachSpells}
 pub typing_fit : (texts : List (List ℕ)) (units : List UnitTree) (typed : Typed) → AreShort texts
     → EachSpells texts units → HasTyping units typed → IsFit texts typed
 typing_fit texts units typed are spells h = record {
-  sorted = typing_well_sorted units typed (ordinary texts units spells) h;
+  sorted = typing_well_sorted units typed (ordinary texts units spells).numbers h;
   stands = typing_stands texts units typed (offsets_stand texts units spells) h;
   small = record {
     nodes = subst (λ (n : ℕ). n < 2 ^ 22) (sym (typing_nodes units typed h))

@@ -8,9 +8,9 @@ use Rattle.pp_tokens.proofs.Every.{all_of}
 use Rattle.pp_tree.specs.Plain.{ClassTree, DeclTree, UnitTree, ctor, def, other, root}
 use Rattle.pp_typed.specs.WellSorted.{IsPlain}
 use Rattle.pp_types_laws.specs.Literals.{DefInts}
-use Rattle.pp_types_laws.specs.Ordinary.{AreOrdinary}
 use Rattle.pp_ordinary.proofs.DefInts.{DeclInts, spelled_ints}
 use Rattle.pp_ordinary.proofs.Listed.{IfClass, IfDef, OfEachUnit, each_decl, each_def, each_root}
+use Rattle.pp_ordinary.specs.Ordinary.{AreOrdinary}
 use Rattle.pp_ordinary.specs.Spelled.{EachSpells, Spells}
 
 -- what follows for each of a list from what holds of each

@@ -8,10 +8,10 @@ use Rattle.pp_typed.specs.Stand.{Stands, TypedStands}
 use Rattle.pp_typed.specs.WellSorted.{IsWellSorted}
 use Rattle.pp_typed.specs.declared.typed.Typed.{Typed}
 use Rattle.pp_types_laws.specs.Offsets.{UnitsHave}
-use Rattle.pp_types_laws.specs.Ordinary.{AreOrdinary}
 use Rattle.pp_types_laws.specs.Sites.{HaveSitesApart}
 use Rattle.pp_types_laws.specs.Sizes.{HaveFewCases, nodes_of_units}
 use Rattle.pp_types_laws.specs.Typing.{HasTyping}
+use Rattle.pp_ordinary.specs.Ordinary.{AreOrdinary}
 use Rattle.pp_ordinary.specs.Spelled.{EachSpells}
 
 -- at most 16 texts, none longer than a text may be

@@ -5,7 +5,9 @@ use Rattle.pp_tree.specs.declared.operator.BinaryOp.{BinaryOp}
 use Rattle.pp_typed.specs.InRange.{AreInRange}
 use Rattle.pp_typed.specs.Operators.{Operates, unary_sort}
 use Rattle.pp_typed.specs.Put.{put}
-use Rattle.pp_typed.specs.Sorted.{IsSorted, AreSorted, AreSortedCases, ctors_of, is_int, param_sorts, sorted_int, sorted_bool, sorted_local, sorted_call, sorted_construct, sorted_field, sorted_unary, sorted_binary, sorted_if, sorted_match, sorted_val, sorted_assert}
+use Rattle.pp_typed.specs.Sorted.{IsSorted, AreSorted, AreSortedCases, ctors_of, is_int, param_sorts, sorted_int}
+use Rattle.pp_typed.specs.Sorted.{sorted_bool, sorted_local, sorted_call, sorted_construct, sorted_field, sorted_unary}
+use Rattle.pp_typed.specs.Sorted.{sorted_binary, sorted_if, sorted_match, sorted_val, sorted_assert}
 use Rattle.pp_typed.specs.declared.expr.TypedCase.{TypedCase}
 use Rattle.pp_typed.specs.declared.expr.TypedExpr.{TypedExpr}
 use Rattle.pp_typed.specs.declared.expr.TypedKind.{TypedKind}
@@ -97,73 +99,84 @@ module _ (typed : Typed) (params : ℕ) where
   IsOfForm scope of (layer.Val bound rest) = IsVal scope of bound rest
   IsOfForm scope of (layer.Assert c rest) = IsAssert scope of c rest
 
-  shown : (scope : List GenericSort) (e : TypedExpr) {k : TypedKind} {l : Layer} → e.kind ≡ k → out-TypedKind k ≡ l → IsOfForm scope e.of l
+  shown : (scope : List GenericSort) (e : TypedExpr) {k : TypedKind} {l : Layer} → e.kind ≡ k → out-TypedKind k ≡ l
+      → IsOfForm scope e.of l
       → IsOfForm scope e.of (out-TypedKind e.kind)
   shown scope e {k} {l} is o h = subst (IsOfForm scope e.of) (sym (ap out-TypedKind is ∙ o)) h
 
   -- a sorted expression is one of its form
-  pub form : {scope : List GenericSort} {e : TypedExpr} → IsSorted typed params scope e → IsOfForm scope e.of (out-TypedKind e.kind)
+  pub form : {scope : List GenericSort} {e : TypedExpr} → IsSorted typed params scope e
+      → IsOfForm scope e.of (out-TypedKind e.kind)
   form {scope} {e} (sorted_int n k is range) = shown scope e k (kind.outs-Int n) (is, range)
   form {scope} {e} (sorted_bool b k is) = shown scope e k (kind.outs-Bool b) is
   form {scope} {e} (sorted_local i k is) = shown scope e k (kind.outs-Local i) is
-  form {scope} {e} (sorted_call f d sorts args k declared all in_range args_sorted is) = shown scope e k (kind.outs-Call f sorts args) (record {
-    d = d;
-    declared = declared;
-    all = all;
-    in_range = in_range;
-    args_sorted = args_sorted;
-    result = is;
-  })
-  form {scope} {e} (sorted_construct c ctor root sorts args k declared root_declared all in_range args_sorted is) = shown scope e k (kind.outs-Construct c sorts args) (record {
-    k = ctor;
-    root = root;
-    declared = declared;
-    root_declared = root_declared;
-    all = all;
-    in_range = in_range;
-    args_sorted = args_sorted;
-    result = is;
-  })
-  form {scope} {e} (sorted_field {base = base} j ctor sorts s k base_sorted base_is only declared is) = shown scope e k (kind.outs-Field base j) (record {
-    k = ctor;
-    sorts = sorts;
-    s = s;
-    base_sorted = base_sorted;
-    base_is = base_is;
-    only = only;
-    declared = declared;
-    result = is;
-  })
-  form {scope} {e} (sorted_unary {a = a} op k sorted is result) = shown scope e k (kind.outs-Unary op a) (sorted, is, result)
-  form {scope} {e} (sorted_binary {a = a} {b = b} op k left right same operates) = shown scope e k (kind.outs-Binary op a b) (record {
-    left = left;
-    right = right;
-    same = same;
-    operates = operates;
-  })
-  form {scope} {e} (sorted_if {c = c} {a = a} {b = b} k test is_bool left left_is right right_is) = shown scope e k (kind.outs-If c a b) (record {
-    test = test;
-    is_bool = is_bool;
-    left = left;
-    left_is = left_is;
-    right = right;
-    right_is = right_is;
-  })
-  form {scope} {e} (sorted_match {m = m} {c = c} {cs = cs} k matched cases_sorted) = shown scope e k (kind.outs-Match m (c ∷ cs)) (record {
-    first = c;
-    rest = cs;
-    some = refl;
-    matched = matched;
-    cases_sorted = cases_sorted;
-  })
-  form {scope} {e} (sorted_val {bound = bound} {rest = rest} k bound_sorted rest_sorted rest_is) = shown scope e k (kind.outs-Val bound rest) (record {
-    bound_sorted = bound_sorted;
-    rest_sorted = rest_sorted;
-    rest_is = rest_is;
-  })
-  form {scope} {e} (sorted_assert {c = c} {rest = rest} k test is_bool rest_sorted rest_is) = shown scope e k (kind.outs-Assert c rest) (record {
-    test = test;
-    is_bool = is_bool;
-    rest_sorted = rest_sorted;
-    rest_is = rest_is;
-  })
+  form {scope} {e} (sorted_call f d sorts args k declared all in_range args_sorted is) = shown scope e k
+      (kind.outs-Call f sorts args) (record {
+        d = d;
+        declared = declared;
+        all = all;
+        in_range = in_range;
+        args_sorted = args_sorted;
+        result = is;
+      })
+  form {scope} {e} (sorted_construct c ctor root sorts args k declared root_declared all in_range args_sorted is) =
+      shown scope e k (kind.outs-Construct c sorts args) (record {
+        k = ctor;
+        root = root;
+        declared = declared;
+        root_declared = root_declared;
+        all = all;
+        in_range = in_range;
+        args_sorted = args_sorted;
+        result = is;
+      })
+  form {scope} {e} (sorted_field {base = base} j ctor sorts s k base_sorted base_is only declared is) = shown scope e k
+      (kind.outs-Field base j) (record {
+        k = ctor;
+        sorts = sorts;
+        s = s;
+        base_sorted = base_sorted;
+        base_is = base_is;
+        only = only;
+        declared = declared;
+        result = is;
+      })
+  form {scope} {e} (sorted_unary {a = a} op k sorted is result) = shown scope e k (kind.outs-Unary op a)
+      (sorted, is, result)
+  form {scope} {e} (sorted_binary {a = a} {b = b} op k left right same operates) = shown scope e k
+      (kind.outs-Binary op a b) (record {
+        left = left;
+        right = right;
+        same = same;
+        operates = operates;
+      })
+  form {scope} {e} (sorted_if {c = c} {a = a} {b = b} k test is_bool left left_is right right_is) = shown scope e k
+      (kind.outs-If c a b) (record {
+        test = test;
+        is_bool = is_bool;
+        left = left;
+        left_is = left_is;
+        right = right;
+        right_is = right_is;
+      })
+  form {scope} {e} (sorted_match {m = m} {c = c} {cs = cs} k matched cases_sorted) = shown scope e k
+      (kind.outs-Match m (c ∷ cs)) (record {
+        first = c;
+        rest = cs;
+        some = refl;
+        matched = matched;
+        cases_sorted = cases_sorted;
+      })
+  form {scope} {e} (sorted_val {bound = bound} {rest = rest} k bound_sorted rest_sorted rest_is) = shown scope e k
+      (kind.outs-Val bound rest) (record {
+        bound_sorted = bound_sorted;
+        rest_sorted = rest_sorted;
+        rest_is = rest_is;
+      })
+  form {scope} {e} (sorted_assert {c = c} {rest = rest} k test is_bool rest_sorted rest_is) = shown scope e k
+      (kind.outs-Assert c rest) (record {
+        test = test;
+        is_bool = is_bool;
+        rest_sorted = rest_sorted;
+        rest_is = rest_is;
+      })

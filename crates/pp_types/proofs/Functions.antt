@@ -1,5 +1,6 @@
 -- The typings of all functions are those of the rules, and a fault is one of a function.
-use Rattle.std.proofs.Common.{◌≡◌, ◌∙◌, ℕ, zero, suc, List, [], ◌∷◌, ◌++◌, Ok, Err, Some, refl, sym, ap, length, slice_get, append_assoc}
+use Rattle.std.proofs.Common.{◌≡◌, ◌∙◌, ℕ, zero, suc, List, [], ◌∷◌, ◌++◌, Ok, Err, Some, refl, sym, ap, length}
+use Rattle.std.proofs.Common.{slice_get, append_assoc}
 use Rattle.std.proofs.lemmas.List.{append-nil}
 use Rattle.pp_declared.proofs.Steps.{two_steps}
 use Rattle.pp_declared.specs.Declares.{AreSignatures, no_signatures, more_signatures}

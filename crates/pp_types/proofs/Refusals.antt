@@ -2,7 +2,8 @@
 use Rattle.std.proofs.Common.{subst}
 use Rattle.pp_fault.specs.declared.Fault.{Fault}
 use Rattle.pp_types.specs.declared.fault.TypeFault.{TypeFault}
-use Rattle.pp_types.specs.declared.fault.TypeFault.TheVariants.{Unknown, Duplicate, Mismatch, Arity, CannotInfer, Uninhabited, NotABoolean, OverLimit, Memory}
+use Rattle.pp_types.specs.declared.fault.TypeFault.TheVariants.{Unknown, Duplicate, Mismatch, Arity, CannotInfer}
+use Rattle.pp_types.specs.declared.fault.TypeFault.TheVariants.{Uninhabited, NotABoolean, OverLimit, Memory}
 use Rattle.pp_types.specs.Kinds.{IsKindOf, OnFault}
 
 pub on_fault : (e : TypeFault) (f : Fault) (P : Fault → Type 0) → IsKindOf e f → P f → OnFault e P

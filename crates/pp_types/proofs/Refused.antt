@@ -1,5 +1,6 @@
 -- The refusal of a root without a value.
-use Rattle.std.proofs.Common.{◌≡◌, ◌∙◌, ℕ, ◌<◌, List, Option, Some, Result, Ok, Err, MatchOption, get_or, length, slice_get, refl, sym, ap, subst}
+use Rattle.std.proofs.Common.{◌≡◌, ◌∙◌, ℕ, ◌<◌, List, Option, Some, Result, Ok, Err, MatchOption, get_or, length}
+use Rattle.std.proofs.Common.{slice_get, refl, sym, ap, subst}
 use Rattle.std.proofs.lemmas.Option.{slice_get-get_or, slice_get-map, slice_get_within}
 use Rattle.std.specs.Option.{option_map}
 use Rattle.pp_declared.specs.Listed.{decls_in, roots_of}

@@ -3,7 +3,8 @@ use Rattle.std.specs.Prelude.{◌≡◌}
 use Rattle.pp_fault.specs.declared.Fault.{Fault}
 use Rattle.pp_fault.specs.declared.Rule.TheVariants as rule
 use Rattle.pp_types.specs.declared.fault.TypeFault.{TypeFault}
-use Rattle.pp_types.specs.declared.fault.TypeFault.TheVariants.{Unknown, Duplicate, Mismatch, Arity, CannotInfer, Uninhabited, NotABoolean, OverLimit, Memory}
+use Rattle.pp_types.specs.declared.fault.TypeFault.TheVariants.{Unknown, Duplicate, Mismatch, Arity, CannotInfer}
+use Rattle.pp_types.specs.declared.fault.TypeFault.TheVariants.{Uninhabited, NotABoolean, OverLimit, Memory}
 use Rattle.pp_types_laws.specs.Fault.{fault_of}
 
 -- the refusal stands for this fault

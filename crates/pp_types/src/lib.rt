@@ -6,6 +6,7 @@
 
 mod defs;
 mod fault;
+mod numbers;
 mod units;
 mod values;
 

@@ -7,15 +7,15 @@ use pp_tree::{Built, Decl, Expr, Unit};
 use std::alloc::{AllocError, Global};
 use std::test::Fail;
 
-/// A unit with the function `def one(): Boolean = 1` or `def one(): Int = 1`.
-fn one<'a>(arena: &'a Bump, sort: &'a str) -> Result<Unit<'a>, AllocError> {
+/// A unit with the function `def NAME(): SORT = 1`.
+fn one<'a>(arena: &'a Bump, name: &'a str, sort: &'a str) -> Result<Unit<'a>, AllocError> {
     let result = type_text(arena, 11, sort, &[])?;
     let body: Built<Expr<'a>> = int(21, 1);
     let function = def(
         arena,
         DefParts {
             at: 4,
-            name: "one",
+            name,
             type_params: &[],
             params: &[],
             list: true,
@@ -38,11 +38,11 @@ fn one<'a>(arena: &'a Bump, sort: &'a str) -> Result<Unit<'a>, AllocError> {
 fn a_typing_outlives_the_arena_of_its_unit(rt: HostRuntime) -> Result<(), Fail> {
     let alloc = rt.alloc();
     let mut arena = Bump::new(alloc);
-    let unit = one(&arena, "Int")?;
+    let unit = one(&arena, "one", "Int")?;
     let typed = check(alloc, &[unit]);
     arena.reset()?;
     match &typed {
-        Ok(typed) => assert_eq!(rt; typed.defs.as_slice().len(), 1usize),
+        Ok(typed) => assert_eq!(rt; typed.typed().defs.as_slice().len(), 1usize),
         Err(_) => assert!(rt; false),
     }
     Ok(())
@@ -52,7 +52,7 @@ fn a_typing_outlives_the_arena_of_its_unit(rt: HostRuntime) -> Result<(), Fail> 
 fn a_body_of_another_type_is_a_mismatch_there(rt: HostRuntime) -> Result<(), Fail> {
     let alloc = rt.alloc();
     let arena = Bump::new(alloc);
-    let unit = one(&arena, "Boolean")?;
+    let unit = one(&arena, "one", "Boolean")?;
     let refused = check(alloc, &[unit]);
     match &refused {
         Err(
@@ -66,6 +66,19 @@ fn a_body_of_another_type_is_a_mismatch_there(rt: HostRuntime) -> Result<(), Fai
             assert_eq!(rt; *source, 1u32);
             assert_eq!(rt; *offset, 21u32);
         }
+        _ => assert!(rt; false),
+    }
+    Ok(())
+}
+
+#[test]
+fn a_name_with_a_mark_of_printed_types_cannot_be_declared(rt: HostRuntime) -> Result<(), Fail> {
+    let alloc = rt.alloc();
+    let arena = Bump::new(alloc);
+    let unit = one(&arena, "one[Int]", "Int")?;
+    let refused = check(alloc, &[unit]);
+    match &refused {
+        Err(TypeFault::Duplicate { name, .. }) => assert_eq!(rt; name.as_str(), "one[Int]"),
         _ => assert!(rt; false),
     }
     Ok(())

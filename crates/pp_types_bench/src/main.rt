@@ -32,7 +32,7 @@ fn typed(alloc: Global, units: &[Unit]) -> Option<usize> {
         return None;
     }
     match check(alloc, units) {
-        Ok(typed) => Some(typed.defs.as_slice().len()),
+        Ok(typed) => Some(typed.typed().defs.as_slice().len()),
         Err(_) => None,
     }
 }

@@ -1,12 +1,15 @@
 -- What names and applications stand for has sorts in range.
-use Rattle.std.proofs.Common.{◌≡◌, ◌∙◌, ℕ, zero, suc, ◌+◌, ◌<◌, ◌≤◌, Bool, true, false, nat_eq, nat_lt, if◌then◌else◌, List, [], ◌∷◌, ◌++◌, Option, Some, None, length, take, map, option_map, slice_get, unwrap_or, refl, sym, ap, subst, arith}
+use Rattle.std.proofs.Common.{◌≡◌, ◌∙◌, ℕ, zero, suc, ◌+◌, ◌<◌, ◌≤◌, Bool, true, false, nat_eq, nat_lt, if◌then◌else◌}
+use Rattle.std.proofs.Common.{List, [], ◌∷◌, ◌++◌, Option, Some, None, length, take, map, option_map, slice_get}
+use Rattle.std.proofs.Common.{unwrap_or, refl, sym, ap, subst, arith}
 use Rattle.std.proofs.lemmas.Bool.{eqb-true}
 use Rattle.std.proofs.lemmas.List.{map-append, take_all, take_more}
 use Rattle.std.proofs.lemmas.Option.{slice_get-get_or}
 use Rattle.pp_names.specs.Find.{find_ctor, find_function, owners_of}
 use Rattle.pp_names.specs.Places.{Word, places_from}
 use Rattle.pp_rules.specs.declared.callee.Callee.{Callee}
-use Rattle.pp_rules.specs.Shapes.{applied_by, bare_function, case_object, ctor_at, ctor_callee, ctor_of_root, function_at, function_callee, named_by, only_ctor, or_else, own_params, the_only}
+use Rattle.pp_rules.specs.Shapes.{applied_by, bare_function, case_object, ctor_at, ctor_callee, ctor_of_root}
+use Rattle.pp_rules.specs.Shapes.{function_at, function_callee, named_by, only_ctor, or_else, own_params, the_only}
 use Rattle.pp_typed.specs.InRange.{IsInRange, param_in_range, root_in_range, AreInRange, none_in_range, more_in_range}
 use Rattle.pp_typed.specs.Put.{put}
 use Rattle.pp_typed.specs.Sorted.{ctors_of, param_sorts}

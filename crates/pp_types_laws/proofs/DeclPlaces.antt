@@ -3,13 +3,20 @@ use Rattle.std.proofs.Common.{◌≡◌, ℕ, ◌+◌, Bool, true, false, List, 
 use Rattle.std.proofs.lemmas.List.Elements.{All-nil, All-cons, All-append, All-contains}
 use Rattle.pp_declared.proofs.Steps.{all_first, all_rest}
 use Rattle.pp_declared.specs.Declares.{param_types, typed_root}
-use Rattle.pp_declared.specs.Fault.{HeadBreaks, many_type_params, type_param_twice, many_params, param_twice, DeclBreaks, a_root, a_ctor, a_def, another, OwnerBreaks, nothing, no_root, hidden, closed, not_whole, DeclaresBreak, an_import, by_itself, type_twice, ctor_twice, function_twice, an_owner, many_ctors, a_field, a_param, a_result}
-use Rattle.pp_declared.specs.Listed.{ClassIn, DeclIn, ImportIn, ctor_of, ctors_of, decl_in, decls_from, decls_in, defs_of, import_in, imports_from, imports_in, is_missing, root_of, roots_of, unparented}
+use Rattle.pp_declared.specs.Fault.{HeadBreaks, many_type_params, type_param_twice, many_params, param_twice}
+use Rattle.pp_declared.specs.Fault.{DeclBreaks, a_root, a_ctor, a_def, another, OwnerBreaks, nothing, no_root, hidden}
+use Rattle.pp_declared.specs.Fault.{closed, not_whole, DeclaresBreak, an_import, by_itself, type_twice, ctor_twice}
+use Rattle.pp_declared.specs.Fault.{function_twice, an_owner, many_ctors, a_field, a_param, a_result}
+use Rattle.pp_declared.specs.Listed.{ClassIn, DeclIn, ImportIn, ctor_of, ctors_of, decl_in, decls_from, decls_in}
+use Rattle.pp_declared.specs.Listed.{defs_of, import_in, imports_from, imports_in, is_missing, root_of, roots_of}
+use Rattle.pp_declared.specs.Listed.{unparented}
 use Rattle.pp_fault.specs.declared.Fault.{Fault}
 use Rattle.pp_fault.specs.declared.Rule.{Rule}
 use Rattle.pp_names.specs.Places.{Word}
-use Rattle.pp_tree.specs.Offsets.{ClassOffsets, DeclOffsets, DeclsOffsets, ImportsOffsets, ParamOffsets, TypesOffsets, WrittenOffsets}
-use Rattle.pp_tree.specs.Plain.{type_text, TypeTrees, ParamTree, ClassTree, DeclTree, root, ctor, other, def, ImportTree, UnitTree}
+use Rattle.pp_tree.specs.Offsets.{ClassOffsets, DeclOffsets, DeclsOffsets, ImportsOffsets, ParamOffsets, TypesOffsets}
+use Rattle.pp_tree.specs.Offsets.{WrittenOffsets}
+use Rattle.pp_tree.specs.Plain.{type_text, TypeTrees, ParamTree, ClassTree, DeclTree, root, ctor, other, def}
+use Rattle.pp_tree.specs.Plain.{ImportTree, UnitTree}
 use Rattle.pp_typed.specs.Stand.{Offset}
 use Rattle.pp_types_laws.proofs.FaultPlaces.{def_fault_at, type_fault_at, types_fault_at}
 use Rattle.pp_types_laws.proofs.Placed.{DefOffsets, of_units}

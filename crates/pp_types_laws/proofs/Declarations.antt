@@ -1,13 +1,18 @@
 -- What units declare has sorts in range, and keeps the limits of the language.
-use Rattle.std.proofs.Common.{◌≡◌, ◌∙◌, ℕ, zero, suc, ◌+◌, ◌<◌, ◌≤◌, Bool, true, false, cond, nat_eq, count_by, List, [], ◌∷◌, ◌++◌, All, Some, None, length, map, option_map, slice_get, refl, sym, ap, subst, arith, append_assoc, eq-eqb}
+use Rattle.std.proofs.Common.{◌≡◌, ◌∙◌, ℕ, zero, suc, ◌+◌, ◌<◌, ◌≤◌, Bool, true, false, cond, nat_eq, count_by, List}
+use Rattle.std.proofs.Common.{[], ◌∷◌, ◌++◌, All, Some, None, length, map, option_map, slice_get, refl, sym, ap, subst}
+use Rattle.std.proofs.Common.{arith, append_assoc, eq-eqb}
 use Rattle.std.proofs.lemmas.Bool.{eqb-true}
 use Rattle.std.proofs.lemmas.List.{append-nil, length-append}
 use Rattle.std.proofs.lemmas.List.Elements.{All-nil, All-cons, All-append, filter-append}
 use Rattle.std.proofs.lemmas.List.Sums.{sum_by-cons}
 use Rattle.std.proofs.lemmas.Option.{slice_get-map}
 use Rattle.pp_declared.proofs.Steps.{all_first, all_rest}
-use Rattle.pp_declared.specs.Declares.{AreCtors, no_ctors, more_ctors, AreSignatures, no_signatures, more_signatures, IsCtor, IsOwner, itself, extended, IsSignature, class_names, param_types, typed_root}
-use Rattle.pp_declared.specs.Listed.{ClassIn, DeclIn, DefIn, ctor_of, ctors_of, def_of, defs_of, is_missing, root_of, roots_of, unparented}
+use Rattle.pp_declared.specs.Declares.{AreCtors, no_ctors, more_ctors, AreSignatures, no_signatures, more_signatures}
+use Rattle.pp_declared.specs.Declares.{IsCtor, IsOwner, itself, extended, IsSignature, class_names, param_types}
+use Rattle.pp_declared.specs.Declares.{typed_root}
+use Rattle.pp_declared.specs.Listed.{ClassIn, DeclIn, DefIn, ctor_of, ctors_of, def_of, defs_of, is_missing, root_of}
+use Rattle.pp_declared.specs.Listed.{roots_of, unparented}
 use Rattle.pp_declared.specs.WellFormed.{AreNew, IsHead, IsWellFormed, most_ctors}
 use Rattle.pp_names.specs.Find.{owners_of}
 use Rattle.pp_rules.specs.Bodies.{TypesDef, a_def}

@@ -1,8 +1,11 @@
 -- A function that has a typing is sorted.
-use Rattle.std.proofs.Common.{◌≡◌, ◌∙◌, ℕ, suc, ◌≤◌, List, [], ◌∷◌, ◌++◌, All, Option, Some, None, length, slice_get, refl, sym, ap, subst, arith}
+use Rattle.std.proofs.Common.{◌≡◌, ◌∙◌, ℕ, suc, ◌≤◌, List, [], ◌∷◌, ◌++◌, All, Option, Some, None, length, slice_get}
+use Rattle.std.proofs.Common.{refl, sym, ap, subst, arith}
 use Rattle.std.proofs.lemmas.List.Elements.{All-nil, All-cons}
 use Rattle.pp_names.specs.Places.{Word}
-use Rattle.pp_rules.specs.Bodies.{TypesConditions, no_condition, one_condition, TypesMeasure, no_component, one_component, TypesPost, no_post, a_post, TypesDef, a_def, def_scope, param_scope, typed_def, typed_params}
+use Rattle.pp_rules.specs.Bodies.{TypesConditions, no_condition, one_condition, TypesMeasure, no_component}
+use Rattle.pp_rules.specs.Bodies.{one_component, TypesPost, no_post, a_post, TypesDef, a_def, def_scope, param_scope}
+use Rattle.pp_rules.specs.Bodies.{typed_def, typed_params}
 use Rattle.pp_rules.specs.Scope.{Scope}
 use Rattle.pp_tree.specs.Plain.{ParamTree, Tree, PostTree, DefTree}
 use Rattle.pp_typed.specs.InRange.{IsInRange, AreInRange}

@@ -9,9 +9,12 @@ use Rattle.pp_generic.specs.Equal.{pass_all}
 use Rattle.pp_generic.specs.Expected.{exact, fits, fits_layer, fits_root, fits_step}
 use Rattle.pp_rules.specs.declared.callee.Callee.{Callee}
 use Rattle.pp_rules.specs.Scope.{Env, Scope}
-use Rattle.pp_rules.specs.Typing.{Suits, Types, an_int, a_bool, a_local, a_name, an_application, a_field, a_prefix, an_operation, a_choice, a_match, a_val, an_assert, Applies, applies, TypesCases, one_case, one_guarded}
+use Rattle.pp_rules.specs.Typing.{Suits, Types, an_int, a_bool, a_local, a_name, an_application, a_field, a_prefix}
+use Rattle.pp_rules.specs.Typing.{an_operation, a_choice, a_match, a_val, an_assert, Applies, applies, TypesCases}
+use Rattle.pp_rules.specs.Typing.{one_case, one_guarded}
 use Rattle.pp_tree.specs.Plain.{Tree, Trees, TypeTrees, CaseTrees}
-use Rattle.pp_typed.specs.InRange.{IsInRange, int_in_range, bool_in_range, param_in_range, root_in_range, AreInRange, none_in_range, more_in_range}
+use Rattle.pp_typed.specs.InRange.{IsInRange, int_in_range, bool_in_range, param_in_range, root_in_range, AreInRange}
+use Rattle.pp_typed.specs.InRange.{none_in_range, more_in_range}
 use Rattle.pp_typed.specs.declared.expr.TypedCase.{TypedCase}
 use Rattle.pp_typed.specs.declared.expr.TypedExpr.{TypedExpr}
 use Rattle.pp_typed.specs.declared.sort.GenericSort.{GenericSort}

@@ -10,15 +10,33 @@ use Rattle.pp_rules.specs.Bodies.{env_of_def}
 use Rattle.pp_rules.specs.Scope.{Env, Scope}
 use Rattle.pp_sorts.specs.IsSort.{OneBreaks, here, later, unknown, arguments, inside}
 use Rattle.pp_sorts.specs.IsSort as written
-use Rattle.pp_tree.specs.Offsets.{AllOffsets, CaseOffsets, DeclOffsets, ListOffsets, Offsets, PatternOffsets, PatternsOffsets, PostOffsets, TypeOffsets, TypesOffsets, WrittenOffsets}
-use Rattle.pp_tree.specs.Plain.{TypeTree, TypeTrees, PatternTree, PatternTrees, Tree, int, bool, name, apply, field, unary, binary, choice, matching, val_in, assert_in, Trees, CaseTrees, DefTree, PostTree, def}
+use Rattle.pp_tree.specs.Offsets.{AllOffsets, CaseOffsets, DeclOffsets, ListOffsets, Offsets, PatternOffsets}
+use Rattle.pp_tree.specs.Offsets.{PatternsOffsets, PostOffsets, TypeOffsets, TypesOffsets, WrittenOffsets}
+use Rattle.pp_tree.specs.Plain.{TypeTree, TypeTrees, PatternTree, PatternTrees, Tree, int, bool, name, apply, field}
+use Rattle.pp_tree.specs.Plain.{unary, binary, choice, matching, val_in, assert_in, Trees, CaseTrees, DefTree, PostTree}
+use Rattle.pp_tree.specs.Plain.{def}
 use Rattle.pp_typed.specs.Stand.{Offset}
 use Rattle.pp_typed.specs.declared.declared.Declared.{Declared}
 use Rattle.pp_typed.specs.declared.declared.Signature.{Signature}
 use Rattle.pp_typed.specs.declared.sort.GenericSort.{GenericSort}
 use Rattle.pp_typed.specs.declared.typed.TypedRoot.{TypedRoot}
-use Rattle.pp_typing_laws.specs.BodyFaults.{BreaksConditions, this_condition, later_condition, BreaksMeasure, this_component, later_component, BreaksPost, reserved_result, in_result_type, other_result_type, in_claim, BreaksDef, in_pre, in_measure, in_def_body, in_post}
-use Rattle.pp_typing_laws.specs.Faults.{BreaksBinding, bound_again, BreaksPattern, any_bound, int_bound, int_unfit, bool_bound, bool_unfit, ctor_unknown, ctor_absent, ctor_of_other, ctor_arity, ctor_bound, ctor_parts, BreaksPatterns, this_pattern, later_pattern, BreaksWritten, in_type, Breaks, unfit_int, unfit_bool, absent_local, unfit_local, unknown_name, in_name, unknown_applied, in_application, in_base, no_one_ctor, unknown_field, unfit_field, in_operand, unfit_operand, unfit_unary, in_left, unfit_left, in_right, unfit_right, unfit_binary, in_test, in_first, in_second, unlike_second, in_matched, without_case, in_case, clashing_val, in_val_type, in_value, after_val, in_asserted, after_assert, BreaksCondition, in_condition, no_boolean, BreaksApplied, args_arity, types_arity, in_types, in_args, open_param, unfit_result, BreaksArgs, this_arg, unfit_arg, later_arg, BreaksCases, in_plain, in_guarded, in_guard, plain_body, guarded_body, after_plain, after_guarded, BreaksBody, in_body, unlike_body, at_of}
+use Rattle.pp_typing_laws.specs.BodyFaults.{BreaksConditions, this_condition, later_condition, BreaksMeasure}
+use Rattle.pp_typing_laws.specs.BodyFaults.{this_component, later_component, BreaksPost, reserved_result}
+use Rattle.pp_typing_laws.specs.BodyFaults.{in_result_type, other_result_type, in_claim, BreaksDef, in_pre, in_measure}
+use Rattle.pp_typing_laws.specs.BodyFaults.{in_def_body, in_post}
+use Rattle.pp_typing_laws.specs.Faults.{BreaksBinding, bound_again, BreaksPattern, any_bound, int_bound, int_unfit}
+use Rattle.pp_typing_laws.specs.Faults.{bool_bound, bool_unfit, ctor_unknown, ctor_absent, ctor_of_other, ctor_arity}
+use Rattle.pp_typing_laws.specs.Faults.{ctor_bound, ctor_parts, BreaksPatterns, this_pattern, later_pattern}
+use Rattle.pp_typing_laws.specs.Faults.{BreaksWritten, in_type, Breaks, unfit_int, unfit_bool, absent_local}
+use Rattle.pp_typing_laws.specs.Faults.{unfit_local, unknown_name, in_name, unknown_applied, in_application, in_base}
+use Rattle.pp_typing_laws.specs.Faults.{no_one_ctor, unknown_field, unfit_field, in_operand, unfit_operand, unfit_unary}
+use Rattle.pp_typing_laws.specs.Faults.{in_left, unfit_left, in_right, unfit_right, unfit_binary, in_test, in_first}
+use Rattle.pp_typing_laws.specs.Faults.{in_second, unlike_second, in_matched, without_case, in_case, clashing_val}
+use Rattle.pp_typing_laws.specs.Faults.{in_val_type, in_value, after_val, in_asserted, after_assert, BreaksCondition}
+use Rattle.pp_typing_laws.specs.Faults.{in_condition, no_boolean, BreaksApplied, args_arity, types_arity, in_types}
+use Rattle.pp_typing_laws.specs.Faults.{in_args, open_param, unfit_result, BreaksArgs, this_arg, unfit_arg, later_arg}
+use Rattle.pp_typing_laws.specs.Faults.{BreaksCases, in_plain, in_guarded, in_guard, plain_body, guarded_body}
+use Rattle.pp_typing_laws.specs.Faults.{after_plain, after_guarded, BreaksBody, in_body, unlike_body, at_of}
 
 -- a fault of a written type
 module _ (P : ℕ → Type 0) (roots : List TypedRoot) (params : List Word) where

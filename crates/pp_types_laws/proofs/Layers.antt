@@ -5,7 +5,8 @@ use Rattle.pp_generic.specs.declared.expected.Expected.TheFolds.{fold-roll-Expec
 use Rattle.pp_generic.specs.declared.expected.Expected.TheOpen as expected_layer
 use Rattle.pp_generic.specs.declared.expected.Expected.TheVariants as expected
 use Rattle.pp_generic.specs.declared.expected.Expected.TheViews.{out-Expected}
-use Rattle.pp_generic.specs.Expected.{Found, exact, exact_step, expect, expect_found, expect_step, every, whole, whole_root, whole_step}
+use Rattle.pp_generic.specs.Expected.{Found, exact, exact_step, expect, expect_found, expect_step, every, whole}
+use Rattle.pp_generic.specs.Expected.{whole_root, whole_step}
 use Rattle.pp_generic.specs.Found.{Learning, learn, learn_root, learn_step, note}
 use Rattle.pp_typed.specs.Put.{put, put_at, put_step}
 use Rattle.pp_typed.specs.declared.sort.GenericSort.{GenericSort}

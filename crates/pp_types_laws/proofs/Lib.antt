@@ -4,7 +4,6 @@ pub mod Declarations
 pub mod Defs
 pub mod Exact
 pub mod FaultPlaces
-pub mod Folds
 pub mod Kept
 pub mod Layers
 pub mod Names

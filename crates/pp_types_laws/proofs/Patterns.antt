@@ -1,12 +1,16 @@
 -- A pattern that has a typing binds values of the sorts of its parts, and these are in range.
-use Rattle.std.proofs.Common.{◌≡◌, ◌∙◌, ℕ, List, [], ◌∷◌, ◌++◌, Option, Some, length, map, slice_get, is_some, refl, sym, ap, subst, append_assoc}
+use Rattle.std.proofs.Common.{◌≡◌, ◌∙◌, ℕ, List, [], ◌∷◌, ◌++◌, Option, Some, length, map, slice_get, is_some, refl}
+use Rattle.std.proofs.Common.{sym, ap, subst, append_assoc}
 use Rattle.std.proofs.lemmas.List.{append-nil, map-append}
 use Rattle.pp_names.specs.Places.{Word}
 use Rattle.pp_rules.specs.Scope.{Env, Scope}
-use Rattle.pp_rules.specs.Typing.{Binds, binds_nothing, binds_a_name, TypesPattern, a_wildcard, a_number, a_truth, a_ctor, TypesPatterns, no_pattern, one_pattern}
+use Rattle.pp_rules.specs.Typing.{Binds, binds_nothing, binds_a_name, TypesPattern, a_wildcard, a_number, a_truth}
+use Rattle.pp_rules.specs.Typing.{a_ctor, TypesPatterns, no_pattern, one_pattern}
 use Rattle.pp_tree.specs.Plain.{PatternTree, PatternTrees}
-use Rattle.pp_typed.specs.InRange.{IsInRange, int_in_range, bool_in_range, param_in_range, root_in_range, AreInRange, none_in_range, more_in_range}
-use Rattle.pp_typed.specs.Sorted.{BindEach, bind_none, bind_more, binds_any, binds_int, binds_bool, binds_ctor, own_value}
+use Rattle.pp_typed.specs.InRange.{IsInRange, int_in_range, bool_in_range, param_in_range, root_in_range, AreInRange}
+use Rattle.pp_typed.specs.InRange.{none_in_range, more_in_range}
+use Rattle.pp_typed.specs.Sorted.{BindEach, bind_none, bind_more, binds_any, binds_int, binds_bool, binds_ctor}
+use Rattle.pp_typed.specs.Sorted.{own_value}
 use Rattle.pp_typed.specs.Sorted as sorted
 use Rattle.pp_typed.specs.declared.declared.Declared.{Declared}
 use Rattle.pp_typed.specs.declared.pattern.TypedPattern.{TypedPattern}

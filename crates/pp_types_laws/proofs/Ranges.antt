@@ -1,5 +1,7 @@
 -- What is in range stays in range, and what is found is what the arguments have.
-use Rattle.std.proofs.Common.{◌≡◌, ◌∙◌, ◌⊎◌, inl, inr, ℕ, zero, suc, ◌<◌, Bool, true, false, nat_eq, if◌then◌else◌, List, [], ◌∷◌, ◌++◌, Option, Some, None, map, length, get_or, slice_get, slice_set, unwrap_or, refl, sym, ap, subst, arith}
+use Rattle.std.proofs.Common.{◌≡◌, ◌∙◌, ◌⊎◌, inl, inr, ℕ, zero, suc, ◌<◌, Bool, true, false, nat_eq, if◌then◌else◌}
+use Rattle.std.proofs.Common.{List, [], ◌∷◌, ◌++◌, Option, Some, None, map, length, get_or, slice_get, slice_set}
+use Rattle.std.proofs.Common.{unwrap_or, refl, sym, ap, subst, arith}
 use Rattle.std.proofs.lemmas.List.{append-nil, length-map}
 use Rattle.std.proofs.lemmas.Option.{slice_get-get_or}
 use Rattle.pp_generic.specs.declared.expected.Expected.{Expected}
@@ -7,13 +9,18 @@ use Rattle.pp_generic.specs.declared.expected.Expected.TheVariants as expected
 use Rattle.pp_generic.specs.declared.expected.Expected.TheViews.{out-Expected}
 use Rattle.pp_generic.specs.Expected.{Found, exact, expect, expect_found, every, every_from, known, whole, whole_root}
 use Rattle.pp_generic.specs.Found.{learn, learn_all, learn_root, none_found, noted}
-use Rattle.pp_typed.specs.InRange.{IsInRange, int_in_range, bool_in_range, param_in_range, root_in_range, AreInRange, none_in_range, more_in_range}
+use Rattle.pp_typed.specs.InRange.{IsInRange, int_in_range, bool_in_range, param_in_range, root_in_range, AreInRange}
+use Rattle.pp_typed.specs.InRange.{none_in_range, more_in_range}
 use Rattle.pp_typed.specs.Put.{put}
 use Rattle.pp_typed.specs.declared.sort.GenericSort.{GenericSort}
 use Rattle.pp_typed.specs.declared.sort.GenericSort.TheVariants as sort
 use Rattle.pp_typed.specs.declared.typed.TypedRoot.{TypedRoot}
-use Rattle.pp_types_laws.proofs.Layers.{put_int, put_bool, put_param, put_root, exact_int, exact_bool, exact_param, exact_root, expect_int, expect_bool, expect_param, expect_root, whole_open, whole_int, whole_bool, whole_param, whole_of_root, learn_int, learn_bool, learn_param, learn_of_root}
-use Rattle.pp_types_laws.specs.Ranges.{IsExpectable, open_expectable, int_expectable, bool_expectable, param_expectable, root_expectable, AreExpectable, none_expectable, more_expectable, FoundInRange}
+use Rattle.pp_types_laws.proofs.Layers.{put_int, put_bool, put_param, put_root, exact_int, exact_bool, exact_param}
+use Rattle.pp_types_laws.proofs.Layers.{exact_root, expect_int, expect_bool, expect_param, expect_root, whole_open}
+use Rattle.pp_types_laws.proofs.Layers.{whole_int, whole_bool, whole_param, whole_of_root, learn_int, learn_bool}
+use Rattle.pp_types_laws.proofs.Layers.{learn_param, learn_of_root}
+use Rattle.pp_types_laws.specs.Ranges.{IsExpectable, open_expectable, int_expectable, bool_expectable, param_expectable}
+use Rattle.pp_types_laws.specs.Ranges.{root_expectable, AreExpectable, none_expectable, more_expectable, FoundInRange}
 
 pub same_some : {A : Type 0} (a b : A) → Some a ≡ Some b → a ≡ b
 same_some a b h = cc

@@ -9,15 +9,23 @@ use Rattle.pp_generic.specs.declared.expected.Expected.{Expected}
 use Rattle.pp_rules.specs.declared.callee.Callee.{Callee}
 use Rattle.pp_rules.specs.declared.callee.Target.{Target}
 use Rattle.pp_rules.specs.declared.callee.Target.TheVariants.{Function, Ctor}
-use Rattle.pp_rules.specs.Bodies.{TypesConditions, no_condition, one_condition, TypesMeasure, no_component, one_component, TypesPost, no_post, a_post, TypesDef, a_def, env_of_def}
+use Rattle.pp_rules.specs.Bodies.{TypesConditions, no_condition, one_condition, TypesMeasure, no_component}
+use Rattle.pp_rules.specs.Bodies.{one_component, TypesPost, no_post, a_post, TypesDef, a_def, env_of_def}
 use Rattle.pp_rules.specs.Elab.{typed}
 use Rattle.pp_rules.specs.Scope.{Env, Scope}
 use Rattle.pp_rules.specs.Shapes.{application}
-use Rattle.pp_rules.specs.Typing.{Types, an_int, a_bool, a_local, a_name, an_application, a_field, a_prefix, an_operation, a_choice, a_match, a_val, an_assert, Applies, applies, TypesArgs, no_arg, one_arg, TypesCases, no_case, one_case, one_guarded}
+use Rattle.pp_rules.specs.Typing.{Types, an_int, a_bool, a_local, a_name, an_application, a_field, a_prefix}
+use Rattle.pp_rules.specs.Typing.{an_operation, a_choice, a_match, a_val, an_assert, Applies, applies, TypesArgs}
+use Rattle.pp_rules.specs.Typing.{no_arg, one_arg, TypesCases, no_case, one_case, one_guarded}
 use Rattle.pp_tree.specs.declared.operator.BinaryOp.{BinaryOp}
-use Rattle.pp_tree.specs.declared.operator.BinaryOp.TheVariants.{Add, Sub, Mul, Div, Rem, Equal, Differ, Less, AtMost, More, AtLeast, AndAlso, OrElse, And, Or, Xor, Shl, Shr, Ushr}
-use Rattle.pp_tree.specs.Plain.{Tree, int, bool, name, apply, field, unary, binary, choice, matching, val_in, assert_in, Trees, no_trees, more_trees, TypeTrees, CaseTrees, no_cases, plain_case, guarded_case, DefTree, PostTree, UnitTree}
-use Rattle.pp_typed.specs.Apart.{AreApart, Below, InSource, IsApart, Mark, a_call, a_match, an_assertion, case_marks, def_marks, expr_marks, kind_marks, marks, operator_mark, post_marks}
+use Rattle.pp_tree.specs.declared.operator.BinaryOp.TheVariants.{Add, Sub, Mul, Div, Rem, Equal, Differ, Less, AtMost}
+use Rattle.pp_tree.specs.declared.operator.BinaryOp.TheVariants.{More, AtLeast, AndAlso, OrElse, And, Or, Xor, Shl, Shr}
+use Rattle.pp_tree.specs.declared.operator.BinaryOp.TheVariants.{Ushr}
+use Rattle.pp_tree.specs.Plain.{Tree, int, bool, name, apply, field, unary, binary, choice, matching, val_in, assert_in}
+use Rattle.pp_tree.specs.Plain.{Trees, no_trees, more_trees, TypeTrees, CaseTrees, no_cases, plain_case, guarded_case}
+use Rattle.pp_tree.specs.Plain.{DefTree, PostTree, UnitTree}
+use Rattle.pp_typed.specs.Apart.{AreApart, Below, InSource, IsApart, Mark, a_call, a_match, an_assertion, case_marks}
+use Rattle.pp_typed.specs.Apart.{def_marks, expr_marks, kind_marks, marks, operator_mark, post_marks}
 use Rattle.pp_typed.specs.Stand.{joined}
 use Rattle.pp_typed.specs.declared.declared.Declared.{Declared}
 use Rattle.pp_typed.specs.declared.declared.Signature.{Signature}
@@ -29,9 +37,11 @@ use Rattle.pp_typed.specs.declared.sort.GenericSort.{GenericSort}
 use Rattle.pp_typed.specs.declared.typed.Typed.{Typed}
 use Rattle.pp_typed.specs.declared.typed.TypedDef.{TypedDef}
 use Rattle.pp_typed.specs.declared.typed.TypedPost.{TypedPost}
-use Rattle.pp_types_laws.proofs.Folds.{of_case, of_kind, assert_is, binary_is, bool_is, call_is, case_is, construct_is, expr_is, field_is, if_is, int_is, local_is, match_is, unary_is, val_is}
+use Rattle.pp_typed_forms.proofs.Folds.{of_case, of_kind, assert_is, binary_is, bool_is, call_is, case_is, construct_is}
+use Rattle.pp_typed_forms.proofs.Folds.{expr_is, field_is, if_is, int_is, local_is, match_is, unary_is, val_is}
 use Rattle.pp_types_laws.proofs.Kept.{IsPart, none_left, kept, joins, nothing_of, part_all, part_once, whole}
-use Rattle.pp_types_laws.specs.Sites.{AreOnce, HaveSitesApart, all_sites, case_sites, def_sites, list_sites, post_sites, sites}
+use Rattle.pp_types_laws.specs.Sites.{AreOnce, HaveSitesApart, all_sites, case_sites, def_sites, list_sites, post_sites}
+use Rattle.pp_types_laws.specs.Sites.{sites}
 use Rattle.pp_types_laws.specs.Typing.{HasTyping, TypesDefs, no_defs, more_defs}
 
 abbrev below : TypedKind → Below

@@ -7,11 +7,14 @@ use Rattle.pp_generic.specs.declared.expected.Expected.{Expected}
 use Rattle.pp_rules.specs.declared.callee.Callee.{Callee}
 use Rattle.pp_rules.specs.declared.callee.Target.{Target}
 use Rattle.pp_rules.specs.declared.callee.Target.TheVariants.{Function, Ctor}
-use Rattle.pp_rules.specs.Bodies.{TypesConditions, no_condition, one_condition, TypesMeasure, no_component, one_component, TypesPost, no_post, a_post, TypesDef, a_def, env_of_def}
+use Rattle.pp_rules.specs.Bodies.{TypesConditions, no_condition, one_condition, TypesMeasure, no_component}
+use Rattle.pp_rules.specs.Bodies.{one_component, TypesPost, no_post, a_post, TypesDef, a_def, env_of_def}
 use Rattle.pp_rules.specs.Elab.{arm, typed}
 use Rattle.pp_rules.specs.Scope.{Env, Scope}
 use Rattle.pp_rules.specs.Shapes.{application}
-use Rattle.pp_rules.specs.Typing.{Types, an_int, a_bool, a_local, a_name, an_application, a_field, a_prefix, an_operation, a_choice, a_match, a_val, an_assert, Applies, applies, TypesArgs, no_arg, one_arg, TypesCases, no_case, one_case, one_guarded}
+use Rattle.pp_rules.specs.Typing.{Types, an_int, a_bool, a_local, a_name, an_application, a_field, a_prefix}
+use Rattle.pp_rules.specs.Typing.{an_operation, a_choice, a_match, a_val, an_assert, Applies, applies, TypesArgs}
+use Rattle.pp_rules.specs.Typing.{no_arg, one_arg, TypesCases, no_case, one_case, one_guarded}
 use Rattle.pp_tree.specs.Count as tree
 use Rattle.pp_tree.specs.Plain.{Tree, Trees, TypeTrees, CaseTrees, DeclTree, root, ctor, other, def, PostTree, UnitTree}
 use Rattle.pp_typed.specs.Limits.{case_nodes, def_nodes, expr_nodes, kind_nodes, nodes, post_nodes}
@@ -26,7 +29,8 @@ use Rattle.pp_typed.specs.declared.sort.GenericSort.{GenericSort}
 use Rattle.pp_typed.specs.declared.typed.Typed.{Typed}
 use Rattle.pp_typed.specs.declared.typed.TypedDef.{TypedDef}
 use Rattle.pp_typed.specs.declared.typed.TypedPost.{TypedPost}
-use Rattle.pp_types_laws.proofs.Folds.{of_case, of_kind, assert_is, binary_is, bool_is, call_is, case_is, construct_is, expr_is, field_is, if_is, int_is, local_is, match_is, unary_is, val_is}
+use Rattle.pp_typed_forms.proofs.Folds.{of_case, of_kind, assert_is, binary_is, bool_is, call_is, case_is, construct_is}
+use Rattle.pp_typed_forms.proofs.Folds.{expr_is, field_is, if_is, int_is, local_is, match_is, unary_is, val_is}
 use Rattle.pp_types_laws.specs.Sizes.{nodes_of_units}
 use Rattle.pp_types_laws.specs.Typing.{HasTyping, TypesDefs, no_defs, more_defs}
 

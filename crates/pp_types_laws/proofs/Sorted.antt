@@ -1,5 +1,6 @@
 -- An expression that has a typing has the sort that it carries, which is in range.
-use Rattle.std.proofs.Common.{◌≡◌, ◌∙◌, ℕ, zero, suc, Bool, true, false, List, [], ◌∷◌, ◌++◌, Option, Some, None, length, map, slice_get, option_map, refl, sym, ap, subst}
+use Rattle.std.proofs.Common.{◌≡◌, ◌∙◌, ℕ, zero, suc, Bool, true, false, List, [], ◌∷◌, ◌++◌, Option, Some, None}
+use Rattle.std.proofs.Common.{length, map, slice_get, option_map, refl, sym, ap, subst}
 use Rattle.std.proofs.lemmas.List.{length-map}
 use Rattle.std.proofs.lemmas.Option.{slice_get-map}
 use Rattle.pp_generic.specs.declared.expected.Expected.{Expected}
@@ -11,13 +12,21 @@ use Rattle.pp_rules.specs.Elab.{arm, typed}
 use Rattle.pp_rules.specs.Operators.{gives, is_equality, right_expected}
 use Rattle.pp_rules.specs.Scope.{Env, Scope}
 use Rattle.pp_rules.specs.Shapes.{application, field_of, own_params}
-use Rattle.pp_rules.specs.Typing.{Starts, starts_expected, starts_written, Wants, wants_nothing, wants_written, Types, an_int, a_bool, a_local, a_name, an_application, a_field, a_prefix, an_operation, a_choice, a_match, a_val, an_assert, Applies, applies, TypesArgs, no_arg, one_arg, TypesCases, no_case, one_case, one_guarded}
+use Rattle.pp_rules.specs.Typing.{Starts, starts_expected, starts_written, Wants, wants_nothing, wants_written, Types}
+use Rattle.pp_rules.specs.Typing.{an_int, a_bool, a_local, a_name, an_application, a_field, a_prefix, an_operation}
+use Rattle.pp_rules.specs.Typing.{a_choice, a_match, a_val, an_assert, Applies, applies, TypesArgs, no_arg, one_arg}
+use Rattle.pp_rules.specs.Typing.{TypesCases, no_case, one_case, one_guarded}
 use Rattle.pp_tree.specs.declared.operator.BinaryOp.{BinaryOp}
-use Rattle.pp_tree.specs.declared.operator.BinaryOp.TheVariants.{Add, Sub, Mul, Div, Rem, Equal, Differ, Less, AtMost, More, AtLeast, AndAlso, OrElse, And, Or, Xor, Shl, Shr, Ushr}
+use Rattle.pp_tree.specs.declared.operator.BinaryOp.TheVariants.{Add, Sub, Mul, Div, Rem, Equal, Differ, Less, AtMost}
+use Rattle.pp_tree.specs.declared.operator.BinaryOp.TheVariants.{More, AtLeast, AndAlso, OrElse, And, Or, Xor, Shl, Shr}
+use Rattle.pp_tree.specs.declared.operator.BinaryOp.TheVariants.{Ushr}
 use Rattle.pp_tree.specs.Plain.{Tree, Trees, TypeTree, TypeTrees, CaseTrees}
 use Rattle.pp_typed.specs.InRange.{IsInRange, int_in_range, bool_in_range, AreInRange, none_in_range, more_in_range}
 use Rattle.pp_typed.specs.Put.{put}
-use Rattle.pp_typed.specs.Sorted.{IsSorted, sorted_int, sorted_bool, sorted_local, sorted_call, sorted_construct, sorted_field, sorted_unary, sorted_binary, sorted_if, sorted_match, sorted_val, sorted_assert, AreSorted, none_sorted, more_sorted, IsSortedGuard, no_guard, one_guard, AreSortedCases, no_cases, more_cases, ctors_of, param_sorts}
+use Rattle.pp_typed.specs.Sorted.{IsSorted, sorted_int, sorted_bool, sorted_local, sorted_call, sorted_construct}
+use Rattle.pp_typed.specs.Sorted.{sorted_field, sorted_unary, sorted_binary, sorted_if, sorted_match, sorted_val}
+use Rattle.pp_typed.specs.Sorted.{sorted_assert, AreSorted, none_sorted, more_sorted, IsSortedGuard, no_guard}
+use Rattle.pp_typed.specs.Sorted.{one_guard, AreSortedCases, no_cases, more_cases, ctors_of, param_sorts}
 use Rattle.pp_typed.specs.Sorted as sorted
 use Rattle.pp_typed.specs.declared.declared.Declared.{Declared}
 use Rattle.pp_typed.specs.declared.declared.Signature.{Signature}
@@ -32,11 +41,15 @@ use Rattle.pp_typed.specs.declared.typed.Typed.{Typed}
 use Rattle.pp_typed.specs.declared.typed.TypedCtor.{TypedCtor}
 use Rattle.pp_typed.specs.declared.typed.TypedDef.{TypedDef}
 use Rattle.pp_typed.specs.declared.typed.TypedRoot.{TypedRoot}
-use Rattle.pp_types_laws.proofs.Callees.{IsFunctionAs, IsCallee, is_function, is_constructor, applied_is, callee_params, callee_result, named_is, only_of_root, put_own}
+use Rattle.pp_types_laws.proofs.Callees.{IsFunctionAs, IsCallee, is_function, is_constructor, applied_is, callee_params}
+use Rattle.pp_types_laws.proofs.Callees.{callee_result, named_is, only_of_root, put_own}
 use Rattle.pp_types_laws.proofs.Layers.{put_root}
 use Rattle.pp_types_laws.proofs.Operators.{operates, same_unary}
 use Rattle.pp_types_laws.proofs.Patterns.{HasFields, pattern_bound, root_parts, sorts_append, sorts_in, typed_of}
-use Rattle.pp_types_laws.proofs.Ranges.{Extends, IsLearnt, all_of_found, append_in_range, at_in_range, every_extends, every_is, every_length, exact_in_range, expect_in_range, known_put, learn_in_range, learnt_more, learnt_nothing, none_in_found, none_length, put_in_range, same_some}
+use Rattle.pp_types_laws.proofs.Ranges.{Extends, IsLearnt, all_of_found, append_in_range, at_in_range, every_extends}
+use Rattle.pp_types_laws.proofs.Ranges.{every_is, every_length, exact_in_range, expect_in_range, known_put}
+use Rattle.pp_types_laws.proofs.Ranges.{learn_in_range, learnt_more, learnt_nothing, none_in_found, none_length}
+use Rattle.pp_types_laws.proofs.Ranges.{put_in_range, same_some}
 use Rattle.pp_types_laws.proofs.WrittenTypes.{all_written_count, all_written_in_range, written_in_range}
 use Rattle.pp_types_laws.specs.Literals.{ExprInts, ExprsInts, CasesInts}
 use Rattle.pp_types_laws.specs.Ranges.{IsExpectable, open_expectable, FoundInRange}

@@ -1,14 +1,18 @@
 -- Units that have a typing are well sorted.
-use Rattle.std.proofs.Common.{◌≡◌, ◌∙◌, ℕ, zero, suc, ◌≤◌, List, [], ◌∷◌, All, Option, Some, None, map, option_map, slice_get, refl, sym, ap, subst, arith}
+use Rattle.std.proofs.Common.{◌≡◌, ◌∙◌, ℕ, zero, suc, ◌≤◌, List, [], ◌∷◌, All, Option, Some, None, map, option_map}
+use Rattle.std.proofs.Common.{get_or, slice_get, refl, sym, ap, subst, arith}
 use Rattle.std.proofs.lemmas.List.Elements.{All-nil, All-cons, All-get_or}
-use Rattle.std.proofs.lemmas.Option.{get_or_from_slice_get, slice_get-map, slice_get_within}
+use Rattle.std.proofs.lemmas.Option.{get_or_from_slice_get, slice_get-get_or, slice_get-map, slice_get_within}
 use Rattle.pp_declared.proofs.Steps.{all_first, all_rest}
-use Rattle.pp_declared.specs.Declares.{AreSignatures, no_signatures, more_signatures, Declares, class_names, def_names, typed_root}
+use Rattle.pp_declared.specs.Declares.{AreSignatures, no_signatures, more_signatures, Declares, class_names, def_names}
+use Rattle.pp_declared.specs.Declares.{typed_root}
 use Rattle.pp_declared.specs.Listed.{ClassIn, DefIn, decls_in, defs_of, roots_of}
+use Rattle.pp_declared.specs.WellFormed.{AreNew}
 use Rattle.pp_inhabited.specs.Value.{AreInhabited}
 use Rattle.pp_rules.specs.Bodies.{TypesDef, a_def}
 use Rattle.pp_tree.specs.Plain.{UnitTree}
-use Rattle.pp_typed.specs.WellSorted.{IsWellSorted, IsRoot, IsCtor, IsDef, IsPlain, DefsDiffer, RootsDiffer, boolean_name, int_name}
+use Rattle.pp_typed.specs.WellSorted.{IsWellSorted, IsRoot, IsCtor, IsDef, IsPlain, DefsDiffer, RootsDiffer}
+use Rattle.pp_typed.specs.WellSorted.{boolean_name, int_name}
 use Rattle.pp_typed.specs.declared.declared.Declared.{Declared}
 use Rattle.pp_typed.specs.declared.declared.Signature.{Signature}
 use Rattle.pp_typed.specs.declared.typed.Typed.{Typed}
@@ -16,12 +20,12 @@ use Rattle.pp_typed.specs.declared.typed.TypedCtor.{TypedCtor}
 use Rattle.pp_typed.specs.declared.typed.TypedDef.{TypedDef}
 use Rattle.pp_typed.specs.declared.typed.TypedRoot.{TypedRoot}
 use Rattle.pp_types_laws.proofs.Callees.{IsFunctionAs}
-use Rattle.pp_types_laws.proofs.Declarations.{ClassHead, CtorFacts, DefHead, all_ctor_facts, ctor_heads, def_heads, few_ctors, functions_as, own_roots, root_heads, signature_facts}
+use Rattle.pp_types_laws.proofs.Declarations.{ClassHead, CtorFacts, DefHead, all_ctor_facts, ctor_heads, def_heads}
+use Rattle.pp_types_laws.proofs.Declarations.{few_ctors, functions_as, own_roots, root_heads, signature_facts}
 use Rattle.pp_types_laws.proofs.Defs.{def_well}
-use Rattle.pp_types_laws.proofs.Names.{names_differ, not_reserved}
+use Rattle.pp_types_laws.proofs.Names.{names_differ, names_plain, not_reserved}
 use Rattle.pp_types_laws.proofs.Patterns.{HasFields, typed_of}
-use Rattle.pp_types_laws.specs.Literals.{DefInts}
-use Rattle.pp_types_laws.specs.Ordinary.{AreOrdinary}
+use Rattle.pp_types_laws.specs.Literals.{DefInts, DefsInts, UnitsInts}
 use Rattle.pp_types_laws.specs.Typing.{HasTyping, TypesDefs, no_defs, more_defs}
 
 pub all_at : {X : Type 0} (P : X → Type 0) (xs : List X) (i : ℕ) (x : X) → slice_get xs i ≡ Some x → All P xs → P x
@@ -60,12 +64,19 @@ name_at declared (more_defs first rest) (suc i) t e = name_at declared rest i t 
 abbrev PlainDef : DefIn → Type 0
 PlainDef d = IsPlain d.def.name
 
+-- functions whose names can be declared have plain names
+defs_plain : (ds : List DefIn) → AreNew (def_names ds) → All PlainDef ds
+defs_plain ds new k d lt =
+    let there : slice_get ds k ≡ Some (get_or ds k d) = slice_get-get_or ds k d lt in
+    names_plain (def_names ds) new k (get_or ds k d).def.name
+    (slice_get-map (λ (x : DefIn). x.def.name) ds k ∙ ap (option_map (λ (x : DefIn). x.def.name)) there)
+
 abbrev IntsDef : DefIn → Type 0
 IntsDef d = DefInts d.def
 
 module _ (units : List UnitTree) (d : Declared) (defs : List TypedDef) (declares : Declares units d)
     (types : TypesDefs d (defs_of (decls_in units)) d.functions defs) (inhabited : AreInhabited d.roots d.ctors)
-    (ordinary : AreOrdinary units) where
+    (ints : UnitsInts units) where
   abbrev t : Typed
   t = typed_of d defs
 
@@ -103,13 +114,11 @@ module _ (units : List UnitTree) (d : Declared) (defs : List TypedDef) (declares
   root_well r root e =
       let c = class_at r root e in
       let head = all_at ClassHead classes r c.origin c.there (root_heads (decls_in units) declares.well_formed) in
-      let name = ap (λ (x : TypedRoot). x.name) c.is in
       record {
         few_ctors = few_ctors classes declares.ctors r (omega arith);
         few_params = subst (λ (x : TypedRoot). x.type_params ≤ 4) c.is head.few_type_params;
         inhabited = inhabited r root e;
-        plain = subst IsPlain name
-            (all_at (λ (k : ClassIn). IsPlain k.class.name) classes r c.origin c.there ordinary.types_plain);
+        plain = names_plain (class_names classes) declares.types_new r root.name (root_name_at r root e);
         no_int = not_reserved (class_names classes) declares.types_new r root.name int_name
             (root_name_at r root e) refl;
         no_boolean = not_reserved (class_names classes) declares.types_new r root.name boolean_name
@@ -161,15 +170,15 @@ module _ (units : List UnitTree) (d : Declared) (defs : List TypedDef) (declares
   well_sorted = record {
     roots = root_well;
     ctors = ctors_well d.ctors ctor_facts;
-    defs = defs_well declares.functions types (def_heads (decls_in units) declares.well_formed) ordinary.functions_plain
-        ordinary.numbers;
+    defs = defs_well declares.functions types (def_heads (decls_in units) declares.well_formed)
+        (defs_plain (defs_of (decls_in units)) declares.functions_new) ints;
     roots_differ = roots_differ;
     defs_differ = defs_differ;
   }
 
--- a typing of ordinary units is well sorted
-pub typing_well_sorted : (units : List UnitTree) (t : Typed) → AreOrdinary units → HasTyping units t → IsWellSorted t
-typing_well_sorted units t ordinary h =
+-- a typing of units whose numbers are Ints is well sorted
+pub typing_well_sorted : (units : List UnitTree) (t : Typed) → UnitsInts units → HasTyping units t → IsWellSorted t
+typing_well_sorted units t ints h =
     let same : typed_of h.declared t.defs ≡ t =
     λ j. record { roots = sym h.roots j; ctors = sym h.ctors j; defs = t.defs } in
-    subst IsWellSorted same (well_sorted units h.declared t.defs h.declares h.defs h.inhabited ordinary)
+    subst IsWellSorted same (well_sorted units h.declared t.defs h.declares h.defs h.inhabited ints)

@@ -1,14 +1,17 @@
 -- A written type is a sort in range.
-use Rattle.std.proofs.Common.{◌≡◌, ◌∙◌, ℕ, suc, ◌<◌, Bool, true, false, if◌then◌else◌, List, [], Option, Some, None, length, slice_get, refl, sym, ap, subst}
+use Rattle.std.proofs.Common.{◌≡◌, ◌∙◌, ℕ, suc, ◌<◌, Bool, true, false, if◌then◌else◌, List, [], Option, Some, None}
+use Rattle.std.proofs.Common.{length, slice_get, refl, sym, ap, subst}
 use Rattle.std.proofs.lemmas.List.Quantifiers.{position-Some}
 use Rattle.std.specs.Str.{bytes_eq}
 use Rattle.pp_names.specs.Find.{names_of}
 use Rattle.pp_names.specs.Places.{Word, place_of}
 use Rattle.pp_sorts.specs.declared.head.Head.{Head}
 use Rattle.pp_sorts.specs.declared.head.Head.TheVariants as head
-use Rattle.pp_sorts.specs.IsSort.{IsSort, a_sort, AreSorts, no_sorts, more_sorts, arity, boolean_word, count, declared_head, head_of, int_word, root_at, root_head, sort_with}
+use Rattle.pp_sorts.specs.IsSort.{IsSort, a_sort, AreSorts, no_sorts, more_sorts, arity, boolean_word, count}
+use Rattle.pp_sorts.specs.IsSort.{declared_head, head_of, int_word, root_at, root_head, sort_with}
 use Rattle.pp_tree.specs.Plain.{TypeTree, TypeTrees}
-use Rattle.pp_typed.specs.InRange.{IsInRange, int_in_range, bool_in_range, param_in_range, root_in_range, AreInRange, none_in_range, more_in_range}
+use Rattle.pp_typed.specs.InRange.{IsInRange, int_in_range, bool_in_range, param_in_range, root_in_range, AreInRange}
+use Rattle.pp_typed.specs.InRange.{none_in_range, more_in_range}
 use Rattle.pp_typed.specs.declared.sort.GenericSort.{GenericSort}
 use Rattle.pp_typed.specs.declared.typed.TypedRoot.{TypedRoot}
 

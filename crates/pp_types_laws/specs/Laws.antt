@@ -9,8 +9,8 @@ use Rattle.pp_typed.specs.Stand as text
 use Rattle.pp_typed.specs.WellSorted.{IsWellSorted}
 use Rattle.pp_typed.specs.declared.typed.Typed.{Typed}
 use Rattle.pp_types_laws.specs.Fault.{Stands}
+use Rattle.pp_types_laws.specs.Literals.{UnitsInts}
 use Rattle.pp_types_laws.specs.Offsets.{TypedHas, UnitsHave}
-use Rattle.pp_types_laws.specs.Ordinary.{AreOrdinary}
 use Rattle.pp_types_laws.specs.Sites.{HaveSitesApart}
 use Rattle.pp_types_laws.specs.Sizes.{HaveFewCases, nodes_of_units}
 use Rattle.pp_types_laws.specs.Typing.{HasTyping}
@@ -19,9 +19,9 @@ use Rattle.pp_types_laws.specs.Typing.{HasTyping}
 abbrev pub TypingsAreUnique : Type 0
 TypingsAreUnique = (units : List UnitTree) (t u : Typed) → HasTyping units t → HasTyping units u → t ≡ u
 
--- a typing of ordinary units is well sorted, and each root has a value at all its arguments
+-- a typing of units whose numbers are Ints is well sorted, and each root has a value at all its arguments
 abbrev pub TypingsAreSorted : Type 0
-TypingsAreSorted = (units : List UnitTree) (t : Typed) → AreOrdinary units → HasTyping units t → IsWellSorted t
+TypingsAreSorted = (units : List UnitTree) (t : Typed) → UnitsInts units → HasTyping units t → IsWellSorted t
 
 -- each offset of a typing is one of the units, in the same source: it passes each test that all of theirs pass
 abbrev pub OffsetsAreKept : Type 0

@@ -2,7 +2,6 @@ pub mod Fault
 pub mod Laws
 pub mod Literals
 pub mod Offsets
-pub mod Ordinary
 pub mod Ranges
 pub mod Sites
 pub mod Sizes

@@ -1,6 +1,10 @@
 -- Which trees have Ints as their numbers: from -2^31 to 2^31 - 1. Source: Scala Language Specification 1.3.1.
-use Rattle.std.specs.Prelude.{List, [], ◌∷◌, Option, Some, None, IsTrue}
-use Rattle.pp_tree.specs.Plain.{PatternTree, any, int_pattern, bool_pattern, ctor_pattern, PatternTrees, no_patterns, more_patterns, Tree, int, bool, name, apply, field, unary, binary, choice, matching, val_in, assert_in, Trees, no_trees, more_trees, CaseTrees, no_cases, plain_case, guarded_case, PostTree, DefTree}
+use Rattle.std.specs.Prelude.{List, [], ◌∷◌, Option, Some, None, IsTrue, All}
+use Rattle.pp_declared.specs.Listed.{DefIn, decls_in, defs_of}
+use Rattle.pp_tree.specs.Plain.{PatternTree, any, int_pattern, bool_pattern, ctor_pattern, PatternTrees, no_patterns}
+use Rattle.pp_tree.specs.Plain.{more_patterns, Tree, int, bool, name, apply, field, unary, binary, choice, matching}
+use Rattle.pp_tree.specs.Plain.{val_in, assert_in, Trees, no_trees, more_trees, CaseTrees, no_cases, plain_case}
+use Rattle.pp_tree.specs.Plain.{guarded_case, PostTree, DefTree, UnitTree}
 use Rattle.pp_typed.specs.Sorted.{is_int}
 
 abbrev mutual
@@ -48,3 +52,10 @@ PostInts (Some p) = ExprInts p.claim
 -- the numbers of a function's contracts and body
 abbrev pub DefInts : DefTree → Type 0
 DefInts d = ListInts d.pre × ListInts d.measure × ExprInts d.body × PostInts d.post
+
+-- the numbers of functions, and of units
+abbrev pub DefsInts : List DefIn → Type 0
+DefsInts = All (λ (d : DefIn). DefInts d.def)
+
+abbrev pub UnitsInts : List UnitTree → Type 0
+UnitsInts units = DefsInts (defs_of (decls_in units))

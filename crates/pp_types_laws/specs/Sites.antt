@@ -2,7 +2,9 @@
 -- Source: own.
 use Rattle.std.specs.Prelude.{◌≡◌, ℕ, List, [], ◌∷◌, ◌++◌, Option, Some, None, All, slice_get}
 use Rattle.pp_declared.specs.Listed.{DefIn, decls_in, defs_of}
-use Rattle.pp_tree.specs.Plain.{Tree, int, bool, name, apply, field, unary, binary, choice, matching, val_in, assert_in, Trees, no_trees, more_trees, CaseTrees, no_cases, plain_case, guarded_case, PostTree, DefTree, UnitTree}
+use Rattle.pp_tree.specs.Plain.{Tree, int, bool, name, apply, field, unary, binary, choice, matching, val_in, assert_in}
+use Rattle.pp_tree.specs.Plain.{Trees, no_trees, more_trees, CaseTrees, no_cases, plain_case, guarded_case, PostTree}
+use Rattle.pp_tree.specs.Plain.{DefTree, UnitTree}
 use Rattle.pp_typed.specs.Apart.{Mark, a_call, a_match, an_assertion, operator_mark}
 
 -- in a source

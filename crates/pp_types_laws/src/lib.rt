@@ -2,18 +2,19 @@
 //! nothing.
 //!
 //! `specs/Typing.antt` says which units have which typing, and `specs/Fault.antt` which rules units break at which
-//! place. `specs/Ordinary.antt`, `specs/Offsets.antt`, `specs/Sizes.antt` and `specs/Sites.antt` say what the laws
+//! place. `specs/Literals.antt`, `specs/Offsets.antt`, `specs/Sizes.antt` and `specs/Sites.antt` say what the laws
 //! suppose of units.
 #![tactic(auto)]
 
-ghost use Rattle.pp_types_laws.specs.Laws.{FaultsAreInPlace, NodesAreKept, OffsetsAreKept, TypingsAreApart, TypingsAreSmall, TypingsAreSorted, TypingsAreUnique, TypingsStand};
+ghost use Rattle.pp_types_laws.specs.Laws.{FaultsAreInPlace, NodesAreKept, OffsetsAreKept, TypingsAreApart};
+ghost use Rattle.pp_types_laws.specs.Laws.{TypingsAreSmall, TypingsAreSorted, TypingsAreUnique, TypingsStand};
 
 /// Units have at most one typing.
 pub fn typings_are_unique()
     ensures { TypingsAreUnique }
 {}
 
-/// The typing of ordinary units, with plain names and numbers that are Ints, is well sorted.
+/// The typing of units whose numbers are Ints is well sorted.
 pub fn typings_are_sorted()
     ensures { TypingsAreSorted }
 {}

@@ -4,11 +4,6 @@ use Rattle.pp_front.specs.Refuses.{breaks_rules, too_many}
 use Rattle.pp_ordinary.proofs.Fit.{typing_fit}
 use Rattle.pp_front.proofs.accepting.accept_typed.Goals as goal
 
-pub program-requires-clause-sorted : goal.program-requires-clause-sorted
-program-requires-clause-sorted c =
-    let t = c.requires.typing in
-    (typing_fit c.args.texts.now t.units c.args.typed.now c.requires.short (each_spells t.spelled) t.typing).sorted
-
 pub program-requires-clause-small : goal.program-requires-clause-small
 program-requires-clause-small c =
     let t = c.requires.typing in

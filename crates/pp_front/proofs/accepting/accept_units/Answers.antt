@@ -16,8 +16,10 @@ typed-requires-clause-few c =
     omega arith
 
 pub typed-requires-clause-stand : goal.typed-requires-clause-stand
-typed-requires-clause-stand c = offsets_stand c.args.texts.now (units_of c.args.units.now) (each_spells c.requires.spelled)
+typed-requires-clause-stand c = offsets_stand c.args.texts.now (units_of c.args.units.now)
+    (each_spells c.requires.spelled)
 
 pub returns-in-Err-clause-refused : goal.returns-in-Err-clause-refused
 returns-in-Err-clause-refused c =
-    on_line c.in-Err.refusal c.in-Err.ensures.refused (λ line bad. untyped (units_of c.args.units.now) c.requires.spelled bad)
+    on_line c.in-Err.refusal c.in-Err.ensures.refused (λ line bad. untyped (units_of c.args.units.now)
+    c.requires.spelled bad)

@@ -13,7 +13,8 @@ returns-in-Err-clause-refused c =
     let inv = c.loop-bytes.invariant in
     on_line c.in-Err.refusal c.in-Err.ensures.refused
     (λ line bad. refused_next c.args.sources.now c.loop-bytes.bytes-index c.bytes-item.result c.deref.result.now line
-    c.loop-bytes.texts.items c.loop-bytes-test.true (c.deref.ensures.value ∙ ap (λ v. v.items) c.bytes-item.is) inv.0 inv.1 bad)
+    c.loop-bytes.texts.items c.loop-bytes-test.true (c.deref.ensures.value ∙ ap (λ v. v.items) c.bytes-item.is) inv.0
+    inv.1 bad)
 
 pub loop-bytes-preserved : goal.loop-bytes-preserved
 loop-bytes-preserved c =

@@ -1,6 +1,7 @@
-use Rattle.std.proofs.Common.{List, [], length, get_or, Contains, sym, ap, ◌∙◌, subst, arith}
+use Rattle.std.proofs.Common.{List, [], get_or, Contains, refl, sym, ◌∙◌, subst}
 use Rattle.std.proofs.lemmas.List.Elements.{Contains-get_or}
 use Rattle.pp_instances.proofs.Kept.{nothing_in}
+use Rattle.pp_mono.proofs.Few.{few_checks}
 use Rattle.pp_mono.proofs.Made.{is_concrete, is_valid, made_program}
 use Rattle.pp_mono.specs.Concrete.{IsConcrete}
 use Rattle.pp_prog.specs.Valid.{IsValid}
@@ -20,18 +21,26 @@ checks_of-requires-clause-stand c =
     (λ d has. absurd (nothing_in d (subst (λ (s : List CheckAt). Contains s d) c.new-sites.ensures has))) in
     λ k d lt. stand (get_or sites k d) (Contains-get_or sites k d lt)
 
+pub checks_of-requires-clause-few : goal.checks_of-requires-clause-few
+checks_of-requires-clause-few c =
+    let made = subst (λ (s : List CheckAt). TranslatesDefs c.args.typed.now (setting c.in_ok-target.target) c.args.texts.now
+    c.args.functions.now c.in_ok-functions.functions c.new-sites.result s) (sym c.as_slice.ensures) c.in_ok-functions.ensures in
+    few_checks c.args.typed.now (setting c.in_ok-target.target) c.args.texts.now c.args.functions.now
+    c.in_ok-functions.functions c.new-sites.result c.as_slice.result.now c.requires.small
+    c.requires.instances.few_functions c.new-sites.ensures made
+
 pub of-requires : goal.of-requires
 of-requires c =
     let none = subst (λ (s : List CheckAt). TranslatesDefs c.args.typed.now (setting c.in_ok-target.target) c.args.texts.now
     c.args.functions.now c.in_ok-functions.functions s c.functions_of.new.checks) c.new-sites.ensures c.in_ok-functions.ensures in
     let made = subst (λ (s : List CheckAt). TranslatesDefs c.args.typed.now (setting c.in_ok-target.target) c.args.texts.now
     c.args.functions.now c.in_ok-functions.functions [] s) (sym c.as_slice.ensures) none in
-    let few = c.if-len.false in
-    let len = c.len.ensures in
-    let same = ap length c.as_slice.ensures in
-    subst (λ (l : List Check). IsValid c.in_ok-target.target.types c.in_ok-functions.functions l) (sym c.in_ok-checks.ensures)
+    let few = few_checks c.args.typed.now (setting c.in_ok-target.target) c.args.texts.now c.args.functions.now
+    c.in_ok-functions.functions [] c.as_slice.result.now c.requires.small c.requires.instances.few_functions refl made in
+    subst (λ (l : List Check). IsValid c.in_ok-target.target.types c.in_ok-functions.functions l)
+    (sym c.in_ok-checks.ensures)
     (is_valid c.args.typed.now c.args.texts.now c.args.functions.now c.args.roots.now c.requires.instances
-    c.in_ok-target.target c.in_ok-target.ensures c.in_ok-functions.functions c.as_slice.result.now made (omega arith))
+    c.in_ok-target.target c.in_ok-target.ensures c.in_ok-functions.functions c.as_slice.result.now made few)
 
 pub returns : goal.returns
 returns c =
@@ -39,7 +48,9 @@ returns c =
     c.args.functions.now c.in_ok-functions.functions s c.functions_of.new.checks) c.new-sites.ensures c.in_ok-functions.ensures in
     let made = subst (λ (s : List CheckAt). TranslatesDefs c.args.typed.now (setting c.in_ok-target.target) c.args.texts.now
     c.args.functions.now c.in_ok-functions.functions [] s) (sym c.as_slice.ensures) none in
-    made_program (IsConcrete c.args.typed.now c.args.texts.now) c.of.result c.of.ensures.types c.of.ensures.functions c.of.ensures.checks
+    made_program (IsConcrete c.args.typed.now c.args.texts.now) c.of.result c.of.ensures.types c.of.ensures.functions
+    c.of.ensures.checks
     (λ p types functions checks. is_concrete c.args.typed.now c.args.texts.now c.args.functions.now c.args.roots.now
-    c.requires.instances c.in_ok-target.target c.in_ok-target.ensures c.in_ok-functions.functions c.as_slice.result.now made
+    c.requires.instances c.in_ok-target.target c.in_ok-target.ensures c.in_ok-functions.functions c.as_slice.result.now
+    made
     p types functions (checks ∙ c.in_ok-checks.ensures))
