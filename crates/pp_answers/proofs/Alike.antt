@@ -28,7 +28,7 @@ module _ (p q : Program) (alike : AreAlike p q) where
       subst (λ (t : TypeTable). IsGood t.ctors q.functions f) alike.types
       (subst (λ fs. IsGood p.types.ctors fs f) alike.functions h)
 
-  abbrev check_there : (i c : ℕ) → IsCheckOf p i c → IsCheckOf q i c
+  abbrev pub check_there : (i c : ℕ) → IsCheckOf p i c → IsCheckOf q i c
   check_there i c own = record {
     check = own.check;
     listed = ap (λ cs. slice_get cs c) (sym alike.checks) ∙ own.listed;
@@ -79,7 +79,7 @@ module _ (p q : Program) (alike : AreAlike p q) (limits : Limits) (i : ℕ) (f :
             alike.types;
       }
 
-  none_there : (c : CheckId) (n d : ℕ) → NoLowRunFails p i c n d → NoLowRunFails q i c n d
+  pub none_there : (c : CheckId) (n d : ℕ) → NoLowRunFails p i c n d → NoLowRunFails q i c n d
   none_there c n d none g args called low fails =
       none g args (called_there q p (swapped alike) i g args called) low (same_run p q alike g args n ∙ fails)
 

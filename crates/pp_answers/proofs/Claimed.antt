@@ -16,7 +16,7 @@ use Rattle.pp_modes.specs.Verdicts.{AnswersVerify}
 use Rattle.pp_prog.specs.declared.expr.Function.{Function}
 use Rattle.pp_prog.specs.declared.program.Program.{Program}
 
-of_verify : (p : Program) (limits : Limits) {r : Response} → AnswersTask p (verify_within limits) r
+pub of_verify : (p : Program) (limits : Limits) {r : Response} → AnswersTask p (verify_within limits) r
     → AnswersVerify p limits r
 of_verify p limits (verifies a) = a
 

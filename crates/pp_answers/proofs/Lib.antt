@@ -7,3 +7,4 @@ pub mod Alike
 pub mod Meaning
 pub mod Statuses
 pub mod Claimed
+pub mod Readings

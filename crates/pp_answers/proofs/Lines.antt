@@ -5,7 +5,7 @@ use Rattle.std.specs.Prelude.{Option, None, Some, nat_eq, slice_get}
 use Rattle.std.proofs.lemmas.Bool.{and_parts, eqb-true}
 use Rattle.std.proofs.lemmas.Option.{slice_get_within}
 use Rattle.pp_answers.specs.Claims.{Says}
-use Rattle.pp_induct.specs.Reports.{AreEnds, IsInvalidIn, IsSearched}
+use Rattle.pp_induct.specs.Reports.{AreEnds, IsInvalidIn, IsSearched, IsWhy}
 use Rattle.pp_induct.specs.Verdicts.{IsFirstEnded, IsVerdict, ended, is_invalid, is_of, is_open}
 use Rattle.pp_induct.specs.declared.ends.CheckEnd.{CheckEnd}
 use Rattle.pp_induct.specs.declared.ends.CheckEnd.TheVariants as end
@@ -18,9 +18,11 @@ use Rattle.pp_modes.specs.Responses.{Response, lines_in}
 use Rattle.pp_modes.specs.Verdicts.{AnswersVerify, check_text, depending_text, reason_of, summary_by, verdict_lines}
 use Rattle.pp_modes.specs.Verdicts.{verdict_text}
 use Rattle.pp_print.specs.Lines.{depends_text, invalid_text, open_text, valid_text}
+use Rattle.pp_prog.specs.Cone.{InCone}
 use Rattle.pp_prog.specs.declared.check.Check.{Check}
 use Rattle.pp_prog.specs.declared.expr.Function.{Function}
 use Rattle.pp_prog.specs.declared.id.CheckId.{CheckId}
+use Rattle.pp_prog.specs.declared.id.FunctionId.{FunctionId}
 use Rattle.pp_prog.specs.declared.program.Program.{Program}
 use Rattle.pp_prog.specs.declared.value.Value.{Value}
 use Rattle.pp_sound.specs.Sound.{IsCheckOf}
@@ -54,15 +56,18 @@ module _ (p : Program) (limits : Limits) (i : ℕ) (f : Function) (line : List �
     pub searched : Option ℕ
     pub why : Why
     pub ended : IsSearched p limits i c searched
+    pub because : IsWhy p limits i c searched why
     pub text : line ≡ open_text f.name searched own.check.kind own.check.place (reason_of why)
 
-  pub record IsDepending : Type 0 where
+  pub record IsDepending (g : FunctionId) : Type 0 where
     pub on : Function
+    pub here : slice_get p.functions g.0 ≡ Some on
+    pub cone : InCone p.functions i g.0
     pub text : line ≡ depends_text f.name on.name (own_checks i p.checks)
 
   abbrev pub Tells : Verdict → Type 0
   Tells Valid = line ≡ valid_text f.name (own_checks i p.checks)
-  Tells (Depends g) = IsDepending
+  Tells (Depends g) = IsDepending g
   Tells (Invalid c) = IsFailed c
   Tells (Open c) = IsOpen c
 
@@ -72,8 +77,8 @@ pub says_valid : (f : Function) (line : List ℕ) (checks : ℕ) → line ≡ va
     → Says (codes ": valid, ") f line
 says_valid f line checks is = (_, is)
 
-pub says_depends : (p : Program) (limits : Limits) (i : ℕ) (f : Function) (line : List ℕ)
-    → IsDepending p limits i f line → Says (codes ": depends on ") f line
+pub says_depends : (p : Program) (limits : Limits) (i : ℕ) (f : Function) (line : List ℕ) {g : FunctionId}
+    → IsDepending p limits i f line g → Says (codes ": depends on ") f line
 says_depends p limits i f line t = (_, t.text)
 
 pub says_invalid : (p : Program) (limits : Limits) (i : ℕ) (f : Function) (line : List ℕ) (c : CheckId)
@@ -143,6 +148,8 @@ module _ (p : Program) (limits : Limits) (ends : List CheckEnd) (are : AreEnds p
         why = w;
         ended = subst (λ k. IsSearched p limits k c searched) found.owner
             (are c.0 found.check (end.Open searched w) found.listed here).0;
+        because = subst (λ k. IsWhy p limits k c searched w) found.owner
+            (are c.0 found.check (end.Open searched w) found.listed here).1;
         text = is ∙ ap (λ o. check_text p f o (slice_get ends c.0)) found.listed
             ∙ ap (check_text p f (Some found.check)) here;
       }
@@ -151,7 +158,12 @@ module _ (p : Program) (limits : Limits) (ends : List CheckEnd) (are : AreEnds p
   tells Valid so is = is
   tells (Depends g) so is =
       let on = within p.functions g.0 so.2.undone.0 in
-      record { on = on.0; text = is ∙ ap (depending_text f (own_checks i p.checks)) on.1 }
+      record {
+        on = on.0;
+        here = on.1;
+        cone = so.2.undone.1;
+        text = is ∙ ap (depending_text f (own_checks i p.checks)) on.1;
+      }
   tells (Invalid c) so is =
       let found = first_end p.checks ends _ i c.0 so in
       failed c found found.end refl is

@@ -10,7 +10,7 @@ use Rattle.pp_answers.proofs.Once.{AreAlike, one_program, swapped}
 use Rattle.pp_answers.specs.Answers.{accepted, refused}
 use Rattle.pp_answers.specs.Claims.{IsStatusOf, all_valid, some_invalid, some_open}
 use Rattle.pp_answers.specs.Laws as laws
-use Rattle.pp_answers.specs.Laws.{Agree, IsVerdict, IsVerify, OneStatus, RunsAreRuns, StaysOpen, is_verify}
+use Rattle.pp_answers.specs.Laws.{Agree, IsOnVerdicts, IsVerify, OneStatus, RunsAreRuns, StaysOpen, is_verify}
 use Rattle.pp_eval.proofs.Lasts.{lasts}
 use Rattle.pp_eval.specs.Runs.{IsGood, run as run_of}
 use Rattle.pp_eval.specs.declared.outcome.Outcome.{Outcome}
@@ -142,7 +142,7 @@ never_both p q alike l m r s a b (all_valid all) (some_invalid i one) =
     good_never_fails p i failure.number failure.fuel m.depth failure.args fails valid.function valid.here
     (told_good p l r a i valid.function valid.line valid.here valid.there valid.says)
 
-pub is_verdict : (fs : List Function) (lines : List (List ℕ)) (s : Status) → IsStatusOf fs lines s → IsVerdict s
+pub is_verdict : (fs : List Function) (lines : List (List ℕ)) (s : Status) → IsStatusOf fs lines s → IsOnVerdicts s
 is_verdict fs lines s (all_valid all) = laws.all_valid
 is_verdict fs lines s (some_invalid i one) = laws.some_invalid
 is_verdict fs lines s (some_open none i one) = laws.some_open

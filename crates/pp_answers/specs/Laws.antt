@@ -2,12 +2,15 @@
 use Rattle.std.specs.Prelude.{◌≡◌, ◌⊎◌, ℕ, List, [], Some, slice_get}
 use Rattle.pp_answers.specs.Answers.{Answers, IsAccepted}
 use Rattle.pp_answers.specs.Claims.{AreLinesOf, Claim, InvalidFails, OpenIsSearched, ValidIsGood}
+use Rattle.pp_answers.specs.Readings.{IsReadBack}
 use Rattle.pp_eval.specs.Runs.{run as run_of}
+use Rattle.pp_induct.specs.Reports.{AreLimits}
 use Rattle.pp_induct.specs.declared.limits.Limits.{Limits}
 use Rattle.pp_modes.specs.Responses.{Response, lines_in, status_in}
 use Rattle.pp_modes.specs.Runs.{IsAsked, outcome_report}
 use Rattle.pp_modes.specs.declared.status.Status.{Status}
 use Rattle.pp_modes.specs.declared.status.Status.TheVariants as status
+use Rattle.pp_ordinary.specs.Laws.{AreShort}
 use Rattle.pp_prog.specs.declared.expr.Function.{Function}
 use Rattle.pp_prog.specs.declared.program.Program.{Program}
 use Rattle.pp_words.specs.Task.{Task, run, verify}
@@ -23,15 +26,15 @@ pub data IsVerify : Task → Type 0 where
   is_verify : (limits : Limits) → IsVerify (verify_within limits)
 
 -- a status on the verdicts of functions
-pub data IsVerdict : Status → Type 0 where
-  all_valid : IsVerdict status.AllValid
-  some_invalid : IsVerdict status.SomeInvalid
-  some_open : IsVerdict status.SomeOpen
+pub data IsOnVerdicts : Status → Type 0 where
+  all_valid : IsOnVerdicts status.AllValid
+  some_invalid : IsOnVerdicts status.SomeInvalid
+  some_open : IsOnVerdicts status.SomeOpen
 
 -- two statuses on verdicts, by one of which some function stays open
 pub record StaysOpen (s t : Status) : Type 0 where
-  pub one : IsVerdict s
-  pub other : IsVerdict t
+  pub one : IsOnVerdicts s
+  pub other : IsOnVerdicts t
   pub either : (s ≡ status.SomeOpen) ⊎ (t ≡ status.SomeOpen)
 
 -- the two statuses are one; or functions are verified, of which some stay open in one of two reports
@@ -52,14 +55,14 @@ OneLineEach = (limits : Limits) (sources : List (List ℕ)) (r : Response) → A
 
 -- the claim is true of the line of each function of the program of the sources
 abbrev pub EachLine : List (List ℕ) → List (List ℕ) → Claim → Type 0
-EachLine sources lines IsTrue =
+EachLine sources lines claim =
     (p : Program) → IsAccepted sources p → (i : ℕ) (f : Function) (line : List ℕ) → slice_get p.functions i ≡ Some f
-    → slice_get lines i ≡ Some line → IsTrue p i f line
+    → slice_get lines i ≡ Some line → claim p i f line
 
 -- it is true of each line that is answered
 abbrev pub IsAlwaysTrue : (Limits → Claim) → Type 0
-IsAlwaysTrue IsTrue = (limits : Limits) (sources : List (List ℕ)) (r : Response)
-    → Answers (verify_within limits) sources r → EachLine sources (lines_in r) (IsTrue limits)
+IsAlwaysTrue claim = (limits : Limits) (sources : List (List ℕ)) (r : Response)
+    → Answers (verify_within limits) sources r → EachLine sources (lines_in r) (claim limits)
 
 -- a function is called valid only where it is good: every call that meets the precondition evaluates, with some fuel,
 -- to a value that meets the postcondition
@@ -74,6 +77,13 @@ InvalidMeansFailed = IsAlwaysTrue InvalidFails
 -- nested at most so deep
 abbrev pub OpenMeansSearched : Type 0
 OpenMeansSearched = IsAlwaysTrue OpenIsSearched
+
+-- within limits in their ranges and for sources that aren't too many or too long, what is read back from the line of a
+-- function is what was printed, and it is true: the verdict, the function that is named, the check, the arguments, the
+-- round and the reason
+abbrev pub LinesReadBack : Type 0
+LinesReadBack = (limits : Limits) (sources : List (List ℕ)) (r : Response) → AreLimits limits → AreShort sources
+    → Answers (verify_within limits) sources r → EachLine sources (lines_in r) (IsReadBack limits)
 
 -- ---- mode `run`
 

@@ -1,7 +1,7 @@
 //! What answers mean: each function does nothing, and its contract is the law.
 
-ghost use Rattle.pp_answers.specs.Laws.{InvalidMeansFailed, OneLineEach, OneStatus, OpenMeansSearched, RunsAreRuns};
-ghost use Rattle.pp_answers.specs.Laws.{ValidMeansGood};
+ghost use Rattle.pp_answers.specs.Laws.{InvalidMeansFailed, LinesReadBack, OneLineEach, OneStatus};
+ghost use Rattle.pp_answers.specs.Laws.{OpenMeansSearched, RunsAreRuns, ValidMeansGood};
 
 /// A task and sources have one status, as far as functions that are verified don't stay open. It does nothing: its
 /// contract is the law.
@@ -13,6 +13,12 @@ pub fn one_status()
 /// law.
 pub fn one_line_each()
     ensures { OneLineEach }
+{}
+
+/// The line of a function prints one verdict, with one check, one list of arguments, one round and one reason, and no
+/// other, and what it says is true. It does nothing: its contract is the law.
+pub fn lines_read_back()
+    ensures { LinesReadBack }
 {}
 
 /// A function is called valid only where it is good: every call that meets the precondition evaluates, with some fuel,

@@ -6,12 +6,12 @@ use Rattle.std.proofs.lemmas.List.Elements.{All-contains}
 use Rattle.std.proofs.lemmas.Option.{slice_get-get_or, slice_get-map}
 use Rattle.pp_check_places.proofs.Apart.{one_place}
 use Rattle.pp_check_places.proofs.Offsets.{place_tells_offset}
-use Rattle.pp_check_places.proofs.Rows.{Kind, Rises, Row, entry_kind, placed, row_kind, rows_of}
+use Rattle.pp_check_places.proofs.Rows.{AreRows, Kind, Rises, Row, entry_kind, placed, row_kind, rows_of}
 use Rattle.pp_instances.specs.Order.{MemberOf, Precedes}
 use Rattle.pp_instances.specs.declared.member.Decl.TheVariants.{Function}
 use Rattle.pp_instances.specs.declared.member.Instance.{Instance}
 use Rattle.pp_instances.specs.declared.member.Member.{Member}
-use Rattle.pp_mono.specs.Concrete.{function_members, place_of_check, root_members}
+use Rattle.pp_mono.specs.Concrete.{IsConcrete, function_members, place_of_check, root_members}
 use Rattle.pp_mono.specs.Laws.{PlacesTellChecks}
 use Rattle.pp_order.proofs.Laws.{mapped}
 use Rattle.pp_order.proofs.Listing.{at_place}
@@ -22,7 +22,8 @@ use Rattle.pp_prog.specs.declared.place.Place.{Place}
 use Rattle.pp_prog.specs.declared.program.Program.{Program}
 use Rattle.pp_text.specs.Place.{place_of}
 use Rattle.pp_translation.specs.Functions.{place_at, place_in_text}
-use Rattle.pp_typed.specs.Stand.{Offset, Stands}
+use Rattle.pp_typed.specs.Apart.{AreApart}
+use Rattle.pp_typed.specs.Stand.{Offset, Stands, TypedStands}
 use Rattle.pp_typed.specs.declared.typed.Typed.{Typed}
 use Rattle.pp_validity.proofs.Placed.{some_same}
 
@@ -92,29 +93,52 @@ module _ (typed : Typed) (texts : List (List ℕ)) (p : Program) (roots function
       ∙ ap (λ l. slice_get l i) places ∙ slice_get-map place_of_check p.checks i ∙ ap (option_map place_of_check) at in
       record { row = r.0; there = r.1; kind = r.2; place = some_same place_there }
 
+-- ---- the rows of a program
+
+module _ (typed : Typed) (texts : List (List ℕ)) (p : Program) (stands : TypedStands texts typed)
+    (apart : AreApart typed) (concrete : IsConcrete typed texts p) where
+  abbrev roots_in : List Member
+  roots_in = root_members concrete.roots
+
+  abbrev functions_in : List Member
+  functions_in = function_members concrete.functions
+
+  all_rows : AreRows typed texts p roots_in functions_in 0 p.functions concrete.functions
+  all_rows =
+      rows_of typed texts p roots_in functions_in apart.apart stands 0 p.functions concrete.functions
+      concrete.has_functions p.sorted
+      (rises concrete.functions
+      (λ m n x y lt one other. precedes_up typed Function x y
+      (concrete.listed.functions.in_order m n x y lt one other)))
+
+  own_row : (i : ℕ) (c : Check) → slice_get p.checks i ≡ Some c
+      → IsRowOf typed texts p roots_in functions_in all_rows.rows i c
+  own_row =
+      row_of typed texts p roots_in functions_in all_rows.rows
+      (all_rows.kinds ∙ ap (map entry_kind) (sym (is_valid p).listed)) (all_rows.places ∙ sym concrete.has_places)
+
+  -- the offset of a row
+  row_stands : (i : ℕ) (c : Check) (r : IsRowOf typed texts p roots_in functions_in all_rows.rows i c)
+      → Stands texts r.row.1.1
+  row_stands i c r = all_rows.stands r.row (at_place all_rows.rows i r.row r.there)
+
+  -- each check is placed at an offset of a text
+  pub checks_stand : (i : ℕ) (c : Check) → slice_get p.checks i ≡ Some c
+      → (o : Offset) × Stands texts o × (place_at texts o ≡ c.place)
+  checks_stand i c at = let r = own_row i c at in (r.row.1.1, row_stands i c r, r.place)
+
 pub places_tell_checks : PlacesTellChecks
 places_tell_checks typed texts p stands apart utf8 concrete i j a b there here same_function same_kind same_place =
-    let valid = is_valid p in
-    let roots = root_members concrete.roots in
-    let functions = function_members concrete.functions in
-    let up = rises concrete.functions
-    (λ m n x y lt one other. precedes_up typed Function x y
-    (concrete.listed.functions.in_order m n x y lt one other)) in
-    let all = rows_of typed texts p roots functions apart.apart stands 0 p.functions concrete.functions
-    concrete.has_functions p.sorted up in
-    let kinds : map row_kind all.rows ≡ map entry_kind (map entry p.checks) =
-    all.kinds ∙ ap (map entry_kind) (sym valid.listed) in
-    let places : map (placed typed texts p roots functions) all.rows ≡ map place_of_check p.checks =
-    all.places ∙ sym concrete.has_places in
-    let r = row_of typed texts p roots functions all.rows kinds places i a there in
-    let q = row_of typed texts p roots functions all.rows kinds places j b here in
+    let all = all_rows typed texts p stands apart concrete in
+    let r = own_row typed texts p stands apart concrete i a there in
+    let q = own_row typed texts p stands apart concrete j b here in
     let numbers : r.row.0 ≡ q.row.0 =
     ap (λ (k : Kind). k.0) r.kind ∙ ap (λ f. f.0) same_function ∙ sym (ap (λ (k : Kind). k.0) q.kind) in
     let of : r.row.1.0 ≡ q.row.1.0 =
     ap (λ (k : Kind). k.1) r.kind ∙ same_kind ∙ sym (ap (λ (k : Kind). k.1) q.kind) in
     let offsets : r.row.1.1 ≡ q.row.1.1 =
-    same_offset texts r.row.1.1 q.row.1.1 utf8 (all.stands r.row (at_place all.rows i r.row r.there))
-    (all.stands q.row (at_place all.rows j q.row q.there)) (r.place ∙ same_place ∙ sym q.place) in
+    same_offset texts r.row.1.1 q.row.1.1 utf8 (row_stands typed texts p stands apart concrete i a r)
+    (row_stands typed texts p stands apart concrete j b q) (r.place ∙ same_place ∙ sym q.place) in
     let rows : r.row ≡ q.row =
     ap (λ n. (n, r.row.1)) numbers ∙ ap (λ k. (q.row.0, (k, r.row.1.1))) of
     ∙ ap (λ o. (q.row.0, (q.row.1.0, o))) offsets in

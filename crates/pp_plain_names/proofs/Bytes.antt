@@ -1,7 +1,7 @@
--- The bytes of a name: none is that of a comma or of a square bracket.
+-- The bytes of a name: those of ASCII are letters, digits and underscores.
 use lib.Utf8.{encode, encodes, next}
 use lib.Dec.{ltb}
-use Rattle.std.proofs.Common.{◌≡◌, ◌≢◌, ◌∙◌, ◌<◌, ◌≤◌, ◌+◌, ◌/◌, ◌==◌, ◌||◌, ◌&&◌, ℕ, Bool, true, false, cond, List}
+use Rattle.std.proofs.Common.{◌≡◌, ◌∙◌, ◌<◌, ◌≤◌, ◌+◌, ◌/◌, ◌==◌, ◌||◌, ℕ, Bool, true, false, cond, List}
 use Rattle.std.proofs.Common.{[], ◌∷◌, ◌++◌, drop, refl, subst, sym, arith, inl, inr}
 use Rattle.std.specs.Char.{is_ascii_alphanumeric}
 use Rattle.std.specs.List.{list_all}
@@ -11,25 +11,17 @@ use Rattle.pp_tokens.specs.Characters.{goes_on_with, starts_name}
 use Rattle.pp_tokens.proofs.Booleans.{and_left, and_right, one_of, same_number}
 use Rattle.pp_tokens.proofs.Every.{Every}
 
--- not a comma, `[` or `]`
+-- a letter, a digit or an underscore, if it is one of ASCII
 abbrev pub IsFree : ℕ → Type 0
-IsFree b = (b ≢ 44) × (b ≢ 91) × (b ≢ 93)
+IsFree b = b < 128 → (is_ascii_alphanumeric b || (b == 95)) ≡ true
 
 -- ---- characters
 
-no_mark : (c mark : ℕ) → mark < 128 → (is_ascii_alphanumeric mark || (mark == 95)) ≡ false → is_xid_continue c ≡ true
-    → c ≢ mark
-no_mark c mark low other goes same =
-    let there : is_xid_continue mark ≡ true = subst (λ (x : ℕ). is_xid_continue x ≡ true) same goes in
-    let no : true ≡ false = sym there ∙ is_xid_continue-ascii mark low ∙ other in
-    cc
-
-pub continue_free : (c : ℕ) → is_xid_continue c ≡ true → IsFree c
-continue_free c goes =
-    (no_mark c 44 (omega arith) refl goes, no_mark c 91 (omega arith) refl goes, no_mark c 93 (omega arith) refl goes)
+continue_free : (c : ℕ) → is_xid_continue c ≡ true → IsFree c
+continue_free c goes low = sym (is_xid_continue-ascii c low) ∙ goes
 
 underscore_free : (c : ℕ) → c ≡ 95 → IsFree c
-underscore_free c is = ((λ e. absurd (omega arith)), (λ e. absurd (omega arith)), (λ e. absurd (omega arith)))
+underscore_free c is low = subst (λ x. (is_ascii_alphanumeric x || (x == 95)) ≡ true) (sym is) refl
 
 start_free : (c : ℕ) → starts_name c ≡ true → IsFree c
 start_free c starts = elim (one_of (is_xid_start c) (c == 95) starts) [
@@ -53,7 +45,7 @@ name_free (c ∷ cs) starts goes = (start_free c starts, all_continue cs goes)
 -- ---- bytes
 
 high_free : (b : ℕ) → 128 ≤ b → IsFree b
-high_free b high = ((λ e. absurd (omega arith)), (λ e. absurd (omega arith)), (λ e. absurd (omega arith)))
+high_free b high low = absurd (omega arith)
 
 next_free : (bits : ℕ) → IsFree (next bits)
 next_free bits = high_free (next bits) (omega arith)

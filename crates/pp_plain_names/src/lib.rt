@@ -1,8 +1,20 @@
-//! Why the declared names of a unit are plain: none has a comma or a square bracket, so a printed type, as
-//! `Map[Int, List[A]]`, tells its parts. The function does nothing: its contract is the law.
+//! Why the declared names of a unit are plain: each is a word, so it has no comma or bracket, and a printed type, as
+//! `Map[Int, List[A]]`, and a printed value, as `Cons(1, Nil())`, tell their parts. Each function does nothing: its
+//! contract is the law.
 #![tactic(auto)]
 
-ghost use Rattle.pp_plain_names.specs.Laws.{DeclaredNamesArePlain};
+ghost use Rattle.pp_plain_names.specs.Laws.{DeclaredNamesArePlain, DeclaredNamesAreWords, DeclaredObjectsAreBare};
+
+/// In a name that a unit of a text declares the bytes of ASCII are letters, digits and underscores. It does nothing: its
+/// contract is the law.
+pub fn declared_names_are_words()
+    ensures { DeclaredNamesAreWords }
+{}
+
+/// A case object that a unit of a text declares has no fields. It does nothing: its contract is the law.
+pub fn declared_objects_are_bare()
+    ensures { DeclaredObjectsAreBare }
+{}
 
 /// A name that a unit of a text declares has none of `,`, `[` and `]`. It does nothing: its contract is the law.
 pub fn declared_names_are_plain()

@@ -1,0 +1,50 @@
+-- What is read back from the line of a function. Source: own.
+use Rattle.std.specs.Prelude.{◌≡◌, ◌<◌, ◌≤◌, ℕ, List, Option, Some, None}
+use Rattle.pp_answers.specs.Claims.{Claim}
+use Rattle.pp_eval.specs.Runs.{IsGood}
+use Rattle.pp_estimate.specs.Estimates.{estimate}
+use Rattle.pp_induct.specs.Reports.{next_round}
+use Rattle.pp_induct.specs.declared.limits.Limits.{Limits}
+use Rattle.pp_induction.specs.Ends.{NoLowRunFails}
+use Rattle.pp_line_contents.specs.Contents.{Content, Prints, depending, failed, left_open, valid}
+use Rattle.pp_modes.specs.Lists.{own_checks}
+use Rattle.pp_print.specs.declared.line.Reason.{Reason}
+use Rattle.pp_print.specs.declared.line.Reason.TheVariants as reason
+use Rattle.pp_prog.specs.Cone.{InCone}
+use Rattle.pp_prog.specs.declared.expr.Function.{Function}
+use Rattle.pp_prog.specs.declared.id.CheckId.{CheckId}
+use Rattle.pp_prog.specs.declared.program.Program.{Program}
+use Rattle.pp_sound.specs.Counterexample.{IsCounterexample}
+
+module _ (limits : Limits) (p : Program) (i : ℕ) (f : Function) where
+  -- after a round that is named no arguments up to the asked depth fail the check with this fuel
+  abbrev pub MeansSearched : Option ℕ → CheckId → Type 0
+  MeansSearched None c = Unit {0}
+  MeansSearched (Some n) c = (n ≤ limits.rounds) × NoLowRunFails p i c n limits.depth
+
+  -- `rounds`: all asked rounds were searched. `size`: the estimate of the next round, which is asked for, is above the
+  -- asked number of gates. `lemmas`: the next round is asked for.
+  abbrev pub MeansReason : Option ℕ → CheckId → Reason → Type 0
+  MeansReason searched c reason.Rounds = searched ≡ Some limits.rounds
+  MeansReason searched c reason.Size =
+      (next_round searched ≤ limits.rounds)
+      × (limits.gates < estimate p.types p.functions p.checks c.0 (next_round searched) limits.depth)
+  MeansReason searched c reason.Lemmas = next_round searched ≤ limits.rounds
+
+  -- What a content says of function number i. It has so many checks. If it is valid it is good: every call that meets
+  -- the precondition evaluates, with some fuel, to a value that meets the postcondition. The function on which it
+  -- depends is one that it reaches by calls. Arguments that are named are no higher than asked, and fail the named
+  -- check, with some fuel that is at most the asked rounds. A check that is open was searched as is said, and is open
+  -- for the reason that is said.
+  abbrev pub Means : Content → Type 0
+  Means (valid checks) = (checks ≡ own_checks i p.checks) × IsGood p.types.ctors p.functions f
+  Means (depending g checks) = (checks ≡ own_checks i p.checks) × InCone p.functions i g.0
+  Means (failed c args) = (fuel : ℕ) × (fuel ≤ limits.rounds) × IsCounterexample p i c fuel limits.depth args
+  Means (left_open searched c why) = MeansSearched searched c × MeansReason searched c why
+
+-- the line prints one content and no other, and what this says is true
+pub record IsReadBack (limits : Limits) (p : Program) (i : ℕ) (f : Function) (line : List ℕ) : Type 0 where
+  pub content : Content
+  pub printed : Prints p i f line content
+  pub only : (other : Content) → Prints p i f line other → other ≡ content
+  pub true_of : Means limits p i f content

@@ -1,0 +1,196 @@
+-- The constructors that units declare: their names are words, no two are the same, and case objects have no fields.
+use Rattle.std.proofs.Common.{◌≡◌, ◌∙◌, ℕ, zero, suc, true, false, List, [], ◌∷◌, All, Contains, refl, sym, ap}
+use Rattle.std.proofs.Common.{subst, option_map}
+use Rattle.std.specs.Prelude.{Some, slice_get}
+use Rattle.std.proofs.lemmas.List.Elements.{All-append, All-cons, All-nil, All-contains_itself}
+use Rattle.std.proofs.lemmas.Option.{get_or_from_slice_get, slice_get-map, slice_get_within}
+use Rattle.pp_declared.proofs.Steps.{all_first, all_rest}
+use Rattle.pp_declared.specs.Declares.{AreCtors, IsCtor, class_names, more_ctors, no_ctors, param_types, typed_root}
+use Rattle.pp_declared.specs.Listed.{ClassIn, DeclIn, DefIn, defs_of, ctor_of, ctors_of, decls_in, roots_of}
+use Rattle.pp_ordinary.proofs.Listed.{IfClass, IfDef, each_def, each_root, OfDecl, OfEachUnit, each_decl}
+use Rattle.pp_ordinary.specs.Spelled.{EachSpells}
+use Rattle.pp_plain_names.proofs.Names.{declared_names_are_words, declared_objects_are_bare}
+use Rattle.pp_plain_names.specs.Laws.{IsBareObject, IsWord, declared_name}
+use Rattle.pp_sorts.specs.IsSort.{AreSorts, more_sorts, no_sorts}
+use Rattle.pp_tree.specs.Plain.{ClassTree, DeclTree, TypeTrees, UnitTree, ctor, def, no_types, other, root}
+use Rattle.pp_typed.specs.declared.sort.GenericSort.{GenericSort}
+use Rattle.pp_typed.specs.declared.typed.Typed.{Typed}
+use Rattle.pp_typed.specs.declared.typed.TypedCtor.{TypedCtor}
+use Rattle.pp_typed.specs.declared.typed.TypedRoot.{TypedRoot}
+use Rattle.pp_types_laws.proofs.Names.{names_differ}
+use Rattle.pp_types_laws.specs.Typing.{HasTyping, TypesDefs, more_defs, no_defs}
+use Rattle.pp_rules.specs.Bodies.{TypesDef, a_def}
+use Rattle.pp_typed.specs.declared.declared.Declared.{Declared}
+use Rattle.pp_typed.specs.declared.declared.Signature.{Signature}
+use Rattle.pp_typed.specs.declared.typed.TypedDef.{TypedDef}
+use Rattle.pp_legible.proofs.Unlike.{has_mapped, some_same}
+
+-- ---- classes of units
+
+pub record IsFine (c : ClassTree) : Type 0 where
+  pub word : IsWord c.name
+  pub bare : c.object ≡ true → c.fields ≡ []
+
+abbrev IfCtor : ℕ → DeclTree → Type 0
+IfCtor n (root c) = Unit {0}
+IfCtor n (ctor c) = IsFine c
+IfCtor n (other c) = Unit {0}
+IfCtor n (def d) = Unit {0}
+
+abbrev IsFineIn : ClassIn → Type 0
+IsFineIn c = IsFine c.class
+
+one_ctor : (n : ℕ) (d : DeclTree) → IfCtor n d → All IsFineIn (ctor_of n d)
+one_ctor n (root c) h = All-nil IsFineIn
+one_ctor n (ctor c) h = All-cons IsFineIn (record { source = n; sealed = false; class = c }) [] h (All-nil IsFineIn)
+one_ctor n (other c) h = All-nil IsFineIn
+one_ctor n (def d) h = All-nil IsFineIn
+
+each_ctor : (ds : List DeclIn) → All (OfDecl IfCtor) ds → All IsFineIn (ctors_of ds)
+each_ctor [] h = All-nil IsFineIn
+each_ctor (d ∷ ds) h =
+    All-append IsFineIn (ctor_of d.source d.decl) (ctors_of ds)
+    (one_ctor d.source d.decl (all_first (OfDecl IfCtor) d ds h)) (each_ctor ds (all_rest (OfDecl IfCtor) d ds h))
+
+fine_decl : (n : ℕ) (d : DeclTree) → IsWord (declared_name d) → IsBareObject d → IfCtor n d
+fine_decl n (root c) word bare = tt
+fine_decl n (ctor c) word bare = record { word = word; bare = bare }
+fine_decl n (other c) word bare = tt
+fine_decl n (def d) word bare = tt
+
+-- what holds of each of a list holds of the one at a place
+of_place : {X : Type 0} (P : X → Type 0) (xs : List X) (k : ℕ) (x : X) → All P xs → slice_get xs k ≡ Some x → P x
+of_place P xs k x all at = subst P (get_or_from_slice_get xs k x x at) (all k x (slice_get_within xs k x at))
+
+-- what follows for each of a list from what holds of each
+each : {X : Type 0} (P Q : X → Type 0) (xs : List X) → ((x : X) → P x → Q x) → All P xs → All Q xs
+each P Q xs follows h k d lt = follows _ (h k d lt)
+
+fine_units : OfEachUnit IfCtor
+fine_units n text u s =
+    each (Contains u.decls) (IfCtor n) u.decls
+    (λ d here. fine_decl n d (declared_names_are_words text s.tokens u d s.utf8 s.cut s.spells here)
+    (declared_objects_are_bare text s.tokens u d s.spells here))
+    (All-contains_itself u.decls)
+
+fine_classes : (texts : List (List ℕ)) (units : List UnitTree) → EachSpells texts units
+    → All IsFineIn (ctors_of (decls_in units))
+fine_classes texts units spells = each_ctor (decls_in units) (each_decl IfCtor fine_units 1 spells)
+
+-- ---- names of roots and functions
+
+abbrev ClassWord : ClassTree → Type 0
+ClassWord c = IsWord c.name
+
+abbrev DefWord : DefIn → Type 0
+DefWord d = IsWord d.def.name
+
+class_word : (n : ℕ) (d : DeclTree) → IsWord (declared_name d) → IfClass ClassWord n d
+class_word n (root c) h = h
+class_word n (ctor c) h = h
+class_word n (other c) h = h
+class_word n (def d) h = tt
+
+def_word : (n : ℕ) (d : DeclTree) → IsWord (declared_name d) → IfDef DefWord n d
+def_word n (root c) h = tt
+def_word n (ctor c) h = tt
+def_word n (other c) h = tt
+def_word n (def d) h = h
+
+class_words : OfEachUnit (IfClass ClassWord)
+class_words n text u s =
+    each (Contains u.decls) (IfClass ClassWord n) u.decls
+    (λ d here. class_word n d (declared_names_are_words text s.tokens u d s.utf8 s.cut s.spells here))
+    (All-contains_itself u.decls)
+
+def_words : OfEachUnit (IfDef DefWord)
+def_words n text u s =
+    each (Contains u.decls) (IfDef DefWord n) u.decls
+    (λ d here. def_word n d (declared_names_are_words text s.tokens u d s.utf8 s.cut s.spells here))
+    (All-contains_itself u.decls)
+
+-- the definition of a typed function
+def_of_typed : {declared : Declared} {ds : List DefIn} {ss : List Signature} {ts : List TypedDef}
+    → TypesDefs declared ds ss ts → (k : ℕ) (t : TypedDef) → slice_get ts k ≡ Some t
+    → (d : DefIn) × (slice_get ds k ≡ Some d) × (t.name ≡ d.def.name)
+def_of_typed no_defs k t at = cc
+def_of_typed (more_defs {d = d} one rest) zero t at =
+    (d, refl, ap (λ (f : TypedDef). f.name) (sym (some_same at)) ∙ own_name one)
+  where
+    own_name : {declared : Declared} {d : DefIn} {s : Signature} {t : TypedDef} → TypesDef declared d.source d.def s t
+        → t.name ≡ d.def.name
+    own_name (a_def p m b q) = refl
+def_of_typed (more_defs one rest) (suc k) t at = def_of_typed rest k t at
+
+-- ---- constructors of classes
+
+-- the class that declares a constructor
+record IsOfClass (roots : List ClassIn) (cs : List ClassIn) (k : ℕ) (t : TypedCtor) : Type 0 where
+  pub class : ClassIn
+  pub here : slice_get cs k ≡ Some class
+  pub declares : IsCtor roots class t
+
+class_of : (roots : List ClassIn) {before : List TypedCtor} {cs : List ClassIn} {ts : List TypedCtor}
+    → AreCtors roots before cs ts → (k : ℕ) (t : TypedCtor) → slice_get ts k ≡ Some t → IsOfClass roots cs k t
+class_of roots (no_ctors before) k t at = cc
+class_of roots (more_ctors before {c} one room rest) zero t at =
+    record { class = c; here = refl; declares = subst (IsCtor roots c) (some_same at) one }
+class_of roots (more_ctors before one room rest) (suc k) t at =
+    let own = class_of roots rest k t at in
+    record { class = own.class; here = own.here; declares = own.declares }
+
+no_written : {roots : List TypedRoot} {params : List (List ℕ)} {ts : TypeTrees} {ss : List GenericSort}
+    → AreSorts roots params ts ss → ts ≡ no_types → ss ≡ []
+no_written no_sorts none = refl
+no_written (more_sorts one rest) none = cc
+
+-- ---- constructors of typed units
+
+module _ (texts : List (List ℕ)) (units : List UnitTree) (typed : Typed) (spells : EachSpells texts units)
+    (h : HasTyping units typed) where
+  abbrev classes : List ClassIn
+  classes = ctors_of (decls_in units)
+
+  own_class : (k : ℕ) (t : TypedCtor) → slice_get typed.ctors k ≡ Some t
+      → IsOfClass (roots_of (decls_in units)) classes k t
+  own_class k t at =
+      class_of (roots_of (decls_in units)) h.declares.ctors k t (ap (λ l. slice_get l k) (sym h.ctors) ∙ at)
+
+  fine : (k : ℕ) (c : ClassIn) → slice_get classes k ≡ Some c → IsFine c.class
+  fine k c at = of_place IsFineIn classes k c (fine_classes texts units spells) at
+
+  pub roots_are_words : (r : ℕ) (t : TypedRoot) → slice_get typed.roots r ≡ Some t → IsWord t.name
+  roots_are_words r t at =
+      let all = each_root ClassWord (decls_in units) (each_decl (IfClass ClassWord) class_words 1 spells) in
+      let own = has_mapped typed_root (roots_of (decls_in units)) r t
+      (ap (λ l. slice_get l r) (sym h.declares.roots ∙ sym h.roots) ∙ at) in
+      subst IsWord (ap (λ (t : TypedRoot). t.name) own.2)
+      (of_place (λ (c : ClassIn). ClassWord c.class) (roots_of (decls_in units)) own.1.place own.0 all own.1.here)
+
+  pub defs_are_words : (f : ℕ) (d : TypedDef) → slice_get typed.defs f ≡ Some d → IsWord d.name
+  defs_are_words f d at =
+      let all = each_def DefWord (decls_in units) (each_decl (IfDef DefWord) def_words 1 spells) in
+      let own = def_of_typed h.defs f d at in
+      subst IsWord (sym own.2) (of_place DefWord (defs_of (decls_in units)) f own.0 all own.1)
+
+  pub ctors_are_words : (k : ℕ) (t : TypedCtor) → slice_get typed.ctors k ≡ Some t → IsWord t.name
+  ctors_are_words k t at =
+      let own = own_class k t at in subst IsWord (sym own.declares.name) (fine k own.class own.here).word
+
+  pub objects_are_bare : (k : ℕ) (t : TypedCtor) → slice_get typed.ctors k ≡ Some t → t.object ≡ true → t.fields ≡ []
+  objects_are_bare k t at is =
+      let own = own_class k t at in
+      let none = (fine k own.class own.here).bare (sym own.declares.object ∙ is) in
+      no_written own.declares.fields (ap param_types none)
+
+  name_at : (k : ℕ) (t : TypedCtor) → slice_get typed.ctors k ≡ Some t → slice_get (class_names classes) k ≡ Some t.name
+  name_at k t at =
+      let own = own_class k t at in
+      slice_get-map (λ (c : ClassIn). c.class.name) classes k
+      ∙ ap (option_map (λ (c : ClassIn). c.class.name)) own.here ∙ ap Some (sym own.declares.name)
+
+  pub ctor_names_differ : (i j : ℕ) (a b : TypedCtor) → slice_get typed.ctors i ≡ Some a
+      → slice_get typed.ctors j ≡ Some b → a.name ≡ b.name → i ≡ j
+  ctor_names_differ i j a b there here same =
+      names_differ [] (class_names classes) h.declares.ctors_new i j b.name (name_at i a there ∙ ap Some same)
+      (name_at j b here)

@@ -1,0 +1,109 @@
+-- The program of a typing of units that short texts spell is legible.
+use Rattle.std.proofs.Common.{◌≡◌, ◌∙◌, ℕ, List, All, IsUtf8, refl}
+use Rattle.std.proofs.Common.{sym, ap, subst, arith}
+use Rattle.std.specs.Prelude.{Some, slice_get}
+use Rattle.std.proofs.lemmas.List.Elements.{All-cons, All-nil}
+use Rattle.pp_check_places.proofs.Law.{checks_stand, places_tell_checks}
+use Rattle.pp_legible.proofs.Classes.{ctor_names_differ, ctors_are_words, defs_are_words, objects_are_bare}
+use Rattle.pp_legible.proofs.Classes.{roots_are_words}
+use Rattle.pp_legible.proofs.Ctors.{AreLike, HaveOneName, IsTyped, ctors_unlike, from_typed}
+use Rattle.pp_legible.proofs.Functions.{has_name, names_tell}
+use Rattle.pp_legible.proofs.Named.{printed_fine}
+use Rattle.pp_legible.proofs.Places.{small_place}
+use Rattle.pp_legible.proofs.Unlike.{Unlike, places_unlike, unlike_places}
+use Rattle.pp_legible.specs.Laws.{ProgramsAreLegible}
+use Rattle.pp_instances.specs.Order.{member_of}
+use Rattle.pp_instances.specs.declared.member.Decl.TheVariants as kind
+use Rattle.pp_instances.specs.declared.member.Member.{Member}
+use Rattle.pp_line_contents.specs.Laws.{HasNoColon, HasNoMark, IsLegible, IsSmallPlace}
+use Rattle.pp_members.proofs.Proper.{members_are_proper}
+use Rattle.pp_mono.specs.Concrete.{IsConcrete, function_members, root_members}
+use Rattle.pp_order.proofs.Laws.{listed_names_differ}
+use Rattle.pp_ordinary.proofs.Fit.{typing_fit}
+use Rattle.pp_ordinary.specs.Laws.{AreShort, IsFit}
+use Rattle.pp_ordinary.specs.Spelled.{EachSpells, more_texts, no_texts}
+use Rattle.pp_plain_names.proofs.Names.{no_mark}
+use Rattle.pp_plain_names.specs.Laws.{IsWord}
+use Rattle.pp_prog.specs.declared.check.Check.{Check}
+use Rattle.pp_prog.specs.declared.expr.Function.{Function}
+use Rattle.pp_prog.specs.declared.program.Program.{Program}
+use Rattle.pp_prog.specs.declared.types.Ctor.{Ctor}
+use Rattle.pp_tree.specs.Plain.{UnitTree}
+use Rattle.pp_typed.specs.declared.typed.Typed.{Typed}
+use Rattle.pp_types_laws.specs.Typing.{HasTyping}
+
+all_utf8 : {texts : List (List ℕ)} {units : List UnitTree} → EachSpells texts units → All IsUtf8 texts
+all_utf8 no_texts = All-nil IsUtf8
+all_utf8 (more_texts {text = text} {texts = texts} one rest) = All-cons IsUtf8 text texts one.utf8 (all_utf8 rest)
+
+-- a word has no marks
+unmarked : (name : List ℕ) → IsWord name → HasNoMark name
+unmarked name word b here = (
+  no_mark name 10 (omega arith) refl word b here,
+  no_mark name 40 (omega arith) refl word b here,
+  no_mark name 41 (omega arith) refl word b here,
+  no_mark name 44 (omega arith) refl word b here,
+)
+
+module _ (texts : List (List ℕ)) (units : List UnitTree) (typed : Typed) (p : Program) (are : AreShort texts)
+    (spells : EachSpells texts units) (h : HasTyping units typed) (concrete : IsConcrete typed texts p) where
+  abbrev roots : List Member
+  roots = root_members concrete.roots
+
+  fit : IsFit texts typed
+  fit = typing_fit texts units typed are spells h
+
+  utf8 : All IsUtf8 texts
+  utf8 = all_utf8 spells
+
+  -- a constructor of the program is one of the typed units
+  own_ctor : (c : ℕ) (a : Ctor) → slice_get p.types.ctors c ≡ Some a
+      → IsTyped typed roots 0 a
+  own_ctor c a at =
+      from_typed typed roots 0 roots a
+      (record { place = c; here = ap (λ l. slice_get l c) (sym concrete.has_ctors) ∙ at })
+
+  ctors_tell : (c d : ℕ) (a b : Ctor) → slice_get p.types.ctors c ≡ Some a → slice_get p.types.ctors d ≡ Some b
+      → a.of ≡ b.of → a.name ≡ b.name → c ≡ d
+  ctors_tell c d a b there here of name =
+      let names = places_unlike HaveOneName typed.ctors (ctor_names_differ texts units typed spells h) in
+      unlike_places AreLike (λ x y like. (sym like.0, sym like.1)) p.types.ctors
+      (subst (Unlike AreLike) (sym concrete.has_ctors) (ctors_unlike typed roots names 0 roots)) c d a b there here
+      (of, name)
+
+  small : (c : ℕ) (a : Check) → slice_get p.checks c ≡ Some a → IsSmallPlace a.place
+  small c a at =
+      let o = checks_stand typed texts p fit.stands fit.apart concrete c a at in
+      subst IsSmallPlace o.2 (small_place texts o.0 are.few are.short utf8 o.1)
+
+  named : (i : ℕ) (f : Function) → slice_get p.functions i ≡ Some f → HasNoColon f.name
+  named i f at =
+      let own = has_name typed texts roots (function_members concrete.functions) concrete.functions p.functions
+      concrete.has_functions i f at in
+      subst HasNoColon (sym (own.2 ∙ concrete.listed.functions.names own.1.place own.0 own.1.here))
+      (printed_fine typed (roots_are_words texts units typed spells h) (defs_are_words texts units typed spells h)
+      (member_of typed kind.Function own.0))
+
+  legible : IsLegible p
+  legible = record {
+    unmarked = λ c a at.
+        let own = own_ctor c a at in
+        subst HasNoMark (sym own.name) (unmarked own.from.name
+        (ctors_are_words texts units typed spells h own.among.place own.from own.among.here));
+    ctors = ctors_tell;
+    objects = λ c a at is.
+        let own = own_ctor c a at in
+        own.bare (objects_are_bare texts units typed spells h own.among.place own.from own.among.here
+        (sym own.object ∙ is));
+    named = named;
+    functions =
+        names_tell typed texts roots (function_members concrete.functions) concrete.functions p.functions
+        (listed_names_differ typed concrete.members concrete.functions concrete.roots fit.sorted
+        (λ m has. members_are_proper typed concrete.members fit.sorted concrete.instances m has) concrete.listed).0
+        concrete.has_functions;
+    checks = places_tell_checks typed texts p fit.stands fit.apart utf8 concrete;
+    places = small;
+  }
+
+pub programs_are_legible : ProgramsAreLegible
+programs_are_legible texts units typed p are spells h concrete = legible texts units typed p are spells h concrete

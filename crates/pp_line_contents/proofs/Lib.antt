@@ -1,0 +1,5 @@
+pub mod Spans
+pub mod Words
+pub mod Values
+pub mod Others
+pub mod Law
