@@ -82,6 +82,10 @@ run --mode run --function c uses.scala types.scala
 check 'two sources' 0 'c = C(7)' ''
 run --mode run --function c uses.scala absent.scala
 check 'a missing second file' 5 '' 'read fault: absent.scala'
+run absent.scala missing.scala
+check 'two missing files' 5 '' 'read fault: absent.scala'
+run long.scala missing.scala
+check 'a file that is too long before a missing one' 3 '' 'refused: too long source 1'
 cp edge.scala ./-x
 run --mode=run --function=edge -- -x
 check 'a file named as an option' 0 'edge = 2147483647' ''

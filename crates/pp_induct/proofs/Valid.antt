@@ -1,5 +1,6 @@
 -- A function that is valid is good.
-use Rattle.std.proofs.Common.{◌≡◌, ℕ, true, List, Some, length, slice_get, refl, ap, ◌∙◌, subst, arith, inl, inr, eq-eqb}
+use Rattle.std.proofs.Common.{◌≡◌, ℕ, true, List, Some, length, slice_get, refl, ap, ◌∙◌, subst, arith, inl, inr}
+use Rattle.std.proofs.Common.{eq-eqb}
 use Rattle.std.specs.Prelude.{nat_eq}
 use Rattle.std.proofs.lemmas.Bool.{and_from}
 use Rattle.std.proofs.lemmas.Option.{slice_get_cases, slice_get_within}

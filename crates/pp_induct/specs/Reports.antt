@@ -42,10 +42,12 @@ module _ (p : Program) (limits : Limits) (i : ℕ) (c : CheckId) where
     pub round : n ≤ limits.rounds
     pub size : size_of n ≤ limits.gates
 
-  -- proved: no guess run of the round fails the check, and no run on arguments up to the depth
+  -- proved: no guess run of the round fails the check, and no run on arguments up to the depth; and the function isn't
+  -- closed there, since a check that was tried on all arguments isn't proved besides
   pub record IsProvedIn (n : ℕ) : Type 0 where
     pub begun : IsBegun n
     pub proved : IsProved p i c n limits.depth
+    pub open_still : Closed p.types p.functions i n limits.depth → ⊥
 
   -- exhausted: the function is closed in this round and in none before it, and no run fails the check
   pub record IsExhaustedIn (n : ℕ) : Type 0 where

@@ -1,5 +1,6 @@
 -- The table of verdicts. Source: own.
-use Rattle.std.specs.Prelude.{◌≡◌, ◌↔◌, ◌⊎◌, ◌<◌, ℕ, nat_eq, Bool, true, false, ◌&&◌, List, Option, Some, None, IsTrue, length, slice_get}
+use Rattle.std.specs.Prelude.{◌≡◌, ◌↔◌, ◌⊎◌, ◌<◌, ℕ, nat_eq, Bool, true, false, ◌&&◌, List, Option, Some, None, IsTrue}
+use Rattle.std.specs.Prelude.{length, slice_get}
 use Rattle.pp_graph.specs.Rows.{marked}
 use Rattle.pp_prog.specs.declared.check.Check.{Check}
 use Rattle.pp_prog.specs.declared.expr.Function.{Function}

@@ -3,7 +3,8 @@
 ghost use Rattle.std.specs.Prelude.{◌≡◌, ◌↔◌, ◌<◌, ◌≤◌, ◌^◌, ℕ, IfOk, IsTrue, MatchOption, length, slice_get};
 ghost use Rattle.pp_checks.specs.Plan.{IsPlanOf};
 ghost use Rattle.pp_induct.specs.Supported.{AreSupported};
-ghost use Rattle.pp_induct.specs.Verdicts.{AreVerdicts, HasUndone, IsFirstEnded, IsFirstMarked, IsVerdict, MarkUndone, NoneEnded, NoneMarked, ValidAreGood, ended, is_invalid, is_of, is_open};
+ghost use Rattle.pp_induct.specs.Verdicts.{AreVerdicts, HasUndone, IsFirstEnded, IsFirstMarked, IsVerdict, MarkUndone};
+ghost use Rattle.pp_induct.specs.Verdicts.{NoneEnded, NoneMarked, ValidAreGood, ended, is_invalid, is_of, is_open};
 
 use crate::{CheckEnd, NoMemory, Verdict, Verdicts};
 use pp_checks::Plan;

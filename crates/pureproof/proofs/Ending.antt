@@ -9,7 +9,7 @@ use Rattle.pp_answers.specs.Answers as answer
 use Rattle.pp_answers.specs.Answers.{Answers, IsAccepted}
 use Rattle.pp_answers.proofs.Statuses.{is_verdict}
 use Rattle.pp_answers.specs.Claims.{AreLinesOf, Claim}
-use Rattle.pp_answers.specs.Laws.{Agree, IsAlwaysTrue, IsVerdict, IsVerify, OneLineEach, OneStatus, all_valid}
+use Rattle.pp_answers.specs.Laws.{Agree, IsAlwaysTrue, IsOnVerdicts, IsVerify, OneLineEach, OneStatus, all_valid}
 use Rattle.pp_answers.specs.Laws.{is_verify, some_invalid, some_open, verify_within}
 use Rattle.pp_induct.specs.declared.limits.Limits.{Limits}
 use Rattle.pp_modes.specs.Codes.{code_of}
@@ -113,23 +113,23 @@ comes one run s e line sources r holds answers =
 -- ---- mode `verify`
 
 verdict_status : OneLineEach → (task : Task) → IsVerify task → (sources : List Text) (q : Response)
-    → Answers task sources q → (p : Program) → IsAccepted sources p → IsVerdict (status_in q)
+    → Answers task sources q → (p : Program) → IsAccepted sources p → IsOnVerdicts (status_in q)
 verdict_status each task (is_verify limits) sources q answers p is =
     is_verdict p.functions (lines_in q) (status_in q) (each limits sources q answers p is).status
 
 pub verifies : OneLineEach → (run : Run) (s : Status) → Ends run s → Verifies run s
 verifies each run s e line sources p holds task is =
-    by_due run line sources holds IsVerdict (λ q answers. verdict_status each line.task task sources q answers p is)
+    by_due run line sources holds IsOnVerdicts (λ q answers. verdict_status each line.task task sources q answers p is)
     e.response s e.due e.shows
 
 -- a status on verdicts is 0, 1 or 2
-low : (s : Status) → IsVerdict s → code_of s < 3
+low : (s : Status) → IsOnVerdicts s → code_of s < 3
 low s all_valid = omega arith
 low s some_invalid = omega arith
 low s some_open = omega arith
 
-other : (s t : Status) → s ≡ t → IsVerdict s → 3 ≤ code_of t → ⊥
-other s t same is high = let less = low t (subst IsVerdict same is) in absurd (omega (arith, less, high))
+other : (s t : Status) → s ≡ t → IsOnVerdicts s → 3 ≤ code_of t → ⊥
+other s t same is high = let less = low t (subst IsOnVerdicts same is) in absurd (omega (arith, less, high))
 
 -- where it ends so, what is shown has this status, and as far as it has lines it is a report, of which `out` took all
 record IsPrinted (run : Run) (q : Response) (s : Status) : Type 0 where
@@ -137,7 +137,7 @@ record IsPrinted (run : Run) (q : Response) (s : Status) : Type 0 where
   pub reports : 0 < length (lines_in q) → q ≡ report s (lines_in q)
   pub all : 0 < length (lines_in q) → TookAll run.out (concat (lines_in q))
 
-is_printed : (run : Run) (q : Response) (s : Status) → Shows run.out run.err q s → IsVerdict s → IsPrinted run q s
+is_printed : (run : Run) (q : Response) (s : Status) → Shows run.out run.err q s → IsOnVerdicts s → IsPrinted run q s
 is_printed run q s (printed t lines all still) is = record { same = refl; reports = λ some. refl; all = λ some. all }
 is_printed run q s (cut t lines front all) is = absurd (other status.WriteFault status.WriteFault refl is (omega arith))
 is_printed run q s (both_cut t lines front again) is =
@@ -150,14 +150,14 @@ is_printed run q s (refused t line still all) is = record {
 is_printed run q s (refusal_cut t line still front) is =
     absurd (other status.WriteFault status.WriteFault refl is (omega arith))
 
-is_accepted : (task : Task) (sources : List Text) (q : Response) → Answers task sources q → IsVerdict (status_in q)
+is_accepted : (task : Task) (sources : List Text) (q : Response) → Answers task sources q → IsOnVerdicts (status_in q)
     → (p : Program) × IsAccepted sources p
 is_accepted task sources q (answer.refused a) is = absurd (other status.Refused status.Refused refl is (omega arith))
 is_accepted task sources q (answer.accepted p is_program a) is = (p, is_program)
 
 module _ (each : OneLineEach) (IsTrue : Limits → Claim) (always : IsAlwaysTrue IsTrue) (run : Run) (line : Line)
     (limits : Limits) (words : line_of run.words ≡ Some line) (task : line.task ≡ verify_within limits) where
-  reports : (q : Response) (s : Status) → IsDue run.words run.shelf q → IsPrinted run q s → IsVerdict s
+  reports : (q : Response) (s : Status) → IsDue run.words run.shelf q → IsPrinted run q s → IsOnVerdicts s
       → Reports run line s (IsTrue limits)
   reports q s (no_line none calm) shown is = absurd (none_some (sym none ∙ words))
   reports q s (unread wanted told at fails) shown is = absurd (other s status.ReadFault shown.same is (omega arith))
@@ -167,7 +167,7 @@ module _ (each : OneLineEach) (IsTrue : Limits → Claim) (always : IsAlwaysTrue
       let same = one_line run.words wanted line at words in
       let due = subst (λ (l : Line). Answers l.task sources q) same answers in
       let here : Answers (verify_within limits) sources q = subst (λ t. Answers t sources q) task due in
-      let program = is_accepted (verify_within limits) sources q here (subst IsVerdict shown.same is) in
+      let program = is_accepted (verify_within limits) sources q here (subst IsOnVerdicts shown.same is) in
       let size = (each limits sources q here program.0 program.1).size in
       record {
         sources = sources;

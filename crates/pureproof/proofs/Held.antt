@@ -2,7 +2,7 @@
 use Rattle.std.proofs.Common.{◌≡◌, ◌<◌, ◌≤◌, ◌+◌, ℕ, zero, suc, List, [], ◌∷◌, ◌++◌, map, take, length, get_or, All}
 use Rattle.std.proofs.Common.{Result, Ok, Err, inr, refl, sym, ap, ◌∙◌, subst, arith}
 use Rattle.std.specs.Borrow.{Bor}
-use Rattle.std.specs.Prelude.{Option, None, Some, IfSome, Vec, slice_get}
+use Rattle.std.specs.Prelude.{Option, Some, IfSome, Vec, slice_get}
 use Rattle.std.proofs.lemmas.List.{length-map, length-take-le, map-append, take-map, take_more}
 use Rattle.std.proofs.lemmas.List.Elements.{All-push}
 use Rattle.std.proofs.lemmas.Option.{slice_get_within}
@@ -18,9 +18,9 @@ use Rattle.pp_seam.specs.declared.faults.FetchFault.TheVariants as fault
 use Rattle.pp_words.specs.Line.{Line, line_of}
 use Rattle.pp_words.specs.Told.{texts}
 use Rattle.pureproof.proofs.Ending.{in_files, some_same}
-use Rattle.pureproof.specs.Dues.{AreShort, IsDue, answered, too_long, unread}
+use Rattle.pureproof.specs.Dues.{IsDue, answered, too_long, unread}
 use Rattle.pureproof.specs.Ends.{FetchesFiles}
-use Rattle.pureproof.specs.Fetched.{AreHeld, FailsAt, IsHeld, IsTooLongAt, Shelf, Text, no_paths, one_path}
+use Rattle.pureproof.specs.Fetched.{AreHeld, AreShort, FailsAt, IsHeld, IsTooLongAt, Shelf, Text, no_paths, one_path}
 
 held_push : {held : Text → Option Text} {paths sources : List Text} (path bytes : Text) → AreHeld held paths sources
     → IsHeld (held path) bytes → AreHeld held (paths ++ path ∷ []) (sources ++ bytes ∷ [])
@@ -33,8 +33,10 @@ pub as_many : {held : Text → Option Text} {paths sources : List Text} → AreH
 as_many no_paths = refl
 as_many (one_path one rest) = ap suc (as_many rest)
 
-pub held_more : {Z : Type 0} (held : Text → Option Text) (files : List (Bor Text)) (i : ℕ) (path : Bor Text) (source : Vec ℕ Z)
-    (old : List (Vec ℕ Z)) {new : List (Vec ℕ Z)} → i < length files → AreHeld held (texts (take i files)) (map bytes_of old)
+pub held_more : {Z : Type 0} (held : Text → Option Text) (files : List (Bor Text)) (i : ℕ) (path : Bor Text)
+    (source : Vec ℕ Z)
+    (old : List (Vec ℕ Z)) {new : List (Vec ℕ Z)} → i < length files
+    → AreHeld held (texts (take i files)) (map bytes_of old)
     → new ≡ old ++ source ∷ [] → IsHeld (held (get_or files i path).now) source.items
     → AreHeld held (texts (take (i + 1) files)) (map bytes_of new)
 held_more held files i path source old {new} lt before more one =
@@ -43,13 +45,15 @@ held_more held files i path source old {new} lt before more one =
     let sources : map bytes_of new ≡ map bytes_of old ++ source.items ∷ [] =
     ap (map bytes_of) more ∙ map-append bytes_of old (source ∷ []) in
     subst (λ l. AreHeld held l (map bytes_of new)) (sym paths)
-    (subst (AreHeld held (texts (take i files) ++ (get_or files i path).now ∷ [])) (sym sources) (held_push (get_or files i path).now source.items before one))
+    (subst (AreHeld held (texts (take i files) ++ (get_or files i path).now ∷ [])) (sym sources)
+    (held_push (get_or files i path).now source.items before one))
 
 pub short_more : {Z : Type 0} (old new : List (Vec ℕ Z)) (source : Vec ℕ Z) → All IsShort old → new ≡ old ++ source ∷ []
     → length source.items ≤ most_bytes → All IsShort new
 short_more old new source before is one = subst (All IsShort) (sym is) (All-push IsShort old source before one)
 
-shown_at : (d : Bor Text) (fs : List (Bor Text)) (k : ℕ) → k < length fs → slice_get (texts fs) k ≡ Some (get_or fs k d).now
+shown_at : (d : Bor Text) (fs : List (Bor Text)) (k : ℕ) → k < length fs
+    → slice_get (texts fs) k ≡ Some (get_or fs k d).now
 shown_at d [] k h = absurd (omega (arith, h))
 shown_at d (f ∷ fs) zero h = refl
 shown_at d (f ∷ fs) (suc k) h = shown_at d fs k (omega arith)
@@ -66,7 +70,8 @@ next_file held files i path sources lt before =
     let at : length (map bytes_of sources) ≡ i = omega arith in
     let whole = length-map files (λ (w : Bor Text). w.now) in (
       subst (λ k. AreHeld held (take k (texts files)) (map bytes_of sources)) (sym at)
-          (subst (λ l. AreHeld held l (map bytes_of sources)) (sym (take-map (λ (w : Bor Text). w.now) i files)) before),
+          (subst (λ l. AreHeld held l (map bytes_of sources)) (sym (take-map (λ (w : Bor Text). w.now) i files))
+          before),
       ap (slice_get (texts files)) at ∙ shown_at path files i lt,
     )
 
@@ -86,7 +91,8 @@ module _ {Z : Type 0} (words : List Text) (shelf : Shelf) (line : Line) (is : li
       (subst (λ l. Answers line.task (map bytes_of l) r) same answers)
 
   pub due_unread : (sources : List (Vec ℕ Z)) (files : List (Bor Text)) (n : ℕ) (d : Bor Text) (r : Response)
-      → (fails : FailsAt shelf line.files (map bytes_of sources)) → line.files ≡ texts files → n ≡ length sources → n < length files
+      → (fails : FailsAt shelf line.files (map bytes_of sources)) → line.files ≡ texts files → n ≡ length sources
+      → n < length files
       → r ≡ refusal status.ReadFault (read_fault_text (get_or files n d).now) → IsDue words shelf r
   due_unread sources files n d r fails are at lt says =
       let same_length = length-map sources bytes_of in
@@ -96,7 +102,8 @@ module _ {Z : Type 0} (words : List Text) (shelf : Shelf) (line : Line) (is : li
       subst (IsDue words shelf) (sym (says ∙ ap (λ p. refusal status.ReadFault (read_fault_text p)) same))
       (unread line (map bytes_of sources) is fails)
 
-  pub due_too_long : (sources : List (Vec ℕ Z)) (number : ℕ) (r : Response) → IsTooLongAt shelf line.files (map bytes_of sources)
+  pub due_too_long : (sources : List (Vec ℕ Z)) (number : ℕ) (r : Response)
+      → IsTooLongAt shelf line.files (map bytes_of sources)
       → number ≡ length sources + 1 → r ≡ refusal status.Refused (too_long_text number) → IsDue words shelf r
   due_too_long sources number r long is_number says =
       let same_length = length-map sources bytes_of in
@@ -105,9 +112,15 @@ module _ {Z : Type 0} (words : List Text) (shelf : Shelf) (line : Line) (is : li
       (too_long line (map bytes_of sources) is long)
 
 -- the next file is one of the files
-pub fails_file : {Z : Type 0} (shelf : Shelf) (line : Line) (sources : List (Vec ℕ Z)) → FailsAt shelf line.files (map bytes_of sources)
+pub fails_file : {Z : Type 0} (shelf : Shelf) (line : Line) (sources : List (Vec ℕ Z))
+    → FailsAt shelf line.files (map bytes_of sources)
     → FetchesFiles line shelf
-fails_file shelf line sources fails = inr (fails.path, in_files line.files (length (map bytes_of sources)) fails.path fails.here, fails.grew)
+fails_file shelf line sources fails = inr (
+  fails.path,
+  in_files line.files (length (map bytes_of sources)) fails.path
+      fails.here,
+  fails.grew,
+)
 
 -- fewer sources than files
 pub fewer : {Z : Type 0} (files : List Text) (sources : List (Vec ℕ Z)) (path : Text)
@@ -119,29 +132,41 @@ fewer files sources path at =
 -- ---- a fetch that fails
 
 module _ {Z : Type 0} (shelf : Shelf) (files : List (Bor Text)) (i : ℕ) (item : Bor Text) (sources : List (Vec ℕ Z)) (lt : i < length files)
-    (before : AreHeld shelf.held (texts (take i files)) (map bytes_of sources)) where
+    (before : AreHeld shelf.held (texts (take i files)) (map bytes_of sources)) (short : All IsShort sources) where
   abbrev next : Text
   next = (get_or files i item).now
 
   pub fails_next : {T : Type 0} (old : List Text) (r : Result T FetchFault) → old ≡ shelf.failed
-      → shelf.failed_after ≡ failed_after old next r → r ≡ Err fault.Failed → FailsAt shelf (texts files) (map bytes_of sources)
+      → shelf.failed_after ≡ failed_after old next r → r ≡ Err fault.Failed
+      → FailsAt shelf (texts files) (map bytes_of sources)
   fails_next old r same grew e =
       let at = next_file shelf.held files i item sources lt before in
       record {
         path = next;
         before = at.0;
+        short = are_short sources short;
         here = at.1;
         grew = grew ∙ ap (failed_after old next) e ∙ ap (λ l. l ++ next ∷ []) same;
       }
 
   pub long_next : shelf.failed_after ≡ shelf.failed → length shelf.seen_after ≡ most_bytes + 1
-      → IfSome (shelf.held next) (λ bytes. most_bytes < length bytes) → IsTooLongAt shelf (texts files) (map bytes_of sources)
+      → IfSome (shelf.held next) (λ bytes. most_bytes < length bytes)
+      → IsTooLongAt shelf (texts files) (map bytes_of sources)
   long_next calm seen long =
       let at = next_file shelf.held files i item sources lt before in
-      record { path = next; before = at.0; here = at.1; calm = calm; seen = seen; long = long }
+      record {
+        path = next;
+        before = at.0;
+        short = are_short sources short;
+        here = at.1;
+        calm = calm;
+        seen = seen;
+        long = long;
+      }
 
 -- what a failed fetch leaves of the list of failed paths
-pub not_grown : {T : Type 0} (old new : List Text) (path : Text) (r : Result T FetchFault) → new ≡ failed_after old path r
+pub not_grown : {T : Type 0} (old new : List Text) (path : Text) (r : Result T FetchFault)
+    → new ≡ failed_after old path r
     → r ≡ Err fault.TooLong → new ≡ old
 not_grown old new path r is e = is ∙ ap (failed_after old path) e
 

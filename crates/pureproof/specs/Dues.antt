@@ -1,16 +1,11 @@
 -- What is due, and why. Source: own.
-use Rattle.std.specs.Prelude.{◌≡◌, ◌≤◌, ◌+◌, List, None, Some, All, length}
+use Rattle.std.specs.Prelude.{◌≡◌, ◌+◌, List, None, Some, length}
 use Rattle.pp_answers.specs.Answers.{Answers}
 use Rattle.pp_modes.specs.Responses.{Response, refusal}
 use Rattle.pp_modes.specs.declared.status.Status.TheVariants as status
 use Rattle.pp_print.specs.Refusals.{memory_text, read_fault_text, too_long_text, words_text}
-use Rattle.pp_text.specs.Limits.{most_bytes}
 use Rattle.pp_words.specs.Line.{Line, line_of}
-use Rattle.pureproof.specs.Fetched.{AreHeld, FailsAt, IsTooLongAt, Shelf, Text}
-
--- no source is longer than it may be
-abbrev pub AreShort : List Text → Type 0
-AreShort sources = All (λ (bytes : Text). length bytes ≤ most_bytes) sources
+use Rattle.pureproof.specs.Fetched.{AreHeld, AreShort, FailsAt, IsTooLongAt, Shelf, Text}
 
 -- all files of the line are fetched, and these are their bytes
 pub record AreFetched (shelf : Shelf) (line : Line) (sources : List Text) : Type 0 where

@@ -3,7 +3,7 @@ use Rattle.std.specs.Prelude.{◌≡◌, ◌⊎◌, ◌∷◌, ◌++◌, [], Lis
 use Rattle.std.specs.List.{concat}
 use Rattle.pp_answers.specs.Answers.{Answers, IsAccepted}
 use Rattle.pp_answers.specs.Claims.{AreLinesOf, Claim, InvalidFails, OpenIsSearched, ValidIsGood}
-use Rattle.pp_answers.specs.Laws.{Agree, EachLine, IsVerdict, IsVerify, verify_within}
+use Rattle.pp_answers.specs.Laws.{Agree, EachLine, IsOnVerdicts, IsVerify, verify_within}
 use Rattle.pp_induct.specs.declared.limits.Limits.{Limits}
 use Rattle.pp_modes.specs.Responses.{Response, report, status_in}
 use Rattle.pp_modes.specs.declared.status.Status.{Status}
@@ -11,8 +11,8 @@ use Rattle.pp_modes.specs.declared.status.Status.TheVariants as status
 use Rattle.pp_prog.specs.declared.program.Program.{Program}
 use Rattle.pp_seam.specs.Faults.{Rose}
 use Rattle.pp_words.specs.Line.{Line, line_of}
-use Rattle.pureproof.specs.Dues.{AreFetched, AreShort, IsDue}
-use Rattle.pureproof.specs.Fetched.{Shelf, Text}
+use Rattle.pureproof.specs.Dues.{AreFetched, IsDue}
+use Rattle.pureproof.specs.Fetched.{AreShort, Shelf, Text}
 use Rattle.pureproof.specs.Shown.{Shows, Took, TookAll}
 
 -- a run of the program: its words, and what shelf and sinks tell before and after
@@ -60,11 +60,11 @@ Comes run s = (line : Line) (sources : List Text) (r : Response) → Holds run l
 -- where they hold sources that are accepted, mode `verify` ends with a status on verdicts
 abbrev pub Verifies : Run → Status → Type 0
 Verifies run s = (line : Line) (sources : List Text) (p : Program) → Holds run line sources → IsVerify line.task
-    → IsAccepted sources p → IsVerdict s ⊎ Excuses run s
+    → IsAccepted sources p → IsOnVerdicts s ⊎ Excuses run s
 
 -- `out` took the lines of an answer to the fetched sources, which are accepted: one for each function, in program
 -- order, and one more behind them. The status is by the lines of the functions, and the claim is true of each of these.
-pub record Reports (run : Run) (line : Line) (s : Status) (IsTrue : Claim) : Type 0 where
+pub record Reports (run : Run) (line : Line) (s : Status) (claim : Claim) : Type 0 where
   pub sources : List Text
   pub fetched : AreFetched run.shelf line sources
   pub program : Program
@@ -73,16 +73,16 @@ pub record Reports (run : Run) (line : Line) (s : Status) (IsTrue : Claim) : Typ
   pub answers : Answers line.task sources (report s lines)
   pub printed : TookAll run.out (concat lines)
   pub one_each : (p : Program) → IsAccepted sources p → AreLinesOf p lines s
-  pub claims : EachLine sources lines IsTrue
+  pub claims : EachLine sources lines claim
 
 -- so it is where mode `verify` ends with a status on verdicts
 abbrev pub EachPrinted : (Limits → Claim) → Run → Status → Type 0
-EachPrinted IsTrue run s = (line : Line) (limits : Limits) → line_of run.words ≡ Some line
-    → line.task ≡ verify_within limits → IsVerdict s → Reports run line s (IsTrue limits)
+EachPrinted claim run s = (line : Line) (limits : Limits) → line_of run.words ≡ Some line
+    → line.task ≡ verify_within limits → IsOnVerdicts s → Reports run line s (claim limits)
 
 -- each function that is printed as valid is good
-abbrev pub ValidAreGood : Run → Status → Type 0
-ValidAreGood = EachPrinted (λ limits. ValidIsGood)
+abbrev pub ValidLinesAreTrue : Run → Status → Type 0
+ValidLinesAreTrue = EachPrinted (λ limits. ValidIsGood)
 
 -- each that is printed as invalid fails the printed check, run on the printed arguments
 abbrev pub InvalidFail : Run → Status → Type 0

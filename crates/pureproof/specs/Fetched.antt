@@ -1,5 +1,6 @@
 -- What is fetched of a shelf. Source: own.
-use Rattle.std.specs.Prelude.{◌≡◌, ◌<◌, ◌+◌, ℕ, List, [], ◌∷◌, ◌++◌, Option, Some, IfSome, length, slice_get, take}
+use Rattle.std.specs.Prelude.{◌≡◌, ◌<◌, ◌≤◌, ◌+◌, ℕ, List, [], ◌∷◌, ◌++◌, Option, Some, IfSome, All, length, slice_get}
+use Rattle.std.specs.Prelude.{take}
 use Rattle.pp_text.specs.Limits.{most_bytes}
 
 -- the bytes of a text
@@ -32,10 +33,15 @@ pub data AreHeld (held : Text → Option Text) : List Text → List Text → Typ
   one_path : {path bytes : Text} {paths sources : List Text} → IsHeld (held path) bytes
       → AreHeld held paths sources → AreHeld held (path ∷ paths) (bytes ∷ sources)
 
+-- no source is longer than it may be
+abbrev pub AreShort : List Text → Type 0
+AreShort sources = All (λ (bytes : Text). length bytes ≤ most_bytes) sources
+
 -- the shelf's fetch of a file fails: those before it are fetched, and it stands once more among the failed ones
 pub record FailsAt (shelf : Shelf) (files sources : List Text) : Type 0 where
   pub path : Text
   pub before : AreHeld shelf.held (take (length sources) files) sources
+  pub short : AreShort sources
   pub here : slice_get files (length sources) ≡ Some path
   pub grew : shelf.failed_after ≡ shelf.failed ++ path ∷ []
 
@@ -43,6 +49,7 @@ pub record FailsAt (shelf : Shelf) (files sources : List Text) : Type 0 where
 pub record IsTooLongAt (shelf : Shelf) (files sources : List Text) : Type 0 where
   pub path : Text
   pub before : AreHeld shelf.held (take (length sources) files) sources
+  pub short : AreShort sources
   pub here : slice_get files (length sources) ≡ Some path
   pub calm : shelf.failed_after ≡ shelf.failed
   pub seen : length shelf.seen_after ≡ most_bytes + 1

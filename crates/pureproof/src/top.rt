@@ -2,8 +2,8 @@
 
 ghost use Rattle.std.specs.Prelude.{◌≡◌, List, ℕ};
 ghost use Rattle.pp_words.specs.Told.{texts};
-ghost use Rattle.pureproof.specs.Ends.{Comes, Ends, Fetched, InvalidFail, OpenAreSearched, ValidAreGood, Verifies};
-ghost use Rattle.pureproof.specs.Ends.{the_run};
+ghost use Rattle.pureproof.specs.Ends.{Comes, Ends, Fetched, InvalidFail, OpenAreSearched, ValidLinesAreTrue};
+ghost use Rattle.pureproof.specs.Ends.{Verifies, the_run};
 ghost use Rattle.pureproof.specs.Fetched.{told};
 ghost use Rattle.pureproof.specs.Shown.{took};
 
@@ -58,7 +58,7 @@ pub fn pureproof<'a, S: Shelf, K: Sink, E: Sink>(
 
     // each function gets one printed line, which says `valid` only where every call that meets the precondition
     // evaluates, with some fuel, to a value that meets the postcondition
-    ensures valid { ValidAreGood (the_run (texts words.entry.now) (told S.held S.failed S.seen shelf.old shelf.new)
+    ensures valid { ValidLinesAreTrue (the_run (texts words.entry.now) (told S.held S.failed S.seen shelf.old shelf.new)
         (took K.taken K.faults out.old out.new) (took E.taken E.faults err.old err.new)) result }
     // `invalid` only with arguments whose run fails the named check
     ensures invalid { InvalidFail (the_run (texts words.entry.now) (told S.held S.failed S.seen shelf.old shelf.new)

@@ -8,7 +8,8 @@ use Rattle.pureproof.specs.Fetched.{told}
 use Rattle.pureproof.proofs.responding.due.Goals as goal
 
 pub due_of_files-requires-clause-range : goal.due_of_files-requires-clause-range
-due_of_files-requires-clause-range g c = (line_fits (texts c.args.words.now) (line_told c.in-Ok.line) c.in-Ok.ensures.read).range
+due_of_files-requires-clause-range g c = (line_fits (texts c.args.words.now) (line_told c.in-Ok.line)
+    c.in-Ok.ensures.read).range
 
 pub due_of_files-requires-clause-few : goal.due_of_files-requires-clause-few
 due_of_files-requires-clause-few g c =
@@ -20,5 +21,6 @@ due_of_files-requires-clause-few g c =
 pub returns-in-Err-Refused-clause-due : goal.returns-in-Err-Refused-clause-due
 returns-in-Err-Refused-clause-due g c =
     if_ok c.no_line.result c.no_line.ensures
-    (λ r is. subst (IsDue (texts c.args.words.now) (told g.S.Shelf.held g.S.Shelf.failed g.S.Shelf.seen c.args.shelf.now c.args.shelf.now))
+    (λ r is. subst (IsDue (texts c.args.words.now) (told g.S.Shelf.held g.S.Shelf.failed g.S.Shelf.seen c.args.shelf.now
+    c.args.shelf.now))
     (sym is) (no_line (c.read.ensures.refused (c.in-Err-Refused.is ∙ ap Err c.in-Err-Refused.field-0-is)) refl))

@@ -4,7 +4,8 @@ use Rattle.pureproof.proofs.Showing.{after_fault}
 use Rattle.pureproof.proofs.show.put_report.Goals as goal
 
 pub returns-in-Ok : goal.returns-in-Ok
-returns-in-Ok g c = printed _ _ (record { all = c.in-Ok.ensures.whole; calm = c.in-Ok.ensures.steady }) (record { same = refl; calm = refl })
+returns-in-Ok g c = printed _ _ (record { all = c.in-Ok.ensures.whole; calm = c.in-Ok.ensures.steady })
+    (record { same = refl; calm = refl })
 
 pub returns-in-Err : goal.returns-in-Err
 returns-in-Err g c =

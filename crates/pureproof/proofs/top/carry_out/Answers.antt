@@ -13,6 +13,8 @@ returns-in-Err-clause-ends g c =
     record {
       response = refusal status.Memory memory_text;
       due = no_memory;
-      shows = shows_line out (took g.E.Sink.taken g.E.Sink.faults c.args.err.now c.put_refusal.new.err) status.Memory c.put_refusal.result
-          c.memory_line.result.now memory_text c.memory_line.ensures (c.put_refusal.ensures out (record { same = refl; calm = refl }));
+      shows = shows_line out (took g.E.Sink.taken g.E.Sink.faults c.args.err.now c.put_refusal.new.err) status.Memory
+          c.put_refusal.result
+          c.memory_line.result.now memory_text c.memory_line.ensures
+          (c.put_refusal.ensures out (record { same = refl; calm = refl }));
     }
