@@ -1,5 +1,7 @@
 -- The turn of the loop of `bitwise`.
-use Rattle.std.proofs.Common.{◌≡◌, ℕ, ◌+◌, ◌*◌, ◌^◌, ◌<◌, Bool, true, false, List, [], ◌∷◌, ◌++◌, length, take, get_or, refl, sym, ap, ◌∙◌, arith}
+use Rattle.std.proofs.Common.{◌≡◌, ℕ, ◌+◌, ◌*◌, ◌^◌, ◌<◌, Bool, List, [], ◌∷◌, ◌++◌, length, take, get_or, refl, sym}
+use Rattle.std.proofs.Common.{ap, ◌∙◌, arith}
+use Rattle.std.proofs.lemmas.Bool.Decides.{nat_tests}
 use Rattle.std.proofs.lemmas.Nat.{and_block, or_block, xor_block}
 use Rattle.pp_clause.specs.Literal.{Literal, lit_value}
 use Rattle.pp_bits.specs.Number.{bit, lit_bit, nat_of}
@@ -15,21 +17,13 @@ bits_by_none Xor = refl
 
 -- on two numbers of one digit
 bits_by_bit : (op : Bitwise) (x y : Bool) → bits_by op (bit x) (bit y) ≡ bit (bit_by op x y)
-bits_by_bit And true true = refl
-bits_by_bit And true false = refl
-bits_by_bit And false true = refl
-bits_by_bit And false false = refl
-bits_by_bit Or true true = refl
-bits_by_bit Or true false = refl
-bits_by_bit Or false true = refl
-bits_by_bit Or false false = refl
-bits_by_bit Xor true true = refl
-bits_by_bit Xor true false = refl
-bits_by_bit Xor false true = refl
-bits_by_bit Xor false false = refl
+bits_by_bit And x y = grind (arith, nat_tests)
+bits_by_bit Or x y = grind (arith, nat_tests)
+bits_by_bit Xor x y = grind (arith, nat_tests)
 
 -- on numbers of more digits, from the highest digit and the others
-bits_by_block : (op : Bitwise) (k a b r t : ℕ) → r < 2 ^ k → t < 2 ^ k → bits_by op (a * 2 ^ k + r) (b * 2 ^ k + t) ≡ bits_by op a b * 2 ^ k + bits_by op r t
+bits_by_block : (op : Bitwise) (k a b r t : ℕ) → r < 2 ^ k → t < 2 ^ k
+    → bits_by op (a * 2 ^ k + r) (b * 2 ^ k + t) ≡ bits_by op a b * 2 ^ k + bits_by op r t
 bits_by_block And k a b r t hr ht = and_block k a b r t hr ht
 bits_by_block Or k a b r t hr ht = or_block k a b r t hr ht
 bits_by_block Xor k a b r t hr ht = xor_block k a b r t hr ht
@@ -37,8 +31,10 @@ bits_by_block Xor k a b r t hr ht = xor_block k a b r t hr ht
 swapped : (m p d : ℕ) → m + p * d ≡ d * p + m
 swapped m p d = omega arith
 
-pub bitwise_none : (s : ℕ → Bool) (op : Bitwise) (out : List Literal) → out ≡ [] → nat_of s out ≡ bits_by op (nat_of s []) (nat_of s [])
-bitwise_none s op out e = ap (nat_of s) e ∙ nat_of_nil s ∙ sym (bits_by_none op) ∙ sym (λ j. bits_by op (nat_of_nil s j) (nat_of_nil s j))
+pub bitwise_none : (s : ℕ → Bool) (op : Bitwise) (out : List Literal) → out ≡ []
+    → nat_of s out ≡ bits_by op (nat_of s []) (nat_of s [])
+bitwise_none s op out e = ap (nat_of s) e ∙ nat_of_nil s ∙ sym (bits_by_none op)
+    ∙ sym (λ j. bits_by op (nat_of_nil s j) (nat_of_nil s j))
 
 pub bitwise_turn : (s : ℕ → Bool) (op : Bitwise) (xs ys out new : List Literal) (i : ℕ) (x y l : Literal)
     → i < length xs → i < length ys → x ≡ get_or xs i x → y ≡ get_or ys i y → length out ≡ i → new ≡ out ++ l ∷ []

@@ -1,9 +1,11 @@
 -- The turns of the loops of `choice`.
-use Rattle.std.proofs.Common.{◌≡◌, ℕ, ◌+◌, ◌*◌, ◌^◌, ◌<◌, ◌%◌, ◌/◌, ◌==◌, Bool, true, false, not, if◌then◌else◌, List, [], ◌∷◌, ◌++◌, length, take, get_or, refl, sym, ap, ◌∙◌, arith}
+use Rattle.std.proofs.Common.{◌≡◌, ℕ, ◌+◌, ◌*◌, ◌^◌, ◌<◌, ◌%◌, ◌/◌, ◌==◌, Bool, true, false, not, if◌then◌else◌, List}
+use Rattle.std.proofs.Common.{[], ◌∷◌, ◌++◌, length, take, get_or, refl, sym, ap, ◌∙◌, arith}
 use Rattle.std.proofs.lemmas.Bool.Decides.{nat_tests}
 use Rattle.pp_clause.specs.Literal.{Literal, lit_value}
 use Rattle.pp_bits.specs.Number.{bit, lit_bit, nat_of}
-use Rattle.pp_bits.proofs.Numbers.{bit_not, nat_of_next, nat_of_pushed, nat_of_nil, nat_of_within, remainder_is, power_next}
+use Rattle.pp_bits.proofs.Numbers.{bit_not, nat_of_next, nat_of_pushed, nat_of_nil, nat_of_within, remainder_is}
+use Rattle.pp_bits.proofs.Numbers.{power_next}
 
 pub choose_turn : (s : ℕ → Bool) (v : Bool) (xs ys out new : List Literal) (i : ℕ) (x y l : Literal)
     → i < length xs → i < length ys → x ≡ get_or xs i x → y ≡ get_or ys i y → length out ≡ i → new ≡ out ++ l ∷ []
@@ -47,6 +49,7 @@ pub constant_none : (s : ℕ → Bool) (out : List Literal) (v : ℕ) → out �
 constant_none s out v e = omega (arith, ap (nat_of s) e, nat_of_nil s)
 
 -- the digits that are made are those of the remainder
-pub constant_value : (s : ℕ → Bool) (out : List Literal) (i n v rest : ℕ) → i ≡ n → length out ≡ i → nat_of s out + 2 ^ i * rest ≡ v → nat_of s out ≡ v % 2 ^ n
+pub constant_value : (s : ℕ → Bool) (out : List Literal) (i n v rest : ℕ) → i ≡ n → length out ≡ i
+    → nat_of s out + 2 ^ i * rest ≡ v → nat_of s out ≡ v % 2 ^ n
 constant_value s out i n v rest same len e =
     remainder_is (2 ^ i) (nat_of s out) rest v (nat_of_within s out i len) e ∙ ap (λ (k : ℕ). v % 2 ^ k) same

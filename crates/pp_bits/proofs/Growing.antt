@@ -1,44 +1,20 @@
 -- Circuits that grow by several calls, and the lists of literals that are made on the way.
-use Rattle.std.proofs.Common.{◌≡◌, ℕ, ◌+◌, ◌≤◌, ◌<◌, Bool, List, [], ◌∷◌, ◌++◌, length, All, get_or, sym, ap, ◌∙◌, subst, length-append}
+use Rattle.std.proofs.Common.{◌≡◌, ℕ, ◌+◌, ◌<◌, Bool, List, [], ◌∷◌, ◌++◌, length, All, get_or, sym, ap, ◌∙◌, subst}
+use Rattle.std.proofs.Common.{length-append}
 use Rattle.std.proofs.lemmas.List.Elements.{All-push, All-nil}
 use Rattle.pp_clause.specs.Literal.{Literal, opposite}
 use Rattle.pp_gate.specs.declared.gate.Gate.{Gate}
-use Rattle.pp_gate.specs.Circuit.{IsOf, IsCircuit, Gives}
+use Rattle.pp_gate.specs.Circuit.{IsOf, Gives}
 use Rattle.pp_gate.specs.Growth.{Grows, AddsGates}
-use Rattle.pp_gate.proofs.Agreement as agreement
-use Rattle.pp_gate.proofs.Growing as growing
-
-pub Gives_old : (old new : List Gate) (n : ℕ) → Grows old new n → (s : ℕ → Bool) → Gives s new → Gives s old
-Gives_old = agreement.Gives_old
-
-pub Grows_none : (gs : List Gate) → Grows gs gs 0
-Grows_none = growing.Grows_none
-
-pub Grows_more : (a b c : List Gate) (m n k : ℕ) → Grows a b m → Grows b c n → m + n ≤ k → Grows a c k
-Grows_more = growing.Grows_more
-
-pub Grows_weaker : (old new : List Gate) (m n : ℕ) → Grows old new m → m ≤ n → Grows old new n
-Grows_weaker = growing.Grows_weaker
-
-pub length-Grows : (old new : List Gate) (n : ℕ) → Grows old new n → (length old ≤ length new) × (length new ≤ length old + n)
-length-Grows = growing.length-Grows
-
-pub AddsGates_none : (gs : List Gate) (n : ℕ) → IsCircuit gs → AddsGates gs gs n
-AddsGates_none = growing.AddsGates_none
-
-pub AddsGates_more : (a b c : List Gate) (m n k : ℕ) → AddsGates a b m → AddsGates b c n → m + n ≤ k → AddsGates a c k
-AddsGates_more = growing.AddsGates_more
-
-pub AddsGates_weaker : (old new : List Gate) (m n : ℕ) → AddsGates old new m → m ≤ n → AddsGates old new n
-AddsGates_weaker = growing.AddsGates_weaker
+pub use Rattle.pp_gate.proofs.Agreement.{Gives_old}
+pub use Rattle.pp_gate.proofs.Growing.{Grows_none, Grows_more, Grows_weaker, length-Grows, IsOf_more}
+pub use Rattle.pp_gate.proofs.Growing.{AddsGates_none, AddsGates_more, AddsGates_weaker}
 
 pub Gives_before : (old new : List Gate) (n : ℕ) → AddsGates old new n → (s : ℕ → Bool) → Gives s new → Gives s old
 Gives_before old new n adds s gives = Gives_old old new n adds.grows s gives
 
-pub IsOf_more : (old new : List Gate) (n : ℕ) (l : Literal) → Grows old new n → IsOf old l → IsOf new l
-IsOf_more = growing.IsOf_more
-
-pub AreOf_more : (old new : List Gate) (n : ℕ) (ls : List Literal) → Grows old new n → All (IsOf old) ls → All (IsOf new) ls
+pub AreOf_more : (old new : List Gate) (n : ℕ) (ls : List Literal) → Grows old new n → All (IsOf old) ls
+    → All (IsOf new) ls
 AreOf_more old new n ls g all = λ k x h. IsOf_more old new n (get_or ls k x) g (all k x h)
 
 pub IsOf_opposite : (gs : List Gate) (l : Literal) → IsOf gs l → IsOf gs (opposite l)
@@ -53,7 +29,8 @@ pub Digits_none : (gs : List Gate) (ls : List Literal) → ls ≡ [] → Digits 
 Digits_none gs ls e = record { len = ap length e; of = subst (All (IsOf gs)) (sym e) (All-nil (IsOf gs)) }
 
 -- one more, in a circuit that has grown
-pub Digits_push : (old new : List Gate) (m n : ℕ) (ls all : List Literal) (l : Literal) → Digits old n ls → Grows old new m → IsOf new l → all ≡ ls ++ l ∷ [] → Digits new (n + 1) all
+pub Digits_push : (old new : List Gate) (m n : ℕ) (ls all : List Literal) (l : Literal) → Digits old n ls
+    → Grows old new m → IsOf new l → all ≡ ls ++ l ∷ [] → Digits new (n + 1) all
 Digits_push old new m n ls all l d g of e = record {
   len = ap length e ∙ length-append ls (l ∷ []) ∙ ap (λ (k : ℕ). k + 1) d.len;
   of = subst (All (IsOf new)) (sym e) (All-push (IsOf new) ls l (AreOf_more old new m ls g d.of) of);
@@ -62,5 +39,6 @@ Digits_push old new m n ls all l d g of e = record {
 pub IsOf_negated : (gs : List Gate) (l m : Literal) → l ≡ opposite m → IsOf gs m → IsOf gs l
 IsOf_negated gs l m e of = subst (IsOf gs) (sym e) (IsOf_opposite gs m of)
 
-pub IsOf_at : (gs : List Gate) (ls : List Literal) (i : ℕ) (l : Literal) → All (IsOf gs) ls → i < length ls → l ≡ get_or ls i l → IsOf gs l
+pub IsOf_at : (gs : List Gate) (ls : List Literal) (i : ℕ) (l : Literal) → All (IsOf gs) ls → i < length ls
+    → l ≡ get_or ls i l → IsOf gs l
 IsOf_at gs ls i l all h e = subst (IsOf gs) (sym e) (all i l h)

@@ -1,5 +1,6 @@
 -- The turns of the loops of `order`.
-use Rattle.std.proofs.Common.{◌≡◌, ℕ, ◌+◌, ◌*◌, ◌^◌, ◌<◌, ◌==◌, ◌&&◌, nat_lt, Bool, true, false, not, List, [], length, take, get_or, sym, ap, ◌∙◌, arith}
+use Rattle.std.proofs.Common.{◌≡◌, ℕ, ◌+◌, ◌*◌, ◌^◌, ◌<◌, ◌==◌, ◌&&◌, nat_lt, Bool, true, false, not, List, [], length}
+use Rattle.std.proofs.Common.{take, get_or, sym, ap, ◌∙◌, arith}
 use Rattle.std.proofs.lemmas.Bool.Decides.{nat_tests}
 use Rattle.pp_clause.specs.Literal.{Literal, lit_value}
 use Rattle.pp_gate.specs.Gate.{xor_of, majority_of}
@@ -10,11 +11,9 @@ pub equal_none : (s : ℕ → Bool) → true ≡ (nat_of s [] == nat_of s [])
 equal_none s = grind (arith, nat_tests)
 
 -- whether two numbers are equal, from their lower digits and the digit at weight p
-digits_equal : (p a b : ℕ) (x y : Bool) → a < p → b < p → ((a == b) && not (xor_of x y)) ≡ (a + p * bit x == b + p * bit y)
-digits_equal p a b true true ha hb = grind (arith, nat_tests)
-digits_equal p a b true false ha hb = grind (arith, nat_tests)
-digits_equal p a b false true ha hb = grind (arith, nat_tests)
-digits_equal p a b false false ha hb = grind (arith, nat_tests)
+digits_equal : (p a b : ℕ) (x y : Bool) → a < p → b < p
+    → ((a == b) && not (xor_of x y)) ≡ (a + p * bit x == b + p * bit y)
+digits_equal p a b x y ha hb = grind (arith, nat_tests)
 
 pub equal_turn : (s : ℕ → Bool) (xs ys : List Literal) (i : ℕ) (x y both next : Literal)
     → i < length xs → i < length ys → x ≡ get_or xs i x → y ≡ get_or ys i y
@@ -30,11 +29,9 @@ pub less_none : (s : ℕ → Bool) → false ≡ nat_lt (nat_of s []) (nat_of s 
 less_none s = grind (arith, nat_tests)
 
 -- whether one number is less than another, from their lower digits and the digit at weight p
-digits_less : (p a b : ℕ) (x y : Bool) → a < p → b < p → majority_of (not x) y (nat_lt a b) ≡ nat_lt (a + p * bit x) (b + p * bit y)
-digits_less p a b true true ha hb = grind (arith, nat_tests)
-digits_less p a b true false ha hb = grind (arith, nat_tests)
-digits_less p a b false true ha hb = grind (arith, nat_tests)
-digits_less p a b false false ha hb = grind (arith, nat_tests)
+digits_less : (p a b : ℕ) (x y : Bool) → a < p → b < p → majority_of (not x) y (nat_lt a b) ≡ nat_lt (a + p * bit x)
+    (b + p * bit y)
+digits_less p a b x y ha hb = grind (arith, nat_tests)
 
 pub less_turn : (s : ℕ → Bool) (xs ys : List Literal) (i : ℕ) (x y lower next : Literal)
     → i < length xs → i < length ys → x ≡ get_or xs i x → y ≡ get_or ys i y

@@ -1,43 +1,44 @@
 -- The arithmetic of the adder.
-use Rattle.std.proofs.Common.{◌≡◌, ℕ, ◌+◌, ◌-◌, ◌*◌, ◌^◌, ◌<◌, ◌%◌, Bool, true, false, List, [], ◌∷◌, ◌++◌, length, length-append, take, get_or, refl, sym, ap, ◌∙◌, arith}
+use Rattle.std.proofs.Common.{◌≡◌, ℕ, ◌+◌, ◌-◌, ◌*◌, ◌^◌, ◌<◌, ◌%◌, Bool, List, [], ◌∷◌, ◌++◌, length, length-append}
+use Rattle.std.proofs.Common.{take, get_or, sym, ap, ◌∙◌, arith}
+use Rattle.std.proofs.lemmas.Bool.Decides.{nat_tests}
 use Rattle.std.proofs.lemmas.Nat.{pow_pos}
 use Rattle.pp_clause.specs.Literal.{Literal, opposite, lit_value}
 use Rattle.pp_gate.specs.Gate.{xor_of, majority_of}
 use Rattle.pp_bits.specs.Number.{bit, lit_bit, nat_of}
 use Rattle.std.proofs.lemmas.List.{length-take-le}
 use Rattle.pp_bits.proofs.Signs.{nat_of_top}
-use Rattle.pp_bits.proofs.Numbers.{nat_of_nil, nat_of_next, nat_of_pushed, nat_of_within, power_next, remainder_is, bit_not, lit_value_negated}
+use Rattle.pp_bits.proofs.Numbers.{nat_of_nil, nat_of_next, nat_of_pushed, nat_of_within, power_next, remainder_is}
+use Rattle.pp_bits.proofs.Numbers.{bit_not, lit_value_negated}
 
 pub full_sum : (x y c : Bool) → bit (xor_of (xor_of x y) c) + 2 * bit (majority_of x y c) ≡ bit x + bit y + bit c
-full_sum true true true = refl
-full_sum true true false = refl
-full_sum true false true = refl
-full_sum true false false = refl
-full_sum false true true = refl
-full_sum false true false = refl
-full_sum false false true = refl
-full_sum false false false = refl
+full_sum x y c = grind (arith, nat_tests)
 
-pub add_none : (s : ℕ → Bool) (out : List Literal) (c : Literal) → out ≡ [] → nat_of s out + 1 * lit_bit s c ≡ nat_of s [] + nat_of s [] + lit_bit s c
+pub add_none : (s : ℕ → Bool) (out : List Literal) (c : Literal) → out ≡ []
+    → nat_of s out + 1 * lit_bit s c ≡ nat_of s [] + nat_of s [] + lit_bit s c
 add_none s out c e = omega (arith, ap (nat_of s) e, nat_of_nil s)
 
 pub add_turn : (s : ℕ → Bool) (xs ys out new : List Literal) (i : ℕ) (x y carry first l next : Literal)
     → i < length xs → i < length ys → x ≡ get_or xs i x → y ≡ get_or ys i y → length out ≡ i → new ≡ out ++ l ∷ []
     → lit_bit s l + 2 * lit_bit s next ≡ lit_bit s x + lit_bit s y + lit_bit s carry
     → nat_of s out + 2 ^ i * lit_bit s carry ≡ nat_of s (take i xs) + nat_of s (take i ys) + lit_bit s first
-    → nat_of s new + 2 ^ (i + 1) * lit_bit s next ≡ nat_of s (take (i + 1) xs) + nat_of s (take (i + 1) ys) + lit_bit s first
+    → nat_of s new + 2 ^ (i + 1) * lit_bit s next ≡ nat_of s (take (i + 1) xs) + nat_of s (take (i + 1) ys) + lit_bit s
+    first
 add_turn s xs ys out new i x y carry first l next hx hy ex ey len is f e =
     omega (arith, nat_of_pushed s out new i l len is, nat_of_next s xs i x hx ex, nat_of_next s ys i y hy ey, ap (λ (k : ℕ). 2 ^ i * k) f, ap (λ (k : ℕ). k * lit_bit s next) (power_next i), e)
 
-pub wrapping_length : (xs low new : List Literal) (digit : Literal) → 0 < length xs → length low ≡ length (take (length xs - 1) xs) → new ≡ low ++ digit ∷ [] → length new ≡ length xs
+pub wrapping_length : (xs low new : List Literal) (digit : Literal) → 0 < length xs
+    → length low ≡ length (take (length xs - 1) xs) → new ≡ low ++ digit ∷ [] → length new ≡ length xs
 wrapping_length xs low new digit some len is =
     ap length is ∙ length-append low (digit ∷ []) ∙ omega (arith, len, length-take-le (length xs - 1) xs (omega arith))
 
 -- a sum without the carry that leaves it: the lower digits with their carry, and the highest digit
-pub wrapping_turn : (s : ℕ → Bool) (xs ys low new : List Literal) (x y first next digit : Literal) → 0 < length xs → length xs ≡ length ys
+pub wrapping_turn : (s : ℕ → Bool) (xs ys low new : List Literal) (x y first next digit : Literal) → 0 < length xs
+    → length xs ≡ length ys
     → x ≡ get_or xs (length xs - 1) x → y ≡ get_or ys (length xs - 1) y
     → length low ≡ length (take (length xs - 1) xs) → new ≡ low ++ digit ∷ []
-    → nat_of s low + 2 ^ length (take (length xs - 1) xs) * lit_bit s next ≡ nat_of s (take (length xs - 1) xs) + nat_of s (take (length xs - 1) ys) + lit_bit s first
+    → nat_of s low + 2 ^ length (take (length xs - 1) xs) * lit_bit s next ≡ nat_of s (take (length xs - 1) xs) + nat_of
+    s (take (length xs - 1) ys) + lit_bit s first
     → lit_value s digit ≡ xor_of (xor_of (lit_value s x) (lit_value s y)) (lit_value s next)
     → nat_of s new ≡ (nat_of s xs + nat_of s ys + lit_bit s first) % 2 ^ length xs
 wrapping_turn s xs ys low new x y first next digit some same ex ey len is e f =
@@ -60,7 +61,8 @@ wrapping_turn s xs ys low new x y first next digit some same ex ey len is e f =
 
 -- a difference, from the sum with the inverted digits and 1
 pub difference_turn : (s : ℕ → Bool) (p r a b v one : ℕ) (carry borrow : Literal)
-    → one ≡ 1 → borrow ≡ opposite carry → b < p → v ≡ p - 1 - b → r + p * lit_bit s carry ≡ a + v + one → r + b ≡ a + p * lit_bit s borrow
+    → one ≡ 1 → borrow ≡ opposite carry → b < p → v ≡ p - 1 - b → r + p * lit_bit s carry ≡ a + v + one
+    → r + b ≡ a + p * lit_bit s borrow
 difference_turn s p r a b v one carry borrow o e h i f =
     let both : lit_bit s borrow + lit_bit s carry ≡ 1 = ap (λ (x : Bool). bit x + lit_bit s carry) (lit_value_negated s borrow carry e) ∙ bit_not (lit_value s carry) in
     omega (arith, ap (λ (k : ℕ). p * k) both)
@@ -76,6 +78,8 @@ negated_value p z r a h e f =
     f ∙ ap (λ (k : ℕ). k % p) (omega arith)
 
 pub negated_turn : (s : ℕ → Bool) (zero out xs : List Literal) (n : ℕ) → length zero ≡ n → nat_of s zero ≡ 0 % 2 ^ n
-    → nat_of s out ≡ (nat_of s zero + (2 ^ length zero - nat_of s xs)) % 2 ^ length zero → nat_of s out ≡ (2 ^ n - nat_of s xs) % 2 ^ n
+    → nat_of s out ≡ (nat_of s zero + (2 ^ length zero - nat_of s xs)) % 2 ^ length zero
+    → nat_of s out ≡ (2 ^ n - nat_of s xs) % 2 ^ n
 negated_turn s zero out xs n len e f =
-    negated_value (2 ^ n) (nat_of s zero) (nat_of s out) (nat_of s xs) (pow_pos n) e (f ∙ ap (λ (k : ℕ). (nat_of s zero + (2 ^ k - nat_of s xs)) % 2 ^ k) len)
+    negated_value (2 ^ n) (nat_of s zero) (nat_of s out) (nat_of s xs) (pow_pos n) e
+    (f ∙ ap (λ (k : ℕ). (nat_of s zero + (2 ^ k - nat_of s xs)) % 2 ^ k) len)

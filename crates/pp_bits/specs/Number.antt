@@ -1,6 +1,7 @@
 -- The numbers that lists of literals stand for, the lowest literal first, where an assignment `s` gives each variable a
 -- truth value. Nothing here depends on the length of the lists. (own; binary numerals and two's complement)
-use Rattle.std.specs.Prelude.{◌≡◌, ℕ, ◌+◌, ◌-◌, ◌*◌, ◌^◌, Bool, true, false, List, [], ◌∷◌, if◌then◌else◌, nat_lt, All, length, ℤ, pos, neg_ℤ}
+use Rattle.std.specs.Prelude.{◌≡◌, ℕ, ◌+◌, ◌-◌, ◌*◌, ◌^◌, Bool, true, false, List, [], ◌∷◌, if◌then◌else◌, nat_lt, All}
+use Rattle.std.specs.Prelude.{length, ℤ, pos, neg_ℤ}
 use Rattle.pp_clause.specs.Literal.{Literal, lit_value}
 use Rattle.pp_gate.specs.declared.gate.Gate.{Gate}
 use Rattle.pp_gate.specs.Circuit.{IsOf, Gives}

@@ -37,15 +37,17 @@ fn digit_by(circuit: &mut Circuit, op: Bitwise, a: Lit, b: Lit) -> Result<Lit, N
 }
 
 /// The same done to each pair of digits.
+#[tactic(auto, using(crate::proofs::Growing::AddsGates_none))]
 fn by_digit(circuit: &mut Circuit, op: Bitwise, a: &[Lit], b: &[Lit]) -> Result<Vec<Lit>, NoMemory>
     requires same { length a.now ≡ length b.now }
     requires left { All (IsOf circuit.old) a.now }
     requires right { All (IsOf circuit.old) b.now }
     requires room { length circuit.old + length a.now ≤ 2 ^ 30 }
     ensures adds { AddsGates circuit.old circuit.new (length a.now) }
-    ensures stands { IfOk result (λ r. StandsForNumber circuit.new (length a.now) r.items (λ s. bits_by op (nat_of s a.now) (nat_of s b.now))) }
+    ensures stands { IfOk result (λ r. StandsForNumber circuit.new (length a.now) r.items
+        (λ s. bits_by op (nat_of s a.now) (nat_of s b.now))) }
 {
-    let mut digits = no_digits(circuit);
+    let mut digits = no_digits(circuit, a.len())?;
     for i in 0..a.len() {
         let digit = digit_by(circuit, op, a[i], b[i])?;
         digits.push(digit)?;
@@ -60,7 +62,8 @@ pub fn and(circuit: &mut Circuit, a: &[Lit], b: &[Lit]) -> Result<Vec<Lit>, NoMe
     requires right { All (IsOf circuit.old) b.now }
     requires room { length circuit.old + length a.now ≤ 2 ^ 30 }
     ensures adds { AddsGates circuit.old circuit.new (length a.now) }
-    ensures stands { IfOk result (λ r. StandsForNumber circuit.new (length a.now) r.items (λ s. bit_and (nat_of s a.now) (nat_of s b.now))) }
+    ensures stands { IfOk result (λ r. StandsForNumber circuit.new (length a.now) r.items
+        (λ s. bit_and (nat_of s a.now) (nat_of s b.now))) }
 {
     let all = by_digit(circuit, Bitwise::And, a, b)?;
     Ok(all)
@@ -73,7 +76,8 @@ pub fn or(circuit: &mut Circuit, a: &[Lit], b: &[Lit]) -> Result<Vec<Lit>, NoMem
     requires right { All (IsOf circuit.old) b.now }
     requires room { length circuit.old + length a.now ≤ 2 ^ 30 }
     ensures adds { AddsGates circuit.old circuit.new (length a.now) }
-    ensures stands { IfOk result (λ r. StandsForNumber circuit.new (length a.now) r.items (λ s. bit_or (nat_of s a.now) (nat_of s b.now))) }
+    ensures stands { IfOk result (λ r. StandsForNumber circuit.new (length a.now) r.items
+        (λ s. bit_or (nat_of s a.now) (nat_of s b.now))) }
 {
     let all = by_digit(circuit, Bitwise::Or, a, b)?;
     Ok(all)
@@ -86,7 +90,8 @@ pub fn xor(circuit: &mut Circuit, a: &[Lit], b: &[Lit]) -> Result<Vec<Lit>, NoMe
     requires right { All (IsOf circuit.old) b.now }
     requires room { length circuit.old + length a.now ≤ 2 ^ 30 }
     ensures adds { AddsGates circuit.old circuit.new (length a.now) }
-    ensures stands { IfOk result (λ r. StandsForNumber circuit.new (length a.now) r.items (λ s. bit_xor (nat_of s a.now) (nat_of s b.now))) }
+    ensures stands { IfOk result (λ r. StandsForNumber circuit.new (length a.now) r.items
+        (λ s. bit_xor (nat_of s a.now) (nat_of s b.now))) }
 {
     let all = by_digit(circuit, Bitwise::Xor, a, b)?;
     Ok(all)

@@ -20,9 +20,10 @@ pub fn inputs(circuit: &mut Circuit, width: usize) -> Result<Vec<Lit>, NoMemory>
     ensures grows { Grows circuit.old circuit.new width }
     ensures circuit { IsCircuit circuit.new }
     ensures inputs { IfOk result (λ r. AreInputs circuit.old circuit.new width r.items) }
-    ensures chosen { IfOk result (λ r. (s : ℕ → Bool) → Gives s circuit.old → (v : ℕ) → v < 2 ^ width → ChosenNumber circuit.old circuit.new s r.items v) }
+    ensures chosen { IfOk result (λ r. (s : ℕ → Bool) → Gives s circuit.old → (v : ℕ) → v < 2 ^ width
+        → ChosenNumber circuit.old circuit.new s r.items v) }
 {
-    let mut digits = no_digits(circuit);
+    let mut digits = no_digits(circuit, width)?;
     for _place in 0..width {
         let digit = circuit.input()?;
         digits.push(digit)?;

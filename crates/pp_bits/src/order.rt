@@ -1,6 +1,7 @@
 //! Comparisons.
 
-ghost use Rattle.std.specs.Prelude.{◌≡◌, ℕ, Bool, ◌+◌, ◌-◌, ◌*◌, ◌^◌, ◌<◌, ◌≤◌, ◌==◌, ◌&&◌, not, if◌then◌else◌, nat_lt, All, length, IfOk};
+ghost use Rattle.std.specs.Prelude.{◌≡◌, ℕ, Bool, ◌+◌, ◌-◌, ◌*◌, ◌^◌, ◌<◌, ◌≤◌, ◌==◌, ◌&&◌, not, if◌then◌else◌, nat_lt};
+ghost use Rattle.std.specs.Prelude.{All, length, IfOk};
 ghost use Rattle.std.specs.Int.RustNames.{int_lt};
 ghost use Rattle.pp_clause.specs.Literal.{lit_value};
 ghost use Rattle.pp_gate.specs.Circuit.{IsOf, StandsFor};
@@ -19,7 +20,8 @@ fn equal_so_far(circuit: &mut Circuit, both: Lit, a: Lit, b: Lit) -> Result<Lit,
     requires right { IsOf circuit.old b }
     requires room { length circuit.old + 2 ≤ 2 ^ 30 }
     ensures adds { AddsGates circuit.old circuit.new 2 }
-    ensures stands { IfOk result (λ r. StandsFor circuit.new r (λ s. lit_value s both && not (xor_of (lit_value s a) (lit_value s b)))) }
+    ensures stands { IfOk result (λ r. StandsFor circuit.new r
+        (λ s. lit_value s both && not (xor_of (lit_value s a) (lit_value s b)))) }
 {
     let differ = circuit.xor(a, b)?;
     let equal = circuit.and(both, differ.negated())?;
@@ -49,7 +51,8 @@ fn less_so_far(circuit: &mut Circuit, lower: Lit, a: Lit, b: Lit) -> Result<Lit,
     requires right { IsOf circuit.old b }
     requires room { length circuit.old + 1 ≤ 2 ^ 30 }
     ensures adds { AddsGates circuit.old circuit.new 1 }
-    ensures stands { IfOk result (λ r. StandsFor circuit.new r (λ s. majority_of (not (lit_value s a)) (lit_value s b) (lit_value s lower))) }
+    ensures stands { IfOk result (λ r. StandsFor circuit.new r
+        (λ s. majority_of (not (lit_value s a)) (lit_value s b) (lit_value s lower))) }
 {
     let less = circuit.majority(a.negated(), b, lower)?;
     Ok(less)
@@ -79,7 +82,8 @@ pub fn less_signed(circuit: &mut Circuit, a: &[Lit], b: &[Lit]) -> Result<Lit, N
     requires right { All (IsOf circuit.old) b.now }
     requires room { length circuit.old + length a.now ≤ 2 ^ 30 }
     ensures adds { AddsGates circuit.old circuit.new (length a.now) }
-    ensures stands { IfOk result (λ r. StandsFor circuit.new r (λ s. int_lt (signed_of (length a.now) (nat_of s a.now)) (signed_of (length a.now) (nat_of s b.now)))) }
+    ensures stands { IfOk result (λ r. StandsFor circuit.new r
+        (λ s. int_lt (signed_of (length a.now) (nat_of s a.now)) (signed_of (length a.now) (nat_of s b.now)))) }
 {
     let top = a.len() - 1;
     let lower = less(circuit, &a[..top], &b[..top])?;

@@ -21,7 +21,8 @@ fn full_add(circuit: &mut Circuit, a: Lit, b: Lit, carry: Lit) -> Result<(Lit, L
     ensures adds { AddsGates circuit.old circuit.new 3 }
     ensures sum_of { IfOk result (λ r. IsOf circuit.new r.0) }
     ensures carry_of { IfOk result (λ r. IsOf circuit.new r.1) }
-    ensures value { IfOk result (λ r. (s : ℕ → Bool) → Gives s circuit.new → lit_bit s r.0 + 2 * lit_bit s r.1 ≡ lit_bit s a + lit_bit s b + lit_bit s carry) }
+    ensures value { IfOk result (λ r. (s : ℕ → Bool) → Gives s circuit.new → lit_bit s r.0 + 2 * lit_bit s r.1
+        ≡ lit_bit s a + lit_bit s b + lit_bit s carry) }
 {
     let sum = odd_of(circuit, a, b, carry)?;
     let next = circuit.majority(a, b, carry)?;
@@ -35,7 +36,8 @@ fn odd_of(circuit: &mut Circuit, a: Lit, b: Lit, c: Lit) -> Result<Lit, NoMemory
     requires third { IsOf circuit.old c }
     requires room { length circuit.old + 2 ≤ 2 ^ 30 }
     ensures adds { AddsGates circuit.old circuit.new 2 }
-    ensures stands { IfOk result (λ r. StandsFor circuit.new r (λ s. xor_of (xor_of (lit_value s a) (lit_value s b)) (lit_value s c))) }
+    ensures stands { IfOk result (λ r. StandsFor circuit.new r
+        (λ s. xor_of (xor_of (lit_value s a) (lit_value s b)) (lit_value s c))) }
 {
     let differ = circuit.xor(a, b)?;
     let odd = circuit.xor(differ, c)?;
@@ -43,6 +45,7 @@ fn odd_of(circuit: &mut Circuit, a: Lit, b: Lit, c: Lit) -> Result<Lit, NoMemory
 }
 
 /// The sum of two numbers and a carry, and the carry that leaves it.
+#[tactic(auto, using(crate::proofs::Growing::AddsGates_none))]
 pub fn add_carry(
     circuit: &mut Circuit,
     a: &[Lit],
@@ -58,9 +61,10 @@ pub fn add_carry(
     ensures len { IfOk result (λ r. length r.0.items ≡ length a.now) }
     ensures of { IfOk result (λ r. All (IsOf circuit.new) r.0.items) }
     ensures carry_of { IfOk result (λ r. IsOf circuit.new r.1) }
-    ensures value { IfOk result (λ r. (s : ℕ → Bool) → Gives s circuit.new → nat_of s r.0.items + 2 ^ length a.now * lit_bit s r.1 ≡ nat_of s a.now + nat_of s b.now + lit_bit s carry) }
+    ensures value { IfOk result (λ r. (s : ℕ → Bool) → Gives s circuit.new
+        → nat_of s r.0.items + 2 ^ length a.now * lit_bit s r.1 ≡ nat_of s a.now + nat_of s b.now + lit_bit s carry) }
 {
-    let mut digits = no_digits(circuit);
+    let mut digits = no_digits(circuit, a.len())?;
     let mut next = carry;
     for i in 0..a.len() {
         let (digit, out) = full_add(circuit, a[i], b[i], next)?;
@@ -83,7 +87,8 @@ fn wrapping_sum(
     requires carry { IsOf circuit.old carry }
     requires room { length circuit.old + 3 * length a.now ≤ 2 ^ 30 }
     ensures adds { AddsGates circuit.old circuit.new (3 * length a.now) }
-    ensures stands { IfOk result (λ r. StandsForNumber circuit.new (length a.now) r.items (λ s. (nat_of s a.now + nat_of s b.now + lit_bit s carry) % 2 ^ length a.now)) }
+    ensures stands { IfOk result (λ r. StandsForNumber circuit.new (length a.now) r.items
+        (λ s. (nat_of s a.now + nat_of s b.now + lit_bit s carry) % 2 ^ length a.now)) }
 {
     if a.is_empty() {
         let none = constant(circuit, 0, a.len())?;
@@ -104,7 +109,8 @@ pub fn add(circuit: &mut Circuit, a: &[Lit], b: &[Lit]) -> Result<Vec<Lit>, NoMe
     requires right { All (IsOf circuit.old) b.now }
     requires room { length circuit.old + 3 * length a.now ≤ 2 ^ 30 }
     ensures adds { AddsGates circuit.old circuit.new (3 * length a.now) }
-    ensures stands { IfOk result (λ r. StandsForNumber circuit.new (length a.now) r.items (λ s. (nat_of s a.now + nat_of s b.now) % 2 ^ length a.now)) }
+    ensures stands { IfOk result (λ r. StandsForNumber circuit.new (length a.now) r.items
+        (λ s. (nat_of s a.now + nat_of s b.now) % 2 ^ length a.now)) }
 {
     let none = circuit.truth().negated();
     let sum = wrapping_sum(circuit, a, b, none)?;
@@ -121,7 +127,8 @@ pub fn sub_borrow(circuit: &mut Circuit, a: &[Lit], b: &[Lit]) -> Result<(Vec<Li
     ensures len { IfOk result (λ r. length r.0.items ≡ length a.now) }
     ensures of { IfOk result (λ r. All (IsOf circuit.new) r.0.items) }
     ensures borrow_of { IfOk result (λ r. IsOf circuit.new r.1) }
-    ensures value { IfOk result (λ r. (s : ℕ → Bool) → Gives s circuit.new → nat_of s r.0.items + nat_of s b.now ≡ nat_of s a.now + 2 ^ length a.now * lit_bit s r.1) }
+    ensures value { IfOk result (λ r. (s : ℕ → Bool) → Gives s circuit.new → nat_of s r.0.items + nat_of s b.now
+        ≡ nat_of s a.now + 2 ^ length a.now * lit_bit s r.1) }
 {
     let one = circuit.truth();
     let inverted = invert(circuit, b)?;
@@ -137,7 +144,8 @@ pub fn sub(circuit: &mut Circuit, a: &[Lit], b: &[Lit]) -> Result<Vec<Lit>, NoMe
     requires right { All (IsOf circuit.old) b.now }
     requires room { length circuit.old + 3 * length a.now ≤ 2 ^ 30 }
     ensures adds { AddsGates circuit.old circuit.new (3 * length a.now) }
-    ensures stands { IfOk result (λ r. StandsForNumber circuit.new (length a.now) r.items (λ s. (nat_of s a.now + (2 ^ length a.now - nat_of s b.now)) % 2 ^ length a.now)) }
+    ensures stands { IfOk result (λ r. StandsForNumber circuit.new (length a.now) r.items
+        (λ s. (nat_of s a.now + (2 ^ length a.now - nat_of s b.now)) % 2 ^ length a.now)) }
 {
     let one = circuit.truth();
     let inverted = invert(circuit, b)?;
@@ -150,7 +158,8 @@ pub fn neg(circuit: &mut Circuit, a: &[Lit]) -> Result<Vec<Lit>, NoMemory>
     requires of { All (IsOf circuit.old) a.now }
     requires room { length circuit.old + 3 * length a.now ≤ 2 ^ 30 }
     ensures adds { AddsGates circuit.old circuit.new (3 * length a.now) }
-    ensures stands { IfOk result (λ r. StandsForNumber circuit.new (length a.now) r.items (λ s. (2 ^ length a.now - nat_of s a.now) % 2 ^ length a.now)) }
+    ensures stands { IfOk result (λ r. StandsForNumber circuit.new (length a.now) r.items
+        (λ s. (2 ^ length a.now - nat_of s a.now) % 2 ^ length a.now)) }
 {
     let zero = constant(circuit, 0, a.len())?;
     let negated = sub(circuit, &zero, a)?;

@@ -1,5 +1,7 @@
 -- An assignment that gives the old gates their values is extended to the new ones, a gate at a time.
-use Rattle.std.proofs.Common.{◌≡◌, ℕ, zero, suc, ◌+◌, ◌-◌, Bool, false, if◌then◌else◌, List, [], ◌∷◌, ◌++◌, slice_get, Some, refl, sym, ap, ◌∙◌, subst, inl, inr, ◌<◌, length, arith, nat_eq, eq-eqb, append_assoc, length-append}
+use Rattle.std.proofs.Common.{◌≡◌, ℕ, zero, suc, ◌+◌, ◌-◌, Bool, false, if◌then◌else◌, List, [], ◌∷◌, ◌++◌, slice_get}
+use Rattle.std.proofs.Common.{Some, refl, sym, ap, ◌∙◌, subst, inl, inr, ◌<◌, length, arith, nat_eq, eq-eqb}
+use Rattle.std.proofs.Common.{append_assoc, length-append}
 use Rattle.std.proofs.lemmas.Bool.{cases_lt, ne_eqb}
 use Rattle.std.proofs.lemmas.List.{append-nil}
 use Rattle.std.proofs.lemmas.Option.{slice_get_within}
@@ -25,7 +27,8 @@ unfolding with
 with_agree s n v = record { agree = λ x low high. let e : nat_eq x (n + 1) ≡ false = ne_eqb x (n + 1) (λ q. omega arith) in rw e }
 
 -- an assignment that agrees with `s` and has the next value gives the next gate its value
-pub next_is : (n : ℕ) (s t values : ℕ → Bool) (g : Gate) → FitsAfter n g → AgreeUpTo n s t → t (n + 1) ≡ next_value s values g → t (n + 1) ≡ gate_value t g
+pub next_is : (n : ℕ) (s t values : ℕ → Bool) (g : Gate) → FitsAfter n g → AgreeUpTo n s t
+    → t (n + 1) ≡ next_value s values g → t (n + 1) ≡ gate_value t g
 next_is n s t values Truth f a e = e
 next_is n s t values (Input x) f a e = ap t (sym f)
 next_is n s t values (And l m) f a e = e ∙ gate_agree n s t (And l m) f a (λ x q. cc)
@@ -57,7 +60,8 @@ gives_next gs g s values fit fits gives = record {
     olds = gives_agree gs s t fit (with_agree s (length gs) (next_value s values g)) gives
 
     here : t (length gs + 1) ≡ gate_value t g
-    here = next_is (length gs) s t values g fits (with_agree s (length gs) (next_value s values g)) (with_same s (length gs + 1) (next_value s values g))
+    here = next_is (length gs) s t values g fits (with_agree s (length gs) (next_value s values g))
+        (with_same s (length gs + 1) (next_value s values g))
 
 place_of_next : (gs rest : List Gate) (g : Gate) (x : ℕ) → IsInput (gs ++ g ∷ rest) x → x ≡ length gs + 1 → g ≡ Input x
 place_of_next gs rest g x is e =
@@ -66,7 +70,8 @@ place_of_next gs rest g x is e =
     let same : Some g ≡ Some (Input x) = sym (at_next gs rest g) ∙ there in
     cc
 
-pub extended : (gs rest : List Gate) → AllFit (gs ++ rest) → (s values : ℕ → Bool) → Gives s gs → Extended gs (gs ++ rest) s values
+pub extended : (gs rest : List Gate) → AllFit (gs ++ rest) → (s values : ℕ → Bool) → Gives s gs
+    → Extended gs (gs ++ rest) s values
 extended gs [] fit s values gives = record {
   assignment = s;
   gives = rw append-nil gives;

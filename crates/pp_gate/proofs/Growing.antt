@@ -1,5 +1,6 @@
 -- Circuits that grow by several calls: what a caller of them cites.
-use Rattle.std.proofs.Common.{◌⊎◌, inl, inr, ◌∷◌, subst, ◌≡◌, ℕ, ◌+◌, ◌-◌, ◌≤◌, List, [], ◌++◌, length, slice_get, Some, sym, ap, ◌∙◌, append_assoc, length-append, arith}
+use Rattle.std.proofs.Common.{◌⊎◌, inl, inr, ◌∷◌, subst, ◌≡◌, ℕ, ◌+◌, ◌-◌, ◌≤◌, List, [], ◌++◌, length, slice_get, Some}
+use Rattle.std.proofs.Common.{sym, ap, ◌∙◌, append_assoc, length-append, arith}
 use Rattle.std.proofs.lemmas.List.{append-nil}
 use Rattle.pp_clause.specs.Literal.{Literal}
 use Rattle.pp_gate.specs.declared.gate.Gate.{Gate}
@@ -21,7 +22,8 @@ Grows_more a b c m n k g h le = record {
   most = simp length-append (omega (arith, g.most, h.most));
 }
 
-pub length-Grows : (old new : List Gate) (n : ℕ) → Grows old new n → (length old ≤ length new) × (length new ≤ length old + n)
+pub length-Grows : (old new : List Gate) (n : ℕ) → Grows old new n → (length old ≤ length new)
+    × (length new ≤ length old + n)
 length-Grows old new n g =
     let e : length new ≡ length old + length g.added = ap length g.is ∙ length-append old g.added in
     (omega arith, omega (arith, g.most))
@@ -30,7 +32,10 @@ pub IsOf_more : (old new : List Gate) (n : ℕ) (l : Literal) → Grows old new 
 IsOf_more old new n l g of = record { least = of.least; most = omega (arith, of.most, (length-Grows old new n g).0) }
 
 pub IsInput_more : (old new : List Gate) (n x : ℕ) → Grows old new n → IsInput old x → IsInput new x
-IsInput_more old new n x g is = record { stands = ap (λ (l : List Gate). slice_get l (x - 1)) g.is ∙ at_left old g.added (x - 1) (Input x) is.stands }
+IsInput_more old new n x g is = record {
+  stands = ap (λ (l : List Gate). slice_get l (x - 1)) g.is
+      ∙ at_left old g.added (x - 1) (Input x) is.stands;
+}
 
 -- the front of a circuit is one
 pub IsCircuit_old : (old new : List Gate) (n : ℕ) → Grows old new n → 1 ≤ length old → IsCircuit new → IsCircuit old
@@ -46,7 +51,8 @@ IsCircuit_old old new n g some is =
     stays : (k : ℕ) (h : Gate) → slice_get old k ≡ Some h → slice_get new k ≡ Some h
     stays k h at = ap (λ (l : List Gate). slice_get l k) g.is ∙ at_left old g.added k h at
 
-pub AddsGates_from : (old new : List Gate) (n : ℕ) → Grows old new n → ((x : ℕ) → IsInput new x → IsInput old x) → IsCircuit new → AddsGates old new n
+pub AddsGates_from : (old new : List Gate) (n : ℕ) → Grows old new n → ((x : ℕ) → IsInput new x → IsInput old x)
+    → IsCircuit new → AddsGates old new n
 AddsGates_from old new n grows inputs is = record { grows = grows; inputs = inputs; circuit = is; literals = λ l of. IsOf_more old new n l grows of }
 
 pub AddsGates_none : (gs : List Gate) (n : ℕ) → IsCircuit gs → AddsGates gs gs n
@@ -61,14 +67,23 @@ AddsGates_more a b c m n k g h le = record {
 }
 
 pub AddsGates_weaker : (old new : List Gate) (m n : ℕ) → AddsGates old new m → m ≤ n → AddsGates old new n
-AddsGates_weaker old new m n g le = record { grows = Grows_weaker old new m n g.grows le; inputs = g.inputs; circuit = g.circuit; literals = g.literals }
+AddsGates_weaker old new m n g le = record {
+  grows = Grows_weaker old new m n g.grows le;
+  inputs = g.inputs;
+  circuit =
+      g.circuit;
+  literals = g.literals;
+}
 
 -- a gate that isn't an input, where it is the only one that may have come in
-pub AddsGates_one : (old new : List Gate) (g : Gate) → ((x : ℕ) → g ≡ Input x → ⊥) → IsCircuit new → (new ≡ old) ⊎ (new ≡ old ++ g ∷ []) → AddsGates old new 1
-AddsGates_one old new g other is (inl e) = subst (λ (l : List Gate). AddsGates old l 1) (sym e) (AddsGates_none old 1 (subst IsCircuit e is))
+pub AddsGates_one : (old new : List Gate) (g : Gate) → ((x : ℕ) → g ≡ Input x → ⊥) → IsCircuit new → (new ≡ old)
+    ⊎ (new ≡ old ++ g ∷ []) → AddsGates old new 1
+AddsGates_one old new g other is (inl e) = subst (λ (l : List Gate). AddsGates old l 1) (sym e)
+    (AddsGates_none old 1 (subst IsCircuit e is))
 AddsGates_one old new g other is (inr e) =
     AddsGates_from old new 1 (record { added = g ∷ []; is = e; most = omega arith })
-    (λ x at. elim (at_push old g (x - 1) (Input x) (subst (λ (l : List Gate). slice_get l (x - 1) ≡ Some (Input x)) e at.stands)) [
+    (λ x at. elim (at_push old g (x - 1) (Input x) (subst (λ (l : List Gate). slice_get l (x - 1) ≡ Some (Input x)) e
+    at.stands)) [
       | inl a ↦ record { stands = a }
       | inr b ↦ absurd (other x b.1)
     ])

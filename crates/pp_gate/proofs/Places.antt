@@ -1,6 +1,7 @@
 -- Where elements stand in a list that has grown.
-use Rattle.std.proofs.Common.{◌≡◌, ℕ, zero, suc, ◌<◌, List, [], ◌∷◌, ◌++◌, length, slice_get, slice_index_or, Some, refl, sym, ap, ◌⊎◌, inl, inr, arith}
-use Rattle.std.proofs.lemmas.Option.{slice_get_cases}
+use Rattle.std.proofs.Common.{◌≡◌, ℕ, zero, suc, ◌<◌, List, [], ◌∷◌, ◌++◌, length, slice_get, slice_index_or, Some}
+use Rattle.std.proofs.Common.{refl, ap, ◌⊎◌, inl, inr, arith}
+use Rattle.std.proofs.lemmas.Option.{slice_get_cases, slice_get_read}
 
 pub at_left : {X : Type 0} (xs ys : List X) (k : ℕ) (x : X) → slice_get xs k ≡ Some x → slice_get (xs ++ ys) k ≡ Some x
 at_left [] ys k x e = cc
@@ -8,7 +9,8 @@ at_left (y ∷ xs) ys zero x e = e
 at_left (y ∷ xs) ys (suc k) x e = at_left xs ys k x e
 
 -- what stands in a list with one element more
-pub at_push : {X : Type 0} (xs : List X) (y : X) (k : ℕ) (x : X) → slice_get (xs ++ y ∷ []) k ≡ Some x → (slice_get xs k ≡ Some x) ⊎ ((k ≡ length xs) × (y ≡ x))
+pub at_push : {X : Type 0} (xs : List X) (y : X) (k : ℕ) (x : X) → slice_get (xs ++ y ∷ []) k ≡ Some x
+    → (slice_get xs k ≡ Some x) ⊎ ((k ≡ length xs) × (y ≡ x))
 at_push [] y zero x e = inr (refl, cc)
 at_push [] y (suc k) x e = cc
 at_push (z ∷ xs) y zero x e = inl e
@@ -27,7 +29,6 @@ at_some xs k h =
     ]
 
 -- the element that the code read at a place stands there
-pub at_read : {X : Type 0} (xs : List X) (k : ℕ) (x : X) → k < length xs → x ≡ slice_index_or xs k x → slice_get xs k ≡ Some x
-at_read [] k x lt e = absurd (omega arith)
-at_read (y ∷ xs) zero x lt e = ap Some (sym e)
-at_read (y ∷ xs) (suc k) x lt e = at_read xs k x (omega arith) e
+pub at_read : {X : Type 0} (xs : List X) (k : ℕ) (x : X) → k < length xs → x ≡ slice_index_or xs k x
+    → slice_get xs k ≡ Some x
+at_read xs k x lt e = slice_get_read xs (length xs) k x refl lt e

@@ -35,4 +35,5 @@ AskedComplete = (gs : List Gate) → IsCircuit gs → (asked : List Literal) (s 
 -- whichever that has the same inputs: what the literals stand on has the same values under it
 abbrev pub AskedKeep : Type 0
 AskedKeep = (gs : List Gate) → IsCircuit gs → (asked : List Literal) (s t : ℕ → Bool)
-    → All (IsOf gs) asked → GivesAsked s gs asked → Gives t gs → AgreeOnInputs gs s t → (x : ℕ) → StandsOn gs asked x → s x ≡ t x
+    → All (IsOf gs) asked → GivesAsked s gs asked → Gives t gs → AgreeOnInputs gs s t → (x : ℕ) → StandsOn gs asked x
+    → s x ≡ t x

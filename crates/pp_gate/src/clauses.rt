@@ -71,7 +71,8 @@ fn add_and(clauses: &mut Clauses, alloc: Global, out: Lit, a: Lit, b: Lit) -> Re
 /// The clauses by which `out` is true exactly where exactly one of `a` and `b` is.
 fn add_xor(clauses: &mut Clauses, alloc: Global, out: Lit, a: Lit, b: Lit) -> Result<(), NoMemory>
     requires room { length clauses.old + 8 < 2 ^ 32 }
-    ensures { OnOk result (AddsEquation clauses.old clauses.new out (a ∷ b ∷ []) (λ s. xor_of (lit_value s a) (lit_value s b))) }
+    ensures { OnOk result (AddsEquation clauses.old clauses.new out (a ∷ b ∷ [])
+        (λ s. xor_of (lit_value s a) (lit_value s b))) }
 {
     let off = out.negated();
     let not_a = a.negated();
@@ -93,7 +94,8 @@ fn add_mux(
     b: Lit,
 ) -> Result<(), NoMemory>
     requires room { length clauses.old + 8 < 2 ^ 32 }
-    ensures { OnOk result (AddsEquation clauses.old clauses.new out (c ∷ a ∷ b ∷ []) (λ s. if lit_value s c then lit_value s a else lit_value s b)) }
+    ensures { OnOk result (AddsEquation clauses.old clauses.new out (c ∷ a ∷ b ∷ [])
+        (λ s. if lit_value s c then lit_value s a else lit_value s b)) }
 {
     let off = out.negated();
     let not_c = c.negated();
@@ -135,7 +137,8 @@ fn add_majority(
     c: Lit,
 ) -> Result<(), NoMemory>
     requires room { length clauses.old + 8 < 2 ^ 32 }
-    ensures { OnOk result (AddsEquation clauses.old clauses.new out (a ∷ b ∷ c ∷ []) (λ s. majority_of (lit_value s a) (lit_value s b) (lit_value s c))) }
+    ensures { OnOk result (AddsEquation clauses.old clauses.new out (a ∷ b ∷ c ∷ [])
+        (λ s. majority_of (lit_value s a) (lit_value s b) (lit_value s c))) }
 {
     add_agreement(clauses, alloc, out, a, b)?;
     add_agreement(clauses, alloc, out, a, c)?;
@@ -154,7 +157,8 @@ pub(crate) fn add_gate(
     requires fits { FitsAfter place gate }
     requires room { length clauses.old + 8 < 2 ^ 32 }
     ensures most { OnOk result (length clauses.new ≤ length clauses.old + 8) }
-    ensures value { OnOk result ((s : ℕ → Bool) → clauses_value s clauses.new ≡ (clauses_value s clauses.old && beq (s (place + 1)) (gate_value s gate))) }
+    ensures value { OnOk result ((s : ℕ → Bool) → clauses_value s clauses.new
+        ≡ (clauses_value s clauses.old && beq (s (place + 1)) (gate_value s gate))) }
     ensures within { OnOk result ((n : ℕ) → place < n → AreShortWithin n clauses.old → AreShortWithin n clauses.new) }
 {
     let out = Lit::new(place + 1, true);

@@ -1,6 +1,7 @@
 //! The clauses of a circuit, and of the gates on which some literals stand.
 
-ghost use Rattle.std.specs.Prelude.{◌≡◌, ◌↔◌, ℕ, Bool, true, false, ◌+◌, ◌*◌, ◌^◌, ◌≤◌, ◌<◌, ◌&&◌, All, length, IfOk, OnOk};
+ghost use Rattle.std.specs.Prelude.{◌≡◌, ◌↔◌, ℕ, Bool, true, false, ◌+◌, ◌*◌, ◌^◌, ◌≤◌, ◌<◌, ◌&&◌, All, length, IfOk};
+ghost use Rattle.std.specs.Prelude.{OnOk};
 ghost use Rattle.pp_clause.specs.Clause.{clauses_value};
 ghost use Rattle.std.specs.Bool.{beq};
 ghost use Rattle.pp_gate.specs.Gate.{gate_value};
@@ -39,7 +40,8 @@ impl Circuit {
         requires of { All (IsOf self.now) asked.now }
         ensures count { IfOk result (λ r. length r ≤ 8 * length self.now) }
         ensures value { IfOk result (λ r. (s : ℕ → Bool) → (clauses_value s r ≡ true) ↔ GivesAsked s self.now asked.now) }
-        ensures completed { IfOk result (λ r. (s : ℕ → Bool) → clauses_value s r ≡ true → CompletedAsked self.now asked.now s) }
+        ensures completed { IfOk result (λ r. (s : ℕ → Bool) → clauses_value s r ≡ true
+            → CompletedAsked self.now asked.now s) }
         ensures given { IfOk result (λ r. (s : ℕ → Bool) → Gives s self.now → clauses_value s r ≡ true) }
         ensures literals { IfOk result (λ r. All (λ c. All (IsOf self.now) c) r) }
         ensures short { IfOk result (λ r. All (λ c. length c ≤ 4) r) }
@@ -54,7 +56,8 @@ impl Circuit {
         requires room { length self.now ≤ 2 ^ 28 }
         requires same { length marks.now ≡ length self.now }
         ensures count { IfOk result (λ r. length r ≤ 8 * length self.now) }
-        ensures value { IfOk result (λ r. (s : ℕ → Bool) → (clauses_value s r ≡ true) ↔ GivesMarked s self.now marks.now) }
+        ensures value { IfOk result (λ r. (s : ℕ → Bool)
+            → (clauses_value s r ≡ true) ↔ GivesMarked s self.now marks.now) }
         ensures shape { IfOk result (λ r. AreShortWithin (length self.now) r) }
         ensures circuit { IsCircuit self.now }
     {
@@ -92,7 +95,8 @@ fn add_marked(
     requires room { length clauses.old + 8 < 2 ^ 32 }
     ensures most { OnOk result (length clauses.new ≤ length clauses.old + 8) }
     ensures within { OnOk result ((n : ℕ) → place < n → AreShortWithin n clauses.old → AreShortWithin n clauses.new) }
-    ensures marked { OnOk result (marked ≡ true → (s : ℕ → Bool) → clauses_value s clauses.new ≡ (clauses_value s clauses.old && beq (s (place + 1)) (gate_value s gate))) }
+    ensures marked { OnOk result (marked ≡ true → (s : ℕ → Bool) → clauses_value s clauses.new
+        ≡ (clauses_value s clauses.old && beq (s (place + 1)) (gate_value s gate))) }
     ensures unmarked { OnOk result (marked ≡ false → clauses.new ≡ clauses.old) }
 {
     if marked {

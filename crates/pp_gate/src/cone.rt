@@ -42,7 +42,8 @@ fn mark(marks: &mut Vec<bool>, lit: Lit)
 fn mark_through(marks: &mut Vec<bool>, place: usize, gate: Gate)
     requires fits { FitsAfter place gate }
     requires room { place < length marks.old.items }
-    ensures marked { assigned marks.old.items (place + 1) ≡ true → Marks marks.old.items marks.new.items (operands gate) }
+    ensures marked { assigned marks.old.items (place + 1) ≡ true
+        → Marks marks.old.items marks.new.items (operands gate) }
     ensures unmarked { assigned marks.old.items (place + 1) ≡ false → marks.new.items ≡ marks.old.items }
 {
     if marks[place] {

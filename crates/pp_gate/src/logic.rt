@@ -1,6 +1,7 @@
 //! The calls of a circuit that stand for functions of two or three truth values.
 
-ghost use Rattle.std.specs.Prelude.{◌≡◌, ◌≢◌, ℕ, Bool, ◌≤◌, ◌<◌, ◌^◌, ◌&&◌, ◌||◌, ◌⊎◌, ◌+◌, if◌then◌else◌, length, IfOk, OnErr};
+ghost use Rattle.std.specs.Prelude.{◌≡◌, ◌≢◌, ℕ, Bool, ◌≤◌, ◌<◌, ◌^◌, ◌&&◌, ◌||◌, ◌⊎◌, ◌+◌, if◌then◌else◌, length};
+ghost use Rattle.std.specs.Prelude.{IfOk, OnErr};
 ghost use Rattle.pp_clause.specs.Literal.{lit_value};
 ghost use Rattle.pp_gate.specs.declared.gate.Gate.TheVariants.{Input};
 ghost use Rattle.pp_gate.specs.Gate.{gate_value, xor_of, majority_of};
@@ -84,7 +85,8 @@ impl Circuit {
         requires left { IsOf self.old a }
         requires right { IsOf self.old b }
         ensures adds { AddsGates self.old self.new 1 }
-        ensures stands { IfOk result (λ r. StandsFor self.new r (λ s. if lit_value s c then lit_value s a else lit_value s b)) }
+        ensures stands { IfOk result (λ r. StandsFor self.new r
+            (λ s. if lit_value s c then lit_value s a else lit_value s b)) }
         ensures err { OnErr result (self.new ≡ self.old) }
     {
         let truth = self.truth();
@@ -112,7 +114,8 @@ impl Circuit {
         requires second { IsOf self.old b }
         requires third { IsOf self.old c }
         ensures adds { AddsGates self.old self.new 1 }
-        ensures stands { IfOk result (λ r. StandsFor self.new r (λ s. majority_of (lit_value s a) (lit_value s b) (lit_value s c))) }
+        ensures stands { IfOk result (λ r. StandsFor self.new r
+            (λ s. majority_of (lit_value s a) (lit_value s b) (lit_value s c))) }
         ensures err { OnErr result (self.new ≡ self.old) }
     {
         let truth = self.truth();
@@ -159,7 +162,8 @@ impl Circuit {
         requires left { IsOf self.old a }
         requires right { IsOf self.old b }
         ensures adds { AddsGates self.old self.new 1 }
-        ensures stands { IfOk result (λ r. StandsFor self.new r (λ s. if lit_value s c then lit_value s a else lit_value s b)) }
+        ensures stands { IfOk result (λ r. StandsFor self.new r
+            (λ s. if lit_value s c then lit_value s a else lit_value s b)) }
         ensures err { OnErr result (self.new ≡ self.old) }
     {
         let truth = self.truth();
@@ -179,7 +183,8 @@ impl Circuit {
         requires left { IsOf self.old a }
         requires right { IsOf self.old b }
         ensures adds { AddsGates self.old self.new 1 }
-        ensures stands { IfOk result (λ r. StandsFor self.new r (λ s. if lit_value s c then lit_value s a else lit_value s b)) }
+        ensures stands { IfOk result (λ r. StandsFor self.new r
+            (λ s. if lit_value s c then lit_value s a else lit_value s b)) }
         ensures err { OnErr result (self.new ≡ self.old) }
     {
         let (choice, yes, no) = if c.is_positive() {
@@ -203,7 +208,8 @@ impl Circuit {
         requires second { IsOf self.old b }
         requires third { IsOf self.old c }
         ensures adds { AddsGates self.old self.new 1 }
-        ensures stands { IfOk result (λ r. StandsFor self.new r (λ s. majority_of (lit_value s a) (lit_value s b) (lit_value s c))) }
+        ensures stands { IfOk result (λ r. StandsFor self.new r
+            (λ s. majority_of (lit_value s a) (lit_value s b) (lit_value s c))) }
         ensures err { OnErr result (self.new ≡ self.old) }
     {
         if a.is_positive() {
@@ -222,7 +228,8 @@ impl Circuit {
         requires second { IsOf self.old b }
         requires third { IsOf self.old c }
         ensures adds { AddsGates self.old self.new 1 }
-        ensures stands { IfOk result (λ r. StandsFor self.new r (λ s. majority_of (lit_value s a) (lit_value s b) (lit_value s c))) }
+        ensures stands { IfOk result (λ r. StandsFor self.new r
+            (λ s. majority_of (lit_value s a) (lit_value s b) (lit_value s c))) }
         ensures err { OnErr result (self.new ≡ self.old) }
     {
         let (least, middle, last) = in_order(a, b, c);
@@ -263,8 +270,10 @@ fn ordered(a: Lit, b: Lit) -> (Lit, Lit)
 
 /// The three in order of their variables.
 fn in_order(a: Lit, b: Lit, c: Lit) -> (Lit, Lit, Lit)
-    ensures within { (n : ℕ) → IsWithin n a → IsWithin n b → IsWithin n c → IsWithin n result.0 × (IsWithin n result.1 × IsWithin n result.2) }
-    ensures same { (s : ℕ → Bool) → majority_of (lit_value s result.0) (lit_value s result.1) (lit_value s result.2) ≡ majority_of (lit_value s a) (lit_value s b) (lit_value s c) }
+    ensures within { (n : ℕ) → IsWithin n a → IsWithin n b → IsWithin n c → IsWithin n result.0
+        × (IsWithin n result.1 × IsWithin n result.2) }
+    ensures same { (s : ℕ → Bool) → majority_of (lit_value s result.0) (lit_value s result.1) (lit_value s result.2)
+        ≡ majority_of (lit_value s a) (lit_value s b) (lit_value s c) }
 {
     let (first, second) = ordered(a, b);
     let (second, last) = ordered(second, c);

@@ -5,9 +5,9 @@ use Rattle.pp_bits.proofs.bitwise.by_digit.Goals as goal
 
 pub loop-i-init : goal.loop-i-init
 loop-i-init c = record {
-  grown = AddsGates_none _ _ c.no_digits-digits.ensures.circuit;
-  digits = Digits_none _ _ c.no_digits-digits.ensures.items;
-  value = λ s gives. bitwise_none s _ _ c.no_digits-digits.ensures.items;
+  grown = AddsGates_none _ _ c.in_ok-digits.ensures.circuit;
+  digits = Digits_none _ _ c.in_ok-digits.ensures.items;
+  value = λ s gives. bitwise_none s _ _ c.in_ok-digits.ensures.items;
 }
 
 pub loop-i-preserved : goal.loop-i-preserved

@@ -6,9 +6,9 @@ use Rattle.pp_bits.proofs.choice.choose.Goals as goal
 
 pub loop-i-init : goal.loop-i-init
 loop-i-init c = record {
-  grown = AddsGates_none _ _ c.no_digits-digits.ensures.circuit;
-  digits = Digits_none _ _ c.no_digits-digits.ensures.items;
-  value = λ s gives. ap (nat_of s) c.no_digits-digits.ensures.items ∙ choose_none s _;
+  grown = AddsGates_none _ _ c.in_ok-digits.ensures.circuit;
+  digits = Digits_none _ _ c.in_ok-digits.ensures.items;
+  value = λ s gives. ap (nat_of s) c.in_ok-digits.ensures.items ∙ choose_none s _;
 }
 
 pub loop-i-preserved : goal.loop-i-preserved

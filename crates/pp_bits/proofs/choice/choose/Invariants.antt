@@ -10,5 +10,6 @@ abbrev pub invariant-loop-i : goal.invariant-loop-i
 invariant-loop-i l = record {
   grown : AddsGates l.initial.circuit l.circuit l.i;
   digits : Digits l.circuit l.i l.digits.items;
-  value : (s : ℕ → Bool) → Gives s l.circuit → nat_of s l.digits.items ≡ (if lit_value s l.choice then nat_of s (take l.i l.a) else nat_of s (take l.i l.b));
+  value : (s : ℕ → Bool) → Gives s l.circuit → nat_of s l.digits.items ≡
+      (if lit_value s l.choice then nat_of s (take l.i l.a) else nat_of s (take l.i l.b));
 }

@@ -5,8 +5,8 @@ use Rattle.pp_bits.proofs.choice.constant.Goals as goal
 
 pub loop-place-init : goal.loop-place-init
 loop-place-init c = record {
-  digits = Digits_none _ _ c.no_digits-digits.ensures.items;
-  value = λ s gives. constant_none s _ _ c.no_digits-digits.ensures.items;
+  digits = Digits_none _ _ c.in_ok-digits.ensures.items;
+  value = λ s gives. constant_none s _ _ c.in_ok-digits.ensures.items;
 }
 
 pub loop-place-preserved : goal.loop-place-preserved
@@ -16,7 +16,8 @@ loop-place-preserved c =
     let known = c.known-digit.ensures in
     record {
       digits = Digits_push _ _ _ _ _ _ _ now.digits (Grows_none _) (known.of _ c.truth-truth.ensures.stands.of) push;
-      value = λ s gives. constant_turn s _ _ _ _ _ _ now.digits.len push (known.value s (c.truth-truth.ensures.stands.value s gives)) (now.value s gives);
+      value = λ s gives. constant_turn s _ _ _ _ _ _ now.digits.len push
+          (known.value s (c.truth-truth.ensures.stands.value s gives)) (now.value s gives);
     }
 
 pub returns-clause-stands : goal.returns-clause-stands

@@ -5,8 +5,8 @@ use Rattle.pp_bits.proofs.choice.invert.Goals as goal
 
 pub loop-i-init : goal.loop-i-init
 loop-i-init c = record {
-  digits = Digits_none _ _ c.no_digits-digits.ensures.items;
-  value = λ s. invert_none s _ c.no_digits-digits.ensures.items;
+  digits = Digits_none _ _ c.in_ok-digits.ensures.items;
+  value = λ s. invert_none s _ c.in_ok-digits.ensures.items;
 }
 
 pub loop-i-preserved : goal.loop-i-preserved
@@ -14,6 +14,9 @@ loop-i-preserved c =
     let now = c.loop-i.invariant in
     let push = c.in_ok-push.ensures.items in
     record {
-      digits = Digits_push _ _ _ _ _ _ _ now.digits (Grows_none _) (IsOf_negated _ _ _ c.negated-digit.ensures (IsOf_at _ _ _ _ c.requires c.loop-i-test.true c.index-a-i.is)) push;
-      value = λ s. invert_turn s _ _ _ _ _ _ c.loop-i-test.true c.index-a-i.is now.digits.len push (lit_value_negated s _ _ c.negated-digit.ensures) (now.value s);
+      digits = Digits_push _ _ _ _ _ _ _ now.digits (Grows_none _)
+          (IsOf_negated _ _ _ c.negated-digit.ensures (IsOf_at _ _ _ _ c.requires c.loop-i-test.true c.index-a-i.is))
+          push;
+      value = λ s. invert_turn s _ _ _ _ _ _ c.loop-i-test.true c.index-a-i.is now.digits.len push
+          (lit_value_negated s _ _ c.negated-digit.ensures) (now.value s);
     }

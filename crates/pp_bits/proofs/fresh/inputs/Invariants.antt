@@ -9,5 +9,6 @@ invariant-loop-place l = record {
   grows : Grows l.initial.circuit l.circuit l._place;
   circuit : IsCircuit l.circuit;
   inputs : AreInputs l.initial.circuit l.circuit l._place l.digits.items;
-  chosen : (s : ℕ → Bool) → Gives s l.initial.circuit → (v : ℕ) → v < 2 ^ l._place → ChosenNumber l.initial.circuit l.circuit s l.digits.items v;
+  chosen : (s : ℕ → Bool) → Gives s l.initial.circuit → (v : ℕ) → v < 2 ^ l._place
+      → ChosenNumber l.initial.circuit l.circuit s l.digits.items v;
 }

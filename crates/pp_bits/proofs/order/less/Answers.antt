@@ -8,7 +8,8 @@ pub loop-i-init : goal.loop-i-init
 loop-i-init c = record {
   grown = AddsGates_none _ _ c.truth.ensures.circuit;
   of = IsOf_negated _ _ _ c.negated-less.ensures c.truth.ensures.stands.of;
-  value = λ s gives. lit_value_negated s _ _ c.negated-less.ensures ∙ ap not (c.truth.ensures.stands.value s gives) ∙ less_none s;
+  value = λ s gives. lit_value_negated s _ _ c.negated-less.ensures ∙ ap not (c.truth.ensures.stands.value s gives)
+      ∙ less_none s;
 }
 
 pub loop-i-preserved : goal.loop-i-preserved

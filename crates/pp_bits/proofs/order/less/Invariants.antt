@@ -9,5 +9,6 @@ abbrev pub invariant-loop-i : goal.invariant-loop-i
 invariant-loop-i l = record {
   grown : AddsGates l.initial.circuit l.circuit l.i;
   of : IsOf l.circuit l.less;
-  value : (s : ℕ → Bool) → Gives s l.circuit → lit_value s l.less ≡ nat_lt (nat_of s (take l.i l.a)) (nat_of s (take l.i l.b));
+  value : (s : ℕ → Bool) → Gives s l.circuit → lit_value s l.less ≡ nat_lt (nat_of s (take l.i l.a))
+      (nat_of s (take l.i l.b));
 }

@@ -10,5 +10,6 @@ invariant-loop-i l = record {
   grown : AddsGates l.initial.circuit l.circuit (3 * l.i);
   digits : Digits l.circuit l.i l.digits.items;
   next_of : IsOf l.circuit l.next;
-  value : (s : ℕ → Bool) → Gives s l.circuit → nat_of s l.digits.items + 2 ^ l.i * lit_bit s l.next ≡ nat_of s (take l.i l.a) + nat_of s (take l.i l.b) + lit_bit s l.initial.next;
+  value : (s : ℕ → Bool) → Gives s l.circuit → nat_of s l.digits.items + 2 ^ l.i * lit_bit s l.next ≡ nat_of s
+      (take l.i l.a) + nat_of s (take l.i l.b) + lit_bit s l.initial.next;
 }

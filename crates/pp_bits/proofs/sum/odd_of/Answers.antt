@@ -7,5 +7,9 @@ returns-clause-stands c =
     let odd = c.in_ok-odd.ensures in
     record {
       of = odd.stands.of;
-      value = λ s gives. rw (odd.stands.value s gives, c.in_ok-differ.ensures.stands.value s (Gives_before _ _ 1 odd.adds s gives)) refl;
+      value = λ s gives. rw (
+        odd.stands.value s gives,
+        c.in_ok-differ.ensures.stands.value s
+            (Gives_before _ _ 1 odd.adds s gives),
+      ) refl;
     }

@@ -1,19 +1,22 @@
-use Rattle.std.proofs.Common.{refl, arith}
-use Rattle.pp_clause.specs.Literal.{lit_value}
-use Rattle.pp_clause.specs.Clause.{clauses_value}
-use Rattle.pp_gate.proofs.Clausal.{after_clause, negated_value, agreement_clauses, within_negated, all_of_three}
+use Rattle.std.proofs.Common.{arith, rules}
+use Rattle.std.proofs.lemmas.Bool.Decides.{nat_tests}
+use Rattle.pp_gate.proofs.Clausal.{negated_value, within_negated, all_of_three}
 use Rattle.pp_gate.proofs.clauses.add_agreement.Goals as goal
 
 pub returns : goal.returns
-returns c = record {
-  most = omega (arith, c.in_ok-add.ensures.most, c.in_ok-add-2.ensures.most);
-  value = λ s.
-      agreement_clauses (clauses_value s c.args.clauses.now) (lit_value s c.args.out) (lit_value s c.args.a) (lit_value s c.args.b) _ _ _ _
-      (negated_value s _ _ c.negated-off.ensures) (negated_value s _ _ c.negated-not_a.ensures) (negated_value s _ _ c.negated-not_b.ensures)
-      (after_clause s _ _ _ _ c.in_ok-add-2.ensures (after_clause s _ _ _ _ c.in_ok-add.ensures refl));
-  within = λ n out a b olds.
-      let off = within_negated n _ _ c.negated-off.ensures out in
-      let not_a = within_negated n _ _ c.negated-not_a.ensures a in
-      let not_b = within_negated n _ _ c.negated-not_b.ensures b in
-      c.in_ok-add-2.ensures.within n (all_of_three n _ _ _ not_a not_b out) (c.in_ok-add.ensures.within n (all_of_three n _ _ _ a b off) olds);
-}
+returns c =
+    let one = c.in_ok-add.ensures in
+    let two = c.in_ok-add-2.ensures in
+    record {
+      most = omega (arith, one.most, two.most);
+      value = λ s.
+          let off = negated_value s _ _ c.negated-off.ensures in
+          let not_a = negated_value s _ _ c.negated-not_a.ensures in
+          let not_b = negated_value s _ _ c.negated-not_b.ensures in
+          grind (arith, nat_tests, one.value s, two.value s);
+      within = λ n out a b olds.
+          let off = within_negated n _ _ c.negated-off.ensures out in
+          let not_a = within_negated n _ _ c.negated-not_a.ensures a in
+          let not_b = within_negated n _ _ c.negated-not_b.ensures b in
+          search (rules, two.within, one.within, all_of_three) depth 9;
+    }

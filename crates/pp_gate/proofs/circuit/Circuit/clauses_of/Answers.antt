@@ -6,4 +6,5 @@ use Rattle.pp_gate.proofs.circuit.Circuit.clauses_of.Goals as goal
 pub returns-clause-completed : goal.returns-clause-completed
 returns-clause-completed c = λ s true.
     asked_complete _ c.marked_clauses.ensures.circuit _ s c.requires.of
-    (asked_by_marks s _ _ _ c.in_ok-marks.ensures (subst (GivesMarked s _) c.deref.ensures.value ((c.in_ok-all.ensures.value s).0 true)))
+    (asked_by_marks s _ _ _ c.in_ok-marks.ensures (subst (GivesMarked s _) c.deref.ensures.value
+    ((c.in_ok-all.ensures.value s).0 true)))

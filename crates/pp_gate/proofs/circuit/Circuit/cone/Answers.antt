@@ -7,7 +7,8 @@ use Rattle.pp_gate.proofs.circuit.Circuit.cone.Goals as goal
 
 pub loop-i-preserved : goal.loop-i-preserved
 loop-i-preserved c =
-    subst (Marks _ _) (sym (take_more _ _ _ c.loop-i-test.true ∙ ap (λ x. take c.loop-i.i c.args.asked.now ++ x ∷ []) (sym c.index-asked-i.is)))
+    subst (Marks _ _) (sym (take_more _ _ _ c.loop-i-test.true
+    ∙ ap (λ x. take c.loop-i.i c.args.asked.now ++ x ∷ []) (sym c.index-asked-i.is)))
     (marks_more _ _ _ _ _ c.loop-i.invariant c.mark.ensures)
 
 pub loop-done-init : goal.loop-done-init
@@ -18,7 +19,8 @@ mark_through-requires-clause-fits c = gate_fits _ _ _ c.as_slice-gates.ensures.c
 
 pub loop-done-preserved : goal.loop-done-preserved
 loop-done-preserved c =
-    cone_next _ _ _ _ _ _ c.as_slice-gates.ensures.circuit c.loop-done-test.true c.index-gates-place.is c.mark_through.ensures.marked
+    cone_next _ _ _ _ _ _ c.as_slice-gates.ensures.circuit c.loop-done-test.true c.index-gates-place.is
+    c.mark_through.ensures.marked
     c.mark_through.ensures.unmarked c.loop-done.invariant
 
 pub returns : goal.returns
