@@ -1,0 +1,34 @@
+//! Tries bounded trees on pairs of values, one a line of standard input, and prints what the domain makes of them. What
+//! the answers must be was worked out apart from the program, by a script that takes each pair of values up to a height
+//! and compares, searches and chooses in lists: `stdout` has it.
+//!
+//! A line has the number of a datatype of the samples, a height, 1 or 0 for a choice, and the two values. A value is
+//! spelled by numbers: a number by itself, a truth value by 1 or 0, and a tree by the number of its constructor with its
+//! fields behind it. Two trees of which nothing is known but their height are made, and the solver is asked to choose
+//! the inputs so that these two values are what they stand for: by `is_ctor` and `field` for each constructor of the
+//! values, and by the literals of the numbers and truth values below.
+//!
+//! The answer is `none` where the inputs can't be chosen so. Else it is what is read of the first tree and of the second,
+//! whether they are equal, whether the first is below the second, and what is read of the choice between them.
+#![tactic(auto)]
+
+mod asking;
+mod case;
+mod solving;
+mod trying;
+
+use anyhow::Result;
+use pp_bounded_samples::table::sample_types;
+use std::io::{BufRead, BufReader};
+use trying::answer;
+
+fn main(rt: HostRuntime) -> Result<()> {
+    let alloc = rt.alloc();
+    let table = sample_types(alloc)?;
+    for line in BufReader::new(alloc, rt.reader())?.lines(alloc) {
+        let line = line?;
+        let answer = answer(alloc, &table, line.as_str())?;
+        println!(rt; "{answer}")?;
+    }
+    Ok(())
+}

@@ -1,0 +1,3 @@
+pub mod SampleTable
+pub mod Sizes
+pub mod Keeping
