@@ -1,5 +1,7 @@
 -- Comparisons: of symbols, of lists of them, and their gates.
-use Rattle.std.proofs.Common.{◌≡◌, ℕ, zero, suc, ◌+◌, ◌-◌, ◌*◌, ◌≤◌, min, ◌&&◌, Bool, true, false, List, [], ◌∷◌, ◌++◌, length, map, take, Option, Some, None, refl, sym, ap, ◌∙◌, subst, arith, slice_get, inl, inr}
+use Rattle.std.proofs.Common.{◌≡◌, ℕ, zero, suc, ◌+◌, ◌-◌, ◌*◌, ◌≤◌, min, ◌&&◌, Bool, true, false, List, [], ◌∷◌, ◌++◌}
+use Rattle.std.proofs.Common.{length, map, take, Option, Some, None, refl, sym, ap, ◌∙◌, subst, arith, slice_get, inl}
+use Rattle.std.proofs.Common.{inr}
 use Rattle.std.proofs.lemmas.Bool.{cases_lt}
 use Rattle.pp_prog.specs.declared.sort.Sort.{Sort}
 use Rattle.pp_prog.specs.declared.sort.Sort.TheVariants as sort
@@ -22,11 +24,13 @@ use Rattle.pp_bounded_trees.specs.declared.arena.BoundedTree.{BoundedTree}
 use Rattle.pp_bounded_trees.specs.declared.arena.Node.{Node}
 use Rattle.pp_bounded_trees.specs.Alternatives.{found}
 use Rattle.pp_bounded_trees.specs.Arena.{FieldFits, FieldsFit}
-use Rattle.pp_bounded_equal.specs.Equal.{AreEqualFields, IsEqualTest, TwoTrees, ctors_test, joined_test, pair_test, pairs_test}
+use Rattle.pp_bounded_equal.specs.Equal.{AreEqualFields, IsEqualTest, TwoTrees, ctors_test, joined_test, pair_test}
+use Rattle.pp_bounded_equal.specs.Equal.{pairs_test}
 use Rattle.pp_bounded_trees.specs.Possible.{field_bits, total}
 use Rattle.pp_bounded_trees.specs.Values.{all_values, symbol_value, values_of}
 use Rattle.pp_bounded_merge.proofs.Adding.{bits_grow}
-use Rattle.pp_bounded_trees.proofs.Candidates.{bits_of_ctors, ctor_in_block, take_whole, total_taken, bits_of_bool, bits_of_int}
+use Rattle.pp_bounded_trees.proofs.Candidates.{bits_of_ctors, ctor_in_block, take_whole, total_taken, bits_of_bool}
+use Rattle.pp_bounded_trees.proofs.Candidates.{bits_of_int}
 use Rattle.pp_bounded_trees.proofs.Kept.{last_of_all, map_push}
 use Rattle.pp_bounded_merge.proofs.MergedCtors.{FoundCtor, found_ctor}
 

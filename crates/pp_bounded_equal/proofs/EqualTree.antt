@@ -1,5 +1,6 @@
 -- The comparison of two trees, a constructor at a time.
-use Rattle.std.proofs.Common.{◌≡◌, ℕ, zero, suc, ◌+◌, ◌-◌, ◌<◌, ◌≤◌, min, ◌||◌, Bool, true, false, not, List, [], ◌∷◌, length, Option, Some, None, refl, sym, ap, ◌∙◌, subst, arith, slice_get, inl, inr}
+use Rattle.std.proofs.Common.{◌≡◌, ℕ, zero, suc, ◌+◌, ◌-◌, ◌<◌, ◌≤◌, min, ◌||◌, Bool, true, false, not, List, [], ◌∷◌}
+use Rattle.std.proofs.Common.{length, Option, Some, None, refl, sym, ap, ◌∙◌, subst, arith, slice_get, inl, inr}
 use Rattle.std.specs.Prelude.{◌↔◌}
 use Rattle.std.proofs.lemmas.Bool.{both_ways, cases_Bool, cases_lt}
 use Rattle.std.proofs.lemmas.Option.{slice_get_within}
@@ -27,7 +28,8 @@ use Rattle.pp_bounded_trees.specs.declared.arena.Trees.{Trees}
 use Rattle.pp_bounded_trees.specs.declared.arena.BoundedTree.{BoundedTree}
 use Rattle.pp_bounded_trees.specs.Alternatives.{IsOwn, found}
 use Rattle.pp_bounded_trees.specs.Arena.{TreeFits}
-use Rattle.pp_bounded_equal.specs.Equal.{AreEqualFields, EqualBefore, IsEqualStep, IsEqualTest, TwoTrees, ctors_test, pair_test, tree_test}
+use Rattle.pp_bounded_equal.specs.Equal.{AreEqualFields, EqualBefore, IsEqualStep, IsEqualTest, TwoTrees, ctors_test}
+use Rattle.pp_bounded_equal.specs.Equal.{pair_test, tree_test}
 use Rattle.pp_bounded_trees.specs.Fields.{IsInArena, alternatives_of, has_none, is_nil}
 use Rattle.pp_bounded_trees.specs.Meaning.{BoundedFits, bounded_sense}
 use Rattle.pp_bounded_merge.specs.Merge.{AreAlternatives}

@@ -1,5 +1,7 @@
 -- The search through the constructors of a tree, and its gates.
-use Rattle.std.proofs.Common.{◌≡◌, ℕ, zero, suc, ◌+◌, ◌-◌, ◌*◌, ◌<◌, ◌≤◌, ◌⊎◌, Bool, true, false, not, List, [], ◌∷◌, length, map, take, Option, Some, None, refl, sym, ap, ◌∙◌, subst, arith, slice_get, inl, inr}
+use Rattle.std.proofs.Common.{◌≡◌, ℕ, zero, suc, ◌+◌, ◌-◌, ◌*◌, ◌<◌, ◌≤◌, ◌⊎◌, Bool, true, false, not, List, [], ◌∷◌}
+use Rattle.std.proofs.Common.{length, map, take, Option, Some, None, refl, sym, ap, ◌∙◌, subst, arith, slice_get, inl}
+use Rattle.std.proofs.Common.{inr}
 use Rattle.std.specs.Prelude.{◌↔◌}
 use Rattle.std.proofs.lemmas.Bool.{both_ways, cases_Bool, cases_lt}
 use Rattle.std.proofs.lemmas.Option.{slice_get_within}
@@ -29,14 +31,16 @@ use Rattle.pp_bounded_trees.specs.declared.arena.BoundedTree.{BoundedTree}
 use Rattle.pp_bounded_trees.specs.declared.arena.Node.{Node}
 use Rattle.pp_bounded_trees.specs.Alternatives.{IsOwn, found}
 use Rattle.pp_bounded_trees.specs.Arena.{FieldFits, FieldsFit}
-use Rattle.pp_bounded_equal.specs.Below.{BelowBefore, IsBelowStep, IsBelowTest, IsUnder, ctor_nodes, ctors_nodes, fields_nodes, symbol_nodes, tree_nodes}
+use Rattle.pp_bounded_equal.specs.Below.{BelowBefore, IsBelowStep, IsBelowTest, IsUnder, ctor_nodes, ctors_nodes}
+use Rattle.pp_bounded_equal.specs.Below.{fields_nodes, symbol_nodes, tree_nodes}
 use Rattle.pp_bounded_trees.specs.Possible.{total}
 use Rattle.pp_bounded_trees.specs.Meaning.{BoundedFits}
 use Rattle.pp_bounded_merge.specs.Merge.{AreAlternatives, OneSide}
 use Rattle.pp_bounded_trees.specs.Values.{field_values, symbol_value, value_among, values_of}
 use Rattle.pp_bounded_merge.proofs.Adding.{total_grow}
 use Rattle.pp_bounded_trees.proofs.Alternatives.{own_of, true_once}
-use Rattle.pp_bounded_trees.proofs.Candidates.{ctor_in_block, in_block_ctor, take_whole, total_append, total_sum, total_taken}
+use Rattle.pp_bounded_trees.proofs.Candidates.{ctor_in_block, in_block_ctor, take_whole, total_append, total_sum}
+use Rattle.pp_bounded_trees.proofs.Candidates.{total_taken}
 use Rattle.pp_bounded_trees.proofs.Found.{found_has, found_some}
 use Rattle.pp_bounded_trees.proofs.Locality.{node_value}
 use Rattle.pp_bounded_merge.proofs.MergedCtors.{found_ctor}

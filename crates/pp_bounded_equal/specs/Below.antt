@@ -1,5 +1,6 @@
 -- The search for a tree below another, and the gates that it adds. (own)
-use Rattle.std.specs.Prelude.{◌≡◌, ◌↔◌, ◌⊎◌, ℕ, zero, suc, ◌+◌, ◌*◌, ◌<◌, Bool, true, false, List, Option, Some, None, slice_get}
+use Rattle.std.specs.Prelude.{◌≡◌, ◌↔◌, ◌⊎◌, ℕ, zero, suc, ◌+◌, ◌*◌, ◌<◌, Bool, true, false, List, Option, Some, None}
+use Rattle.std.specs.Prelude.{slice_get}
 use Rattle.pp_prog.specs.declared.sort.Sort.TheVariants as sort
 use Rattle.pp_prog.specs.declared.types.TypeTable.{TypeTable}
 use Rattle.pp_prog.specs.declared.value.Value.{Value}
@@ -53,7 +54,7 @@ pub record IsBelowTest (d : Trees) (hs : List Gate) (new old : BoundedTree) (l :
       → symbol_value a (values_of a d.nodes) (symbol.Tree new) ≡ Some v
       → symbol_value a (values_of a d.nodes) (symbol.Tree old) ≡ Some w → (lit_value a l ≡ true) ↔ IsBelow v w
 
--- or is it
+-- the literal is true exactly where the new value is the old one, or below it
 pub record IsUnderTest (d : Trees) (hs : List Gate) (new old : BoundedTree) (l : Literal) : Type 0 where
   pub of : IsOf hs l
   pub means : (a : ℕ → Bool) (v w : Value) → Gives a hs

@@ -12,7 +12,8 @@ ghost use Rattle.pp_domain.specs.Moves.{Moves, Steady};
 ghost use Rattle.pp_domain.specs.Symbols.{AreSymbols, IsSymbol};
 ghost use Rattle.pp_bounded_trees.specs.Alternatives.{found};
 ghost use Rattle.pp_bounded_trees.specs.Arena.{TreeFits};
-ghost use Rattle.pp_bounded_equal.specs.Below.{AreUnderTest, IsBelowStep, IsBelowTest, IsUnderTest, ctor_nodes, fields_nodes, symbol_nodes, tree_nodes, weight};
+ghost use Rattle.pp_bounded_equal.specs.Below.{AreUnderTest, IsBelowStep, IsBelowTest, IsUnderTest, ctor_nodes};
+ghost use Rattle.pp_bounded_equal.specs.Below.{fields_nodes, symbol_nodes, tree_nodes, weight};
 ghost use Rattle.pp_bounded_trees.specs.Meaning.{BoundedFits, bounded_sense};
 ghost use Rattle.pp_bounded_merge.specs.Merge.{OneSide};
 

@@ -1,5 +1,6 @@
 -- Symbols that are chosen, and lists of them.
-use Rattle.std.proofs.Common.{◌≡◌, ℕ, zero, suc, ◌+◌, ◌≤◌, max, Bool, true, false, if◌then◌else◌, List, [], ◌∷◌, ◌++◌, length, map, take, Option, Some, refl, sym, ap, ◌∙◌, subst, arith, slice_get, inl, inr}
+use Rattle.std.proofs.Common.{◌≡◌, ℕ, zero, suc, ◌+◌, ◌≤◌, max, Bool, true, false, if◌then◌else◌, List, [], ◌∷◌, ◌++◌}
+use Rattle.std.proofs.Common.{length, map, take, Option, Some, refl, sym, ap, ◌∙◌, subst, arith, slice_get, inl, inr}
 use Rattle.pp_prog.specs.declared.sort.Sort.{Sort}
 use Rattle.pp_prog.specs.declared.sort.Sort.TheVariants as sort
 use Rattle.pp_prog.specs.declared.types.TypeTable.{TypeTable}
@@ -26,7 +27,8 @@ use Rattle.pp_bounded_merge.specs.Merge.{AreChosen, AreLow, IsChosen, pair_bits,
 use Rattle.pp_bounded_trees.specs.Values.{all_values, field_values, symbol_value, values_of}
 use Rattle.pp_bounded_merge.proofs.Adding.{bits_grow}
 use Rattle.pp_bounded_trees.proofs.Candidates.{bits_of_bool, bits_of_int}
-use Rattle.pp_bounded_trees.proofs.Kept.{AreSymbols_push, all_push, field_values_before, field_values_later, last_of_all, map_push}
+use Rattle.pp_bounded_trees.proofs.Kept.{AreSymbols_push, all_push, field_values_before, field_values_later}
+use Rattle.pp_bounded_trees.proofs.Kept.{last_of_all, map_push}
 
 some_same : {X : Type 0} (x y : X) → Some x ≡ Some y → x ≡ y
 some_same x y e = cc

@@ -1,5 +1,6 @@
 -- One constructor that is chosen from two sides, and the gates.
-use Rattle.std.proofs.Common.{◌≡◌, ℕ, zero, suc, ◌+◌, ◌≤◌, ◌&&◌, Bool, true, false, not, if◌then◌else◌, List, length, take, Option, Some, None, refl, sym, ap, ◌∙◌, subst, arith, slice_get}
+use Rattle.std.proofs.Common.{◌≡◌, ℕ, zero, suc, ◌+◌, ◌≤◌, ◌&&◌, Bool, true, false, not, if◌then◌else◌, List, length}
+use Rattle.std.proofs.Common.{take, Option, Some, None, refl, sym, ap, ◌∙◌, subst, arith, slice_get}
 use Rattle.pp_prog.specs.declared.id.CtorId.{CtorId}
 use Rattle.pp_prog.specs.declared.id.DataId.{DataId}
 use Rattle.pp_prog.specs.declared.sort.Sort.{Sort}
@@ -24,7 +25,8 @@ use Rattle.pp_bounded_trees.specs.Alternatives.{found}
 use Rattle.pp_bounded_trees.specs.Arena.{FieldsFit}
 use Rattle.pp_bounded_trees.specs.Possible.{field_bits, total}
 use Rattle.pp_bounded_trees.specs.Meaning.{bounded_sense}
-use Rattle.pp_bounded_merge.specs.Merge.{AreAlternatives, AreChosen, AreLow, AreOfSorts, IsMerged, IsMergedCtor, is_true, joined_bits, merged_bits}
+use Rattle.pp_bounded_merge.specs.Merge.{AreAlternatives, AreChosen, AreLow, AreOfSorts, IsMerged, IsMergedCtor}
+use Rattle.pp_bounded_merge.specs.Merge.{is_true, joined_bits, merged_bits}
 use Rattle.pp_bounded_trees.specs.Values.{field_values, values_of}
 use Rattle.pp_bounded_trees.proofs.Candidates.{ctor_in_block, total_taken}
 use Rattle.pp_bounded_merge.proofs.Chosen.{fields_within}

@@ -1,5 +1,7 @@
 -- The two sides of a choice: over calls, their gates, and where one of them has no constructor.
-use Rattle.std.proofs.Common.{◌≡◌, ℕ, zero, suc, ◌+◌, ◌-◌, ◌<◌, ◌≤◌, ◌^◌, max, nat_eq, eq-eqb, Bool, true, false, if◌then◌else◌, List, [], ◌∷◌, length, get_or, take, Option, Some, None, refl, sym, ap, ◌∙◌, subst, arith, slice_get, inl, inr}
+use Rattle.std.proofs.Common.{◌≡◌, ℕ, zero, suc, ◌+◌, ◌-◌, ◌<◌, ◌≤◌, ◌^◌, max, nat_eq, eq-eqb, Bool, true, false}
+use Rattle.std.proofs.Common.{if◌then◌else◌, List, [], ◌∷◌, length, get_or, take, Option, Some, None, refl, sym, ap}
+use Rattle.std.proofs.Common.{◌∙◌, subst, arith, slice_get, inl, inr}
 use Rattle.std.proofs.lemmas.Bool.{cases_lt, ne_eqb}
 use Rattle.std.proofs.lemmas.List.{take_all}
 use Rattle.std.specs.Prelude.{◌↔◌}
@@ -29,7 +31,8 @@ use Rattle.pp_bounded_trees.specs.Alternatives.{IsIn, found}
 use Rattle.pp_bounded_trees.specs.Arena.{FieldFits, FieldsFit, TreeFits}
 use Rattle.pp_bounded_trees.specs.Possible.{field_bits, total}
 use Rattle.pp_bounded_trees.specs.Meaning.{BoundedFits, bounded_sense}
-use Rattle.pp_bounded_merge.specs.Merge.{AreAlternatives, AreOfSorts, IsChosen, TwoSides, joined_bits, merged_bits, pairs_bits}
+use Rattle.pp_bounded_merge.specs.Merge.{AreAlternatives, AreOfSorts, IsChosen, TwoSides, joined_bits, merged_bits}
+use Rattle.pp_bounded_merge.specs.Merge.{pairs_bits}
 use Rattle.pp_bounded_trees.specs.Values.{symbol_value, value_among, value_at, values_of}
 use Rattle.pp_bounded_trees.proofs.Candidates.{bits_of_ctors, ctor_in_block, in_block_ctor, take_whole}
 use Rattle.pp_bounded_merge.proofs.Chosen.{symbol_at, symbols_length}

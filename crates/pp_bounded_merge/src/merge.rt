@@ -13,7 +13,8 @@ ghost use Rattle.pp_domain.specs.Moves.{Moves, SameLooks, Steady};
 ghost use Rattle.pp_domain.specs.Symbols.{IsSymbol};
 ghost use Rattle.pp_bounded_trees.specs.Alternatives.{found};
 ghost use Rattle.pp_bounded_trees.specs.Meaning.{BoundedFits, bounded_sense};
-ghost use Rattle.pp_bounded_merge.specs.Merge.{Adds, AreChosen, AreOfSorts, IsChosen, IsMergedCtor, MergedBefore, TwoSides, joined_bits, merged_bits, pair_bits, pairs_bits};
+ghost use Rattle.pp_bounded_merge.specs.Merge.{Adds, AreChosen, AreOfSorts, IsChosen, IsMergedCtor, MergedBefore};
+ghost use Rattle.pp_bounded_merge.specs.Merge.{TwoSides, joined_bits, merged_bits, pair_bits, pairs_bits};
 
 use crate::NoMemory;
 use pp_bounded_trees::arena::{Alternative, BoundedTree, Node, Trees};

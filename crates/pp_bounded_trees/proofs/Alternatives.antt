@@ -1,5 +1,6 @@
 -- Where exactly one literal is true, the node has the constructor of that one, and no other.
-use Rattle.std.proofs.Common.{◌≡◌, ℕ, zero, suc, ◌+◌, ◌<◌, Bool, true, false, if◌then◌else◌, List, [], ◌∷◌, Option, Some, None, refl, sym, ap, ◌∙◌, subst, arith, slice_get, inl, inr}
+use Rattle.std.proofs.Common.{◌≡◌, ℕ, zero, suc, ◌+◌, ◌<◌, Bool, true, false, if◌then◌else◌, List, [], ◌∷◌, Option}
+use Rattle.std.proofs.Common.{Some, None, refl, sym, ap, ◌∙◌, subst, arith, slice_get, inl, inr}
 use Rattle.std.proofs.lemmas.Bool.{cases_Bool, cases_order}
 use Rattle.pp_prog.specs.declared.value.Value.{Value}
 use Rattle.pp_prog.specs.declared.value.Value.TheVariants.{Tree}

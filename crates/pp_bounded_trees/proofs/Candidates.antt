@@ -1,5 +1,7 @@
 -- Which constructors have values up to a height, and what they count.
-use Rattle.std.proofs.Common.{◌≡◌, ℕ, zero, suc, ◌+◌, ◌-◌, ◌<◌, ◌≤◌, nat_eq, nat_le, Bool, true, false, ◌||◌, List, [], ◌∷◌, ◌++◌, length, map, take, drop, sum, Option, Some, None, ◌⊎◌, refl, sym, ap, ◌∙◌, subst, arith, slice_get, inl, inr, length-append}
+use Rattle.std.proofs.Common.{◌≡◌, ℕ, zero, suc, ◌+◌, ◌-◌, ◌<◌, ◌≤◌, nat_eq, nat_le, Bool, true, false, ◌||◌, List, []}
+use Rattle.std.proofs.Common.{◌∷◌, ◌++◌, length, map, take, drop, sum, Option, Some, None, ◌⊎◌, refl, sym, ap, ◌∙◌}
+use Rattle.std.proofs.Common.{subst, arith, slice_get, inl, inr, length-append}
 use Rattle.std.proofs.lemmas.Bool.{and_from, and_parts, cases_lt, eqb-true, leb-true, ltb-true, le-leb, lt-ltb}
 use Rattle.std.proofs.lemmas.List.Sums.{sum-map, sum_by-cons}
 use Rattle.std.proofs.lemmas.Option.{slice_get_within}
@@ -16,7 +18,8 @@ use Rattle.pp_prog.specs.Calls.{joined}
 use Rattle.pp_prog.specs.Sizes.{bits, ctors_in, ctors_of, fields_of, sorts_in_ctor}
 use Rattle.pp_prog.specs.Table.{in_block, in_block_of, is_of}
 use Rattle.pp_gate.proofs.Places.{at_left, at_next, at_push, at_some}
-use Rattle.pp_bounded_trees.specs.Possible.{ArePossible, AreValuesUpTo, IsValueUpTo, bits_if, ctor_bits, field_bits, total, has_value, is_possible}
+use Rattle.pp_bounded_trees.specs.Possible.{ArePossible, AreValuesUpTo, IsValueUpTo, bits_if, ctor_bits, field_bits}
+use Rattle.pp_bounded_trees.specs.Possible.{total, has_value, is_possible}
 use Rattle.pp_bounded_trees.proofs.Sorted.{fields_up_to, no_tree}
 
 some_same : {X : Type 0} (x y : X) → Some x ≡ Some y → x ≡ y

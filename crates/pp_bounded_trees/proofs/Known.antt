@@ -1,5 +1,7 @@
 -- A node of one known constructor: it fits, and stands for the constructor with the values of its fields.
-use Rattle.std.proofs.Common.{◌≡◌, ℕ, zero, suc, ◌+◌, ◌<◌, ◌≤◌, ◌^◌, max, Bool, true, if◌then◌else◌, List, [], ◌∷◌, ◌++◌, length, map, Some, None, refl, sym, ap, ◌∙◌, subst, arith, slice_get, inl, inr, length-append}
+use Rattle.std.proofs.Common.{◌≡◌, ℕ, zero, suc, ◌+◌, ◌<◌, ◌≤◌, ◌^◌, max, Bool, true, if◌then◌else◌, List, [], ◌∷◌}
+use Rattle.std.proofs.Common.{◌++◌, length, map, Some, None, refl, sym, ap, ◌∙◌, subst, arith, slice_get, inl, inr}
+use Rattle.std.proofs.Common.{length-append}
 use Rattle.pp_prog.specs.declared.id.CtorId.{CtorId}
 use Rattle.pp_prog.specs.declared.sort.Sort.{Sort}
 use Rattle.pp_prog.specs.declared.sort.Sort.TheVariants as sort
@@ -23,9 +25,11 @@ use Rattle.pp_bounded_trees.specs.declared.arena.Alternative.{Alternative}
 use Rattle.pp_bounded_trees.specs.declared.arena.Trees.{Trees}
 use Rattle.pp_bounded_trees.specs.declared.arena.BoundedTree.{BoundedTree}
 use Rattle.pp_bounded_trees.specs.declared.arena.Node.{Node}
-use Rattle.pp_bounded_trees.specs.Arena.{AlternativeFits, ArenaFits, FieldFits, FieldsFit, NodeFits, height_of, true_among}
+use Rattle.pp_bounded_trees.specs.Arena.{AlternativeFits, ArenaFits, FieldFits, FieldsFit, NodeFits, height_of}
+use Rattle.pp_bounded_trees.specs.Arena.{true_among}
 use Rattle.pp_bounded_trees.specs.Meaning.{BoundedFits, bounded_sense}
-use Rattle.pp_bounded_trees.specs.Values.{all_values, built, field_values, prepended, symbol_value, value_among, value_at, values_of}
+use Rattle.pp_bounded_trees.specs.Values.{all_values, built, field_values, prepended, symbol_value, value_among}
+use Rattle.pp_bounded_trees.specs.Values.{value_at, values_of}
 use Rattle.pp_domain.proofs.Composition.{Moves_none}
 use Rattle.pp_bounded_trees.proofs.Lawful.{bounded_lawful}
 use Rattle.pp_bounded_trees.proofs.Locality.{node_value}

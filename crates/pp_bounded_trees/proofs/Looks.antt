@@ -1,5 +1,6 @@
 -- What the literal of a constructor in a node means.
-use Rattle.std.proofs.Common.{◌≡◌, ℕ, Bool, true, List, [], length, Some, refl, sym, ap, ◌∙◌, subst, arith, slice_get, get_or, inl, inr}
+use Rattle.std.proofs.Common.{◌≡◌, ℕ, Bool, true, List, [], length, Some, refl, sym, ap, ◌∙◌, subst, arith, slice_get}
+use Rattle.std.proofs.Common.{get_or, inl, inr}
 use Rattle.std.proofs.lemmas.Bool.{both_ways, cases_lt, cases_order}
 use Rattle.std.proofs.lemmas.Option.{get_or_from_slice_get, slice_get_within}
 use Rattle.pp_prog.specs.declared.id.CtorId.{CtorId}

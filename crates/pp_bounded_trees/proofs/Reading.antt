@@ -1,5 +1,6 @@
 -- What is read of a tree: its own constructor, and the values of the fields.
-use Rattle.std.proofs.Common.{◌≡◌, ℕ, zero, suc, ◌+◌, ◌<◌, ◌≤◌, Bool, true, List, [], ◌∷◌, ◌++◌, length, map, take, get_or, Option, Some, None, refl, sym, ap, ◌∙◌, subst, arith, slice_get}
+use Rattle.std.proofs.Common.{◌≡◌, ℕ, zero, suc, ◌+◌, ◌<◌, ◌≤◌, Bool, true, List, [], ◌∷◌, ◌++◌, length, map, take}
+use Rattle.std.proofs.Common.{get_or, Option, Some, None, refl, sym, ap, ◌∙◌, subst, arith, slice_get}
 use Rattle.pp_prog.specs.declared.sort.Sort.{Sort}
 use Rattle.pp_prog.specs.declared.sort.Sort.TheVariants as sort
 use Rattle.pp_prog.specs.declared.types.TypeTable.{TypeTable}
@@ -18,7 +19,8 @@ use Rattle.pp_bounded_trees.specs.Alternatives.{IsIn}
 use Rattle.pp_bounded_trees.specs.Arena.{FieldFits, FieldsFit, TreeFits}
 use Rattle.pp_bounded_trees.specs.Meaning.{bounded_sense}
 use Rattle.pp_bounded_trees.specs.Readable.{HasTrue, IsFirstTrue, IsReadable}
-use Rattle.pp_bounded_trees.specs.Values.{all_values, built, field_values, symbol_value, value_among, value_at, values_of}
+use Rattle.pp_bounded_trees.specs.Values.{all_values, built, field_values, symbol_value, value_among, value_at}
+use Rattle.pp_bounded_trees.specs.Values.{values_of}
 use Rattle.pp_bounded_trees.proofs.Alternatives.{among_own, own_of}
 use Rattle.pp_bounded_trees.proofs.Candidates.{take_next}
 use Rattle.pp_bounded_trees.proofs.Fields.{all_first}

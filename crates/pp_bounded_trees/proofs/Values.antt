@@ -1,5 +1,6 @@
 -- The values of nodes: what more nodes leave, and the equation of a node.
-use Rattle.std.proofs.Common.{◌≡◌, ℕ, zero, suc, ◌+◌, ◌<◌, Bool, List, [], ◌∷◌, ◌++◌, length, Option, refl, arith, length-append}
+use Rattle.std.proofs.Common.{◌≡◌, ℕ, zero, suc, ◌+◌, ◌<◌, Bool, List, [], ◌∷◌, ◌++◌, length, Option, refl, arith}
+use Rattle.std.proofs.Common.{length-append}
 use Rattle.pp_prog.specs.declared.value.Value.{Value}
 use Rattle.pp_bounded_trees.specs.declared.arena.Node.{Node}
 use Rattle.pp_bounded_trees.specs.Values.{value_at, value_among, values_after}

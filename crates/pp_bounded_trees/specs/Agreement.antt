@@ -1,5 +1,6 @@
 -- The values of nodes depend on the variables of the circuit alone, and each on the nodes before it. (own)
-use Rattle.std.specs.Prelude.{◌≡◌, ℕ, suc, ◌<◌, Bool, if◌then◌else◌, List, [], ◌∷◌, ◌++◌, length, map, Option, Some, slice_get}
+use Rattle.std.specs.Prelude.{◌≡◌, ℕ, suc, ◌<◌, Bool, if◌then◌else◌, List, [], ◌∷◌, ◌++◌, length, map, Option, Some}
+use Rattle.std.specs.Prelude.{slice_get}
 use Rattle.std.proofs.Common.{refl, ap, ◌∙◌}
 use Rattle.std.specs.Int.{w32}
 use Rattle.pp_prog.specs.declared.id.DataId.{DataId}
@@ -18,7 +19,8 @@ use Rattle.pp_bounded_trees.specs.declared.arena.Alternative.{Alternative}
 use Rattle.pp_bounded_trees.specs.declared.arena.BoundedTree.{BoundedTree}
 use Rattle.pp_bounded_trees.specs.declared.arena.Node.{Node}
 use Rattle.pp_bounded_trees.specs.Arena.{AlternativeFits, ArenaFits, FieldFits, FieldsFit, NodeFits}
-use Rattle.pp_bounded_trees.specs.Values.{value_at, all_values, built, symbol_value, value_among, values_after, values_of}
+use Rattle.pp_bounded_trees.specs.Values.{value_at, all_values, built, symbol_value, value_among, values_after}
+use Rattle.pp_bounded_trees.specs.Values.{values_of}
 
 -- the two lists have one value at each of the first k places
 abbrev pub SameBelow : ℕ → List (Option Value) → List (Option Value) → Type 0

@@ -1,5 +1,6 @@
 -- Which of a node's constructors is its own. (own)
-use Rattle.std.specs.Prelude.{◌≡◌, ◌≢◌, ℕ, ◌<◌, ◌≤◌, nat_eq, Bool, true, false, if◌then◌else◌, List, [], ◌∷◌, length, Option, Some, None, slice_get}
+use Rattle.std.specs.Prelude.{◌≡◌, ◌≢◌, ℕ, ◌<◌, ◌≤◌, nat_eq, Bool, true, false, if◌then◌else◌, List, [], ◌∷◌, length}
+use Rattle.std.specs.Prelude.{Option, Some, None, slice_get}
 use Rattle.pp_prog.specs.declared.value.Value.{Value}
 use Rattle.pp_prog.specs.declared.value.Value.TheVariants.{Tree}
 use Rattle.pp_clause.specs.Literal.{Literal, lit_value}

@@ -1,5 +1,6 @@
 -- Which sorts have a value up to a height, and which constructors. (own)
-use Rattle.std.specs.Prelude.{ℕ, zero, suc, Bool, true, false, ◌≡◌, ◌+◌, ◌≤◌, ◌<◌, List, [], ◌∷◌, Option, Some, None, length, slice_get}
+use Rattle.std.specs.Prelude.{ℕ, zero, suc, Bool, true, false, ◌≡◌, ◌+◌, ◌≤◌, ◌<◌, List, [], ◌∷◌, Option, Some, None}
+use Rattle.std.specs.Prelude.{length, slice_get}
 use Rattle.std.specs.List.{list_all, list_any}
 use Rattle.pp_prog.specs.declared.id.DataId.{DataId}
 use Rattle.pp_prog.specs.declared.sort.Sort.{Sort}
@@ -55,7 +56,8 @@ AreValuesUpTo types h [] [] = Unit {0}
 AreValuesUpTo types h (s ∷ ss) (v ∷ vs) = IsValueUpTo types h s v × AreValuesUpTo types h ss vs
 AreValuesUpTo types h _ _ = ⊥
 
--- what they and their fields count
+-- the constructors of the datatype whose fields have values up to the height, in order of their numbers; `most` is what
+-- they and their fields count
 pub record ArePossible (types : TypeTable) (h : ℕ) (of : DataId) (cs : List CtorId) : Type 0 where
   pub each : (j : ℕ) (c : CtorId) → slice_get cs j ≡ Some c → (k : Ctor) × (slice_get types.ctors c.0 ≡ Some k)
       × (k.of ≡ of) × (is_possible (has_value types h) k ≡ true)

@@ -2,7 +2,8 @@
 
 ghost use Rattle.std.specs.Prelude.{◌≡◌, ◌<◌, length, drop, take, IfOk};
 ghost use Rattle.pp_prog.specs.Sizes as sizes;
-ghost use Rattle.pp_bounded_trees.specs.Possible.{ArePossible, has_value as has_value_spec, is_possible as is_possible_spec};
+ghost use Rattle.pp_bounded_trees.specs.Possible.{ArePossible, has_value as has_value_spec};
+ghost use Rattle.pp_bounded_trees.specs.Possible.{is_possible as is_possible_spec};
 
 use crate::NoMemory;
 use pp_list::{Items, at};

@@ -57,7 +57,7 @@ pub record IsFull (types : TypeTable) (gs : List Gate) (e : Trees) (hs : List Ga
   pub chosen : (a : ℕ → Bool) (v : Value) → Gives a gs → IsValueUpTo types h s v → ChosenValue gs hs a e x v
   pub bounded : (a : ℕ → Bool) → Gives a hs → HasValueUpTo types a e h s x
 
--- symbols that did
+-- symbols that came in with these gates, of at most this height: they can have any such values, and have no others
 pub record AreFull (types : TypeTable) (gs : List Gate) (e : Trees) (hs : List Gate) (h : ℕ) (ss : List Sort)
     (xs : List (Symbol BoundedTree)) : Type 0 where
   pub of : AreSymbols bounded_sense e hs ss xs
@@ -72,8 +72,6 @@ pub record IsFullAlternative (types : TypeTable) (gs : List Gate) (e : Trees) (h
   pub entry : Ctor
   pub at : slice_get types.ctors y.ctor.0 ≡ Some entry
   pub fields : AreFull types gs e hs h entry.fields y.fields
-
--- the constructors of the datatype whose fields have values up to the height, in order of their numbers. `most` is
 
 -- each of the constructors is in the table, and its fields have values up to the height
 abbrev pub AllPossible : TypeTable → ℕ → List CtorId → Type 0

@@ -1,5 +1,6 @@
 -- The gates that operations on symbols take, as steps with the symbols' sorts and heights count them.
-use Rattle.std.proofs.Common.{◌≡◌, ◌+◌, max, Bool, true, if◌then◌else◌, List, Option, None, Some, slice_get, refl, ap, ◌∙◌}
+use Rattle.std.proofs.Common.{◌≡◌, ◌+◌, max, Bool, true, if◌then◌else◌, List, Option, None, Some, slice_get, refl, ap}
+use Rattle.std.proofs.Common.{◌∙◌}
 use Rattle.pp_prog.specs.declared.id.CtorId.{CtorId}
 use Rattle.pp_prog.specs.declared.sort.Sort.{Sort}
 use Rattle.pp_prog.specs.declared.sort.Sort.TheVariants as sort

@@ -1,5 +1,6 @@
 -- How far the loop over the steps has come.
-use Rattle.std.proofs.Common.{◌≡◌, ℕ, suc, ◌+◌, ◌-◌, ◌<◌, ◌≤◌, Bool, List, [], ◌∷◌, ◌++◌, length, drop, get_or, take, Some, slice_get, sym, ap, ◌∙◌, subst, arith, length-append, inl, inr, ◌⊎◌}
+use Rattle.std.proofs.Common.{◌≡◌, ℕ, suc, ◌+◌, ◌-◌, ◌<◌, ◌≤◌, Bool, List, [], ◌∷◌, ◌++◌, length, drop, get_or, take}
+use Rattle.std.proofs.Common.{Some, slice_get, sym, ap, ◌∙◌, subst, arith, length-append, inl, inr, ◌⊎◌}
 use Rattle.std.proofs.lemmas.List.{take_all, take-append-le}
 use Rattle.std.proofs.lemmas.Bool.{cases_lt}
 use Rattle.std.proofs.lemmas.Option.{same_Some, slice_get_within}
@@ -22,7 +23,8 @@ use Rattle.pp_build.specs.Built.{CanBuild, IsBuilt}
 use Rattle.pp_build.specs.Performed.{CanPerform, IsPerformed, Leaves, Performs}
 use Rattle.pp_build.specs.Registers.{AreRegisters, IsKnown}
 use Rattle.pp_build.proofs.Kept.{AreRegisters_later, AreRegisters_push, IsKnown_earlier, IsKnown_later}
-use Rattle.pp_build.proofs.StepLists.{all_tell, at_dropped, dropped_at, gates_at, high_at, reads_at, sorted_at, tells_map}
+use Rattle.pp_build.proofs.StepLists.{all_tell, at_dropped, dropped_at, gates_at, high_at, reads_at, sorted_at}
+use Rattle.pp_build.proofs.StepLists.{tells_map}
 
 pub pushed_length : {X : Type 0} (rs ts : List X) (r : X) (i : ℕ) → length rs ≡ i → ts ≡ rs ++ r ∷ []
     → length ts ≡ i + 1

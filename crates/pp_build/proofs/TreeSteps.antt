@@ -1,5 +1,6 @@
 -- Performed steps on trees.
-use Rattle.std.proofs.Common.{◌≡◌, ℕ, ◌+◌, ◌-◌, ◌<◌, Bool, true, false, List, [], ◌∷◌, ◌++◌, length, map, All, Some, slice_get, refl, sym, ap, ◌∙◌, subst}
+use Rattle.std.proofs.Common.{◌≡◌, ℕ, ◌+◌, ◌-◌, ◌<◌, Bool, true, false, List, [], ◌∷◌, ◌++◌, length, map, All, Some}
+use Rattle.std.proofs.Common.{slice_get, refl, sym, ap, ◌∙◌, subst}
 use Rattle.std.specs.Prelude.{IsTrue}
 use Rattle.std.proofs.lemmas.Bool.{and_from}
 use Rattle.std.proofs.lemmas.List.Elements.{All-head, All-tail}
@@ -32,7 +33,8 @@ use Rattle.pp_steps.specs.Sorted.{Sorts}
 use Rattle.pp_sound.proofs.Env.{have_at, tree_has_sort}
 use Rattle.pp_build.specs.Performed.{CanPerform, Performs}
 use Rattle.pp_build.specs.Registers.{AreAt, AreRegisters, IsKnown}
-use Rattle.pp_build.proofs.Fields.{OnlyCtor, ctor_field_is, datatype_within, field_is, fields_sorted, has_ctor_is, only_ctor}
+use Rattle.pp_build.proofs.Fields.{OnlyCtor, ctor_field_is, datatype_within, field_is, fields_sorted, has_ctor_is}
+use Rattle.pp_build.proofs.Fields.{only_ctor}
 use Rattle.pp_build.proofs.Operands.{operand_stands, step_known, tree_of, truth_known}
 use Rattle.pp_build.proofs.Performing.{exactly}
 

@@ -14,7 +14,8 @@ use Rattle.pp_prog.specs.declared.types.Ctor.{Ctor}
 use Rattle.pp_prog.specs.declared.value.Value.{Value}
 use Rattle.pp_prog.specs.declared.value.Value.TheFolds.{map-Value}
 use Rattle.pp_prog.specs.declared.value.Value.TheOpen as layer
-use Rattle.pp_prog.specs.declared.value.Value.TheVariants.{Int, Bool as Truth, Tree, outs-Int, outs-Bool, outs-Tree, rolls-Int, rolls-Bool, rolls-Tree}
+use Rattle.pp_prog.specs.declared.value.Value.TheVariants.{Int, Bool as Truth, Tree, outs-Int, outs-Bool, outs-Tree}
+use Rattle.pp_prog.specs.declared.value.Value.TheVariants.{rolls-Int, rolls-Bool, rolls-Tree}
 use Rattle.pp_prog.specs.declared.value.Value.TheViews.{out-Value, roll-Value, roll-out-Value}
 use Rattle.pp_prog.specs.Sorts.{has_sort, has_step, have_sorts, is_int}
 use Rattle.pp_eval.specs.Measure.{one_datatype, one_sort}

@@ -1,5 +1,6 @@
 -- The datatypes and the constructors of a program agree.
-use Rattle.std.proofs.Common.{◌≡◌, ℕ, ◌+◌, ◌-◌, ◌<◌, nat_le, nat_lt, true, ◌&&◌, List, map, length, refl, sym, ap, ◌∙◌, subst, arith, eq-eqb}
+use Rattle.std.proofs.Common.{◌≡◌, ℕ, ◌+◌, ◌-◌, ◌<◌, nat_le, nat_lt, true, ◌&&◌, List, map, length, refl, sym, ap, ◌∙◌}
+use Rattle.std.proofs.Common.{subst, arith, eq-eqb}
 use Rattle.std.specs.Prelude.{Option, Some, slice_get, IsTrue}
 use Rattle.std.specs.List.{list_all}
 use Rattle.std.proofs.lemmas.Bool.{leb-true, le-leb, ltb-true, lt-ltb}

@@ -1,5 +1,6 @@
 -- Each datatype of a program has a value.
-use Rattle.std.proofs.Common.{◌≡◌, ℕ, zero, suc, ◌+◌, List, [], ◌∷◌, map, drop, drop-cons, length, get_or, refl, sym, ap, ◌∙◌, subst, arith}
+use Rattle.std.proofs.Common.{◌≡◌, ℕ, zero, suc, ◌+◌, List, [], ◌∷◌, map, drop, drop-cons, length, get_or, refl, sym}
+use Rattle.std.proofs.Common.{ap, ◌∙◌, subst, arith}
 use Rattle.std.specs.Prelude.{Option, Some, None, slice_get, unwrap_or, Contains}
 use Rattle.std.proofs.lemmas.List.{drop_all}
 use Rattle.std.proofs.lemmas.Option.{unwrap_or-slice_get}
@@ -19,8 +20,10 @@ use Rattle.pp_prog.specs.Table.{HasValue}
 use Rattle.pp_prog.specs.declared.sort.Sort.{Sort}
 use Rattle.pp_prog.specs.declared.sort.Sort.TheVariants as prog
 use Rattle.pp_prog.specs.declared.types.Ctor.{Ctor}
-use Rattle.pp_translation.specs.Numbers.{ctor_at, ctor_number, ctors, data_number, decl_number, program_sort, sort_of_layer, stands_for}
-use Rattle.pp_typed.specs.InRange.{AreInRange, IsInRange, int_in_range, bool_in_range, param_in_range, root_in_range, none_in_range, more_in_range}
+use Rattle.pp_translation.specs.Numbers.{ctor_at, ctor_number, ctors, data_number, decl_number, program_sort}
+use Rattle.pp_translation.specs.Numbers.{sort_of_layer, stands_for}
+use Rattle.pp_typed.specs.InRange.{AreInRange, IsInRange, int_in_range, bool_in_range, param_in_range, root_in_range}
+use Rattle.pp_typed.specs.InRange.{none_in_range, more_in_range}
 use Rattle.pp_typed.specs.Put.{put}
 use Rattle.pp_typed.specs.Value as typed_value
 use Rattle.pp_typed.specs.Value.{an_int, a_truth, a_param, a_tree, params_from}
@@ -30,7 +33,8 @@ use Rattle.pp_typed.specs.declared.sort.GenericSort.TheVariants as sort
 use Rattle.pp_typed.specs.declared.typed.Typed.{Typed}
 use Rattle.pp_typed.specs.declared.typed.TypedCtor.{TypedCtor}
 use Rattle.pp_typed.specs.declared.typed.TypedRoot.{TypedRoot}
-use Rattle.pp_validity.proofs.Ground.{each_put, ground_int, ground_bool, ground_root, put_int, put_bool, put_param, put_root, puts_puts}
+use Rattle.pp_validity.proofs.Ground.{each_put, ground_int, ground_bool, ground_root, put_int, put_bool, put_param}
+use Rattle.pp_validity.proofs.Ground.{put_root, puts_puts}
 use Rattle.pp_validity.proofs.Known.{HasTypes}
 use Rattle.pp_validity.proofs.Patterns.{map_map, mapped}
 use Rattle.pp_validity.proofs.Placed.{ctor_found, some_same}

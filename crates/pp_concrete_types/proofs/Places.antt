@@ -1,5 +1,6 @@
 -- Where members stand, and the datatypes and constructors of a program.
-use Rattle.std.proofs.Common.{◌≡◌, ⊎_elim, ℕ, zero, suc, ◌+◌, Bool, true, false, cond, not, List, [], ◌∷◌, map, take, length, refl, sym, ap, ◌∙◌, subst, arith}
+use Rattle.std.proofs.Common.{◌≡◌, ⊎_elim, ℕ, zero, suc, ◌+◌, Bool, true, false, cond, not, List, [], ◌∷◌, map, take}
+use Rattle.std.proofs.Common.{length, refl, sym, ap, ◌∙◌, subst, arith}
 use Rattle.std.specs.Prelude.{Some, slice_get, Contains}
 use Rattle.std.specs.List.{sum_by, take-map}
 use Rattle.std.specs.Option.{option_map}
@@ -16,7 +17,8 @@ use Rattle.pp_instances.specs.declared.member.Decl.TheVariants.{Root}
 use Rattle.pp_instances.specs.declared.member.Instance.{Instance}
 use Rattle.pp_instances.specs.declared.member.Member.{Member}
 use Rattle.pp_prog.specs.declared.types.Ctor.{Ctor}
-use Rattle.pp_translation.specs.Numbers.{count_of, ctor_at, ctor_if, ctor_number, ctors, ctors_at, ctors_from, datatypes, datatypes_from, decl_number, first_of, rank_of, stands_for}
+use Rattle.pp_translation.specs.Numbers.{count_of, ctor_at, ctor_if, ctor_number, ctors, ctors_at, ctors_from}
+use Rattle.pp_translation.specs.Numbers.{datatypes, datatypes_from, decl_number, first_of, rank_of, stands_for}
 use Rattle.pp_typed.specs.Sorted.{ctors_of}
 use Rattle.pp_typed.specs.declared.typed.Typed.{Typed}
 use Rattle.pp_typed.specs.declared.typed.TypedCtor.{TypedCtor}

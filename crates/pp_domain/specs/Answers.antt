@@ -1,6 +1,7 @@
 -- What each call of a domain answers: its tree or literal, its meaning for every good assignment, and that a good
 -- assignment extends over the call. In an exact domain the last asks nothing of the trees. (own)
-use Rattle.std.specs.Prelude.{◌≡◌, ◌↔◌, ◌≤◌, ◌+◌, ◌-◌, max, ℕ, Bool, true, if◌then◌else◌, List, [], map, Some, slice_get}
+use Rattle.std.specs.Prelude.{◌≡◌, ◌↔◌, ◌≤◌, ◌+◌, ◌-◌, max, ℕ, Bool, true, if◌then◌else◌, List, [], map, Some}
+use Rattle.std.specs.Prelude.{slice_get}
 use Rattle.pp_prog.specs.declared.id.CtorId.{CtorId}
 use Rattle.pp_prog.specs.declared.id.DataId.{DataId}
 use Rattle.pp_prog.specs.declared.sort.Sort.{Sort}

@@ -1,5 +1,6 @@
 -- Namings: tables that give values of datatypes numbers, by which a domain that isn't exact tells them apart. (own)
-use Rattle.std.specs.Prelude.{◌≡◌, ◌≢◌, ℕ, ◌<◌, ◌^◌, pos, false, List, [], ◌∷◌, All, Option, Some, None, slice_get, IsTrue, if◌then◌else◌}
+use Rattle.std.specs.Prelude.{◌≡◌, ◌≢◌, ℕ, ◌<◌, ◌^◌, pos, false, List, [], ◌∷◌, All, Option, Some, None, slice_get}
+use Rattle.std.specs.Prelude.{IsTrue, if◌then◌else◌}
 use Rattle.pp_prog.specs.declared.id.CtorId.{CtorId}
 use Rattle.pp_prog.specs.declared.id.DataId.{DataId}
 use Rattle.pp_prog.specs.declared.sort.Sort.{Sort}

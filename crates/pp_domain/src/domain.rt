@@ -5,8 +5,10 @@ ghost use Rattle.pp_prog.specs.declared.sort.Sort.{Sort};
 ghost use Rattle.pp_gate.specs.Circuit.{IsCircuit, IsOf};
 ghost use Rattle.pp_domain.specs.Sense.{Sense};
 ghost use Rattle.pp_domain.specs.Moves.{Moves, Steady, SameLooks, OneComparison};
-ghost use Rattle.pp_domain.specs.Allowance.{unknown_gates, construct_gates, look_at_gates, merge_gates, equal_gates, below_gates};
-ghost use Rattle.pp_domain.specs.Answers.{Fresh, IsUnknown, IsConstruct, IsCtorTest, IsFieldRead, IsMerge, IsEquality, IsComparison, IsCtorOf, HasField, CanConstruct, AreOfOneData};
+ghost use Rattle.pp_domain.specs.Allowance.{unknown_gates, construct_gates, look_at_gates, merge_gates, equal_gates};
+ghost use Rattle.pp_domain.specs.Allowance.{below_gates};
+ghost use Rattle.pp_domain.specs.Answers.{Fresh, IsUnknown, IsConstruct, IsCtorTest, IsFieldRead, IsMerge, IsEquality};
+ghost use Rattle.pp_domain.specs.Answers.{IsComparison, IsCtorOf, HasField, CanConstruct, AreOfOneData};
 ghost use Rattle.pp_domain.specs.Laws.{Lawful};
 
 use crate::symbol::{Symbol, Symbols};

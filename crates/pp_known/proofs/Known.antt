@@ -1,5 +1,6 @@
 -- What is known of the program: each instance that is used is found.
-use Rattle.std.proofs.Common.{◌≡◌, ℕ, zero, suc, ◌+◌, nat_eq, Bool, List, [], ◌∷◌, map, take, length, refl, sym, ap, ◌∙◌, subst, arith, eq-eqb}
+use Rattle.std.proofs.Common.{◌≡◌, ℕ, zero, suc, ◌+◌, nat_eq, Bool, List, [], ◌∷◌, map, take, length, refl, sym, ap}
+use Rattle.std.proofs.Common.{◌∙◌, subst, arith, eq-eqb}
 use Rattle.std.specs.Prelude.{Some, None, All, Contains, if◌then◌else◌, slice_get}
 use Rattle.std.specs.List.{sum_by}
 use Rattle.std.proofs.lemmas.List.{take-map}
@@ -10,12 +11,14 @@ use Rattle.pp_instances.specs.Uses.{ctor_mentions, function_at, root_at, types_i
 use Rattle.pp_instances.specs.declared.member.Decl.TheVariants.{Root}
 use Rattle.pp_instances.specs.declared.member.Instance.{Instance}
 use Rattle.pp_instances.specs.declared.member.Member.{Member}
-use Rattle.pp_known.proofs.Listed.{args_have_types, declared, function_place, root_listed, root_of_member, root_place, root_within}
+use Rattle.pp_known.proofs.Listed.{args_have_types, declared, function_place, root_listed, root_of_member, root_place}
+use Rattle.pp_known.proofs.Listed.{root_within}
 use Rattle.pp_known.specs.SettingOf.{AreTranslated, IsSettingOf}
 use Rattle.pp_members.proofs.Lists.{element, first_in, joined_in}
 use Rattle.pp_members.proofs.Sorts.{all_at}
 use Rattle.pp_prog.specs.declared.expr.Function.{Function as ProgramFunction}
-use Rattle.pp_translation.specs.Numbers.{count_of, ctor_at, ctor_if, ctor_number, decl_number, first_of, function_number, rank_of, sort_at, stands_for}
+use Rattle.pp_translation.specs.Numbers.{count_of, ctor_at, ctor_if, ctor_number, decl_number, first_of}
+use Rattle.pp_translation.specs.Numbers.{function_number, rank_of, sort_at, stands_for}
 use Rattle.pp_translation.specs.Setting.{Setting}
 use Rattle.pp_translation.specs.declared.frame.CheckAt.{CheckAt}
 use Rattle.pp_typed.specs.InRange.{AreInRange}

@@ -3,7 +3,8 @@ use Rattle.std.proofs.Common.{◌≡◌, ℕ, List, map, refl, ap, subst}
 use Rattle.std.specs.Prelude.{Some, slice_get, Contains}
 use Rattle.std.proofs.lemmas.List.Elements.{Contains-append_left, Contains-append_right}
 use Rattle.pp_instances.specs.Same.{joined}
-use Rattle.pp_instances.specs.Uses.{at_args, ctor_mentions, decl_mentions, def_mentions, def_or_none, function_at, root_at, signature_mentions, text_mentions}
+use Rattle.pp_instances.specs.Uses.{at_args, ctor_mentions, decl_mentions, def_mentions, def_or_none, function_at}
+use Rattle.pp_instances.specs.Uses.{root_at, signature_mentions, text_mentions}
 use Rattle.pp_instances.specs.declared.member.Decl.TheVariants.{Function, Root}
 use Rattle.pp_instances.specs.declared.member.Instance.{Instance}
 use Rattle.pp_instances.specs.declared.member.Member.{Member}
@@ -11,7 +12,8 @@ use Rattle.pp_known.proofs.Places.{IsPlaced, listed_member, place_found}
 use Rattle.pp_known.specs.SettingOf.{IsSettingOf}
 use Rattle.pp_members.proofs.Closed.{types_are_members, uses_are_members}
 use Rattle.pp_members.proofs.Lists.{mapped_in}
-use Rattle.pp_members.proofs.Proper.{IsFunctionInstance, IsRootInstance, function_instance, members_are_proper, root_instance}
+use Rattle.pp_members.proofs.Proper.{IsFunctionInstance, IsRootInstance, function_instance, members_are_proper}
+use Rattle.pp_members.proofs.Proper.{root_instance}
 use Rattle.pp_translation.specs.Setting.{Setting}
 use Rattle.pp_typed.specs.declared.sort.GenericSort.{GenericSort}
 use Rattle.pp_typed.specs.declared.typed.Typed.{Typed}

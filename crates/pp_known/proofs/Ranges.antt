@@ -1,5 +1,6 @@
 -- The sorts of the functions of the program are in range.
-use Rattle.std.proofs.Common.{◌≡◌, ℕ, suc, ◌+◌, nat_lt, Bool, true, false, ◌&&◌, List, [], ◌∷◌, map, length, refl, sym, ap, ◌∙◌, subst, arith}
+use Rattle.std.proofs.Common.{◌≡◌, ℕ, suc, ◌+◌, nat_lt, Bool, true, false, ◌&&◌, List, [], ◌∷◌, map, length, refl, sym}
+use Rattle.std.proofs.Common.{ap, ◌∙◌, subst, arith}
 use Rattle.std.specs.Prelude.{Some, Contains, slice_get}
 use Rattle.std.specs.List.{list_all}
 use Rattle.std.proofs.lemmas.Bool.{lt-ltb}
@@ -23,7 +24,8 @@ use Rattle.pp_prog.specs.declared.sort.Sort.{Sort}
 use Rattle.pp_translation.specs.Numbers.{count_of, datatypes_from, program_sort, sort_at, stands_for}
 use Rattle.pp_translation.specs.Setting.{Setting}
 use Rattle.pp_translation.specs.declared.frame.CheckAt.{CheckAt}
-use Rattle.pp_typed.specs.InRange.{AreInRange, IsInRange, int_in_range, bool_in_range, param_in_range, root_in_range, more_in_range}
+use Rattle.pp_typed.specs.InRange.{AreInRange, IsInRange, int_in_range, bool_in_range, param_in_range, root_in_range}
+use Rattle.pp_typed.specs.InRange.{more_in_range}
 use Rattle.pp_typed.specs.Sorted.{param_sorts}
 use Rattle.pp_typed.specs.WellSorted.{IsDef}
 use Rattle.pp_typed.specs.declared.sort.GenericSort.{GenericSort}

@@ -12,7 +12,8 @@ use Rattle.pp_instances.specs.declared.member.Member.{Member}
 use Rattle.pp_members.proofs.Lists.{first_in, first_or_later, joined_in, later_in}
 use Rattle.pp_members.proofs.Put.{puts_in_range}
 use Rattle.pp_members.specs.Proper.{IsProper, of_function, of_root}
-use Rattle.pp_typed.specs.InRange.{IsInRange, AreInRange, int_in_range, bool_in_range, param_in_range, root_in_range, none_in_range, more_in_range}
+use Rattle.pp_typed.specs.InRange.{IsInRange, AreInRange, int_in_range, bool_in_range, param_in_range, root_in_range}
+use Rattle.pp_typed.specs.InRange.{none_in_range, more_in_range}
 use Rattle.pp_typed.specs.Put.{put}
 use Rattle.pp_typed.specs.declared.sort.GenericSort.{GenericSort}
 use Rattle.pp_typed.specs.declared.typed.Typed.{Typed}

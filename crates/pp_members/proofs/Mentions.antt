@@ -4,19 +4,26 @@ use Rattle.std.specs.Prelude.{Option, Some, None, if◌then◌else◌, slice_get
 use Rattle.std.proofs.lemmas.Bool.{eqb-true}
 use Rattle.std.proofs.lemmas.List.Elements.{All-contains}
 use Rattle.pp_instances.specs.Same.{joined}
-use Rattle.pp_instances.specs.Uses.{case_mentions, case_step, ctor_mentions, decl_mentions, def_mentions, def_or_none, expr_step, function_at, guard_mentions, kind_mentions, kind_step, mentions, param_types, post_mentions, types_in, types_of}
+use Rattle.pp_instances.specs.Uses.{case_mentions, case_step, ctor_mentions, decl_mentions, def_mentions, def_or_none}
+use Rattle.pp_instances.specs.Uses.{expr_step, function_at, guard_mentions, kind_mentions, kind_step, mentions}
+use Rattle.pp_instances.specs.Uses.{param_types, post_mentions, types_in, types_of}
 use Rattle.pp_instances.specs.declared.member.Decl.TheVariants.{Function}
 use Rattle.pp_instances.specs.declared.member.Member.{Member}
-use Rattle.pp_members.proofs.Listed.{AreProperIn, function_in, proper_append, proper_joined, proper_member, proper_none, proper_same, proper_sort, proper_sorts}
+use Rattle.pp_members.proofs.Listed.{AreProperIn, function_in, proper_append, proper_joined, proper_member, proper_none}
+use Rattle.pp_members.proofs.Listed.{proper_same, proper_sort, proper_sorts}
 use Rattle.pp_members.proofs.Lists.{same_some}
 use Rattle.pp_members.proofs.Sorts.{all_at, append_in_range, bound_in_range, sort_in_range}
 use Rattle.pp_typed.specs.InRange.{IsInRange, AreInRange, none_in_range, more_in_range}
-use Rattle.pp_typed.specs.Sorted.{IsSorted, AreSorted, IsSortedGuard, AreSortedCases, param_sorts, sorted_int, sorted_bool, sorted_local, sorted_call, sorted_construct, sorted_field, sorted_unary, sorted_binary, sorted_if, sorted_match, sorted_val, sorted_assert, none_sorted, more_sorted, no_guard, one_guard, no_cases, more_cases}
+use Rattle.pp_typed.specs.Sorted.{IsSorted, AreSorted, IsSortedGuard, AreSortedCases, param_sorts, sorted_int}
+use Rattle.pp_typed.specs.Sorted.{sorted_bool, sorted_local, sorted_call, sorted_construct, sorted_field, sorted_unary}
+use Rattle.pp_typed.specs.Sorted.{sorted_binary, sorted_if, sorted_match, sorted_val, sorted_assert, none_sorted}
+use Rattle.pp_typed.specs.Sorted.{more_sorted, no_guard, one_guard, no_cases, more_cases}
 use Rattle.pp_typed.specs.WellSorted.{HasSort, IsCtor, IsDef, IsPost, IsWellSorted}
 use Rattle.pp_typed.specs.declared.expr.TypedCase.{TypedCase}
 use Rattle.pp_typed.specs.declared.expr.TypedExpr.{TypedExpr}
 use Rattle.pp_typed.specs.declared.expr.TypedKind.{TypedKind}
-use Rattle.pp_typed.specs.declared.expr.TypedKind.TheFolds.{map-TypedCase, map-TypedKind, fold_out-TypedExpr, fold_out-TypedCase, fold-roll-TypedKind}
+use Rattle.pp_typed.specs.declared.expr.TypedKind.TheFolds.{map-TypedCase, map-TypedKind, fold_out-TypedExpr}
+use Rattle.pp_typed.specs.declared.expr.TypedKind.TheFolds.{fold_out-TypedCase, fold-roll-TypedKind}
 use Rattle.pp_typed.specs.declared.expr.TypedKind.TheOpen as layer
 use Rattle.pp_typed.specs.declared.expr.TypedKind.TheVariants as kind
 use Rattle.pp_typed.specs.declared.expr.TypedKind.TheViews.{out-TypedCase, roll-TypedKind}

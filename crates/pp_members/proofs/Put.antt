@@ -1,15 +1,18 @@
 -- Sorts with others in place of their parameters: they are in range, and what they are made of.
-use Rattle.std.proofs.Common.{◌≡◌, ⊎_elim, ℕ, zero, suc, ◌<◌, List, [], ◌∷◌, map, length, get_or, sym, ap, ◌∙◌, subst, arith}
+use Rattle.std.proofs.Common.{◌≡◌, ⊎_elim, ℕ, zero, suc, ◌<◌, List, [], ◌∷◌, map, length, get_or, sym, ap, ◌∙◌, subst}
+use Rattle.std.proofs.Common.{arith}
 use Rattle.std.specs.Prelude.{Some, None, slice_get, unwrap_or, Contains}
 use Rattle.std.proofs.lemmas.List.{length-map}
-use Rattle.std.proofs.lemmas.List.Elements.{Contains-append_cases, Contains-append_left, Contains-append_right, Contains-get_or}
+use Rattle.std.proofs.lemmas.List.Elements.{Contains-append_cases, Contains-append_left, Contains-append_right}
+use Rattle.std.proofs.lemmas.List.Elements.{Contains-get_or}
 use Rattle.std.proofs.lemmas.Option.{slice_get-get_or}
 use Rattle.pp_instances.proofs.Kept.{nothing_in}
 use Rattle.pp_instances.proofs.Mentioned.{types_int, types_bool, types_root}
 use Rattle.pp_instances.specs.Uses.{at_args, root_at, types_in, types_of}
 use Rattle.pp_instances.specs.declared.member.Member.{Member}
 use Rattle.pp_members.proofs.Lists.{first_in, later_in, first_or_later, same_some}
-use Rattle.pp_typed.specs.InRange.{IsInRange, AreInRange, int_in_range, bool_in_range, param_in_range, root_in_range, none_in_range, more_in_range}
+use Rattle.pp_typed.specs.InRange.{IsInRange, AreInRange, int_in_range, bool_in_range, param_in_range, root_in_range}
+use Rattle.pp_typed.specs.InRange.{none_in_range, more_in_range}
 use Rattle.pp_typed.specs.Put.{put, put_at, put_step}
 use Rattle.pp_typed.specs.declared.sort.GenericSort.{GenericSort}
 use Rattle.pp_typed.specs.declared.sort.GenericSort.TheFolds.{fold-roll-GenericSort}

@@ -1,17 +1,24 @@
 -- The sort of a sorted expression is in range, and so are the sorts of the values that a pattern binds.
-use Rattle.std.proofs.Common.{◌≡◌, ⊎_elim, ℕ, nat_eq, Bool, true, false, List, [], ◌∷◌, ◌++◌, map, length, sym, ap, ◌∙◌, subst}
+use Rattle.std.proofs.Common.{◌≡◌, ⊎_elim, ℕ, nat_eq, Bool, true, false, List, [], ◌∷◌, ◌++◌, map, length, sym, ap, ◌∙◌}
+use Rattle.std.proofs.Common.{subst}
 use Rattle.std.specs.Prelude.{Some, All, slice_get}
 use Rattle.std.proofs.lemmas.List.Elements.{All-filter, All-head, All-contains}
 use Rattle.pp_members.proofs.Lists.{element, same_some}
 use Rattle.pp_members.proofs.Put.{at_in_range, put_in_range, puts_in_range}
 use Rattle.pp_tree.specs.declared.operator.BinaryOp.{BinaryOp}
-use Rattle.pp_tree.specs.declared.operator.BinaryOp.TheVariants.{Add, Sub, Mul, Div, Rem, Equal, Differ, Less, AtMost, More, AtLeast, AndAlso, OrElse, And, Or, Xor, Shl, Shr, Ushr}
+use Rattle.pp_tree.specs.declared.operator.BinaryOp.TheVariants.{Add, Sub, Mul, Div, Rem, Equal, Differ, Less, AtMost}
+use Rattle.pp_tree.specs.declared.operator.BinaryOp.TheVariants.{More, AtLeast, AndAlso, OrElse, And, Or, Xor, Shl, Shr}
+use Rattle.pp_tree.specs.declared.operator.BinaryOp.TheVariants.{Ushr}
 use Rattle.pp_tree.specs.declared.operator.UnaryOp.{UnaryOp}
 use Rattle.pp_tree.specs.declared.operator.UnaryOp.TheVariants.{Neg, Not, Flip}
-use Rattle.pp_typed.specs.InRange.{IsInRange, AreInRange, int_in_range, bool_in_range, param_in_range, root_in_range, none_in_range, more_in_range}
+use Rattle.pp_typed.specs.InRange.{IsInRange, AreInRange, int_in_range, bool_in_range, param_in_range, root_in_range}
+use Rattle.pp_typed.specs.InRange.{none_in_range, more_in_range}
 use Rattle.pp_typed.specs.Operators.{IsLogical, IsNumeric, Operates, unary_sort}
 use Rattle.pp_typed.specs.Put.{put}
-use Rattle.pp_typed.specs.Sorted.{Binds, BindEach, IsSorted, binds_any, binds_int, binds_bool, binds_ctor, bind_none, bind_more, ctors_of, own_value, sorted_int, sorted_bool, sorted_local, sorted_call, sorted_construct, sorted_field, sorted_unary, sorted_binary, sorted_if, sorted_match, sorted_val, sorted_assert, more_cases}
+use Rattle.pp_typed.specs.Sorted.{Binds, BindEach, IsSorted, binds_any, binds_int, binds_bool, binds_ctor, bind_none}
+use Rattle.pp_typed.specs.Sorted.{bind_more, ctors_of, own_value, sorted_int, sorted_bool, sorted_local, sorted_call}
+use Rattle.pp_typed.specs.Sorted.{sorted_construct, sorted_field, sorted_unary, sorted_binary, sorted_if, sorted_match}
+use Rattle.pp_typed.specs.Sorted.{sorted_val, sorted_assert, more_cases}
 use Rattle.pp_typed.specs.WellSorted.{IsCtor, IsDef, IsWellSorted}
 use Rattle.pp_typed.specs.declared.expr.TypedExpr.{TypedExpr}
 use Rattle.pp_typed.specs.declared.pattern.TypedPattern.{TypedPattern}

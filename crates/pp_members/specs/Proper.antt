@@ -13,4 +13,5 @@ pub data IsProper (typed : Typed) : Member → Type 0 where
   of_function : {m : Member} (f : ℕ) (d : TypedDef) (args : List GenericSort) → m ≡ function_at f args
       → slice_get typed.defs f ≡ Some d → length args ≡ d.type_params → AreInRange typed.roots 0 args → IsProper typed m
   of_root : {m : Member} (r : ℕ) (root : TypedRoot) (args : List GenericSort) → m ≡ root_at r args
-      → slice_get typed.roots r ≡ Some root → length args ≡ root.type_params → AreInRange typed.roots 0 args → IsProper typed m
+      → slice_get typed.roots r ≡ Some root → length args ≡ root.type_params → AreInRange typed.roots 0 args
+      → IsProper typed m

@@ -48,7 +48,8 @@ module _ (p : Program) (name : List ℕ) (fuel : ℕ) where
       some_same (sym asked.here ∙ ap (slice_get p.functions) (one_first asked.place f asked.named first) ∙ at)
 
   -- where the function of the name has parameters, none is asked for
-  pub has_params : (r : Response) (f : ℕ) (g : Function) → IsFirstNamed p.functions name f → slice_get p.functions f ≡ Some g
+  pub has_params : (r : Response) (f : ℕ) (g : Function) → IsFirstNamed p.functions name f
+      → slice_get p.functions f ≡ Some g
       → 0 < length g.params → r ≡ refusal status.Words words_text → AnswersRun p name fuel r
   has_params r f g first at some is =
       subst (AnswersRun p name fuel) (sym is) (no_function (λ h asked.

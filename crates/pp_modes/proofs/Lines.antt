@@ -17,16 +17,19 @@ use Rattle.pp_estimate.specs.Estimates.{estimate}
 with_push : (f e : ℕ) (cs : List Check) (c : Check) → lines_with f e (cs ++ c ∷ []) ≡ lines_with f e cs ++ line_if f e c
 with_push f e [] c = append-nil (line_if f e c)
 with_push f e (d ∷ cs) c =
-    ap (λ l. line_if f e d ++ l) (with_push f e cs c) ∙ sym (append_assoc (line_if f e d) (lines_with f e cs) (line_if f e c))
+    ap (λ l. line_if f e d ++ l) (with_push f e cs c) ∙ sym
+    (append_assoc (line_if f e d) (lines_with f e cs) (line_if f e c))
 
 -- the lines with those of the next check
-pub with_more : (f e : ℕ) (cs : List Check) (i : ℕ) (c : Check) (start : List (List ℕ)) {old new : List (List ℕ)} → i < length cs
+pub with_more : (f e : ℕ) (cs : List Check) (i : ℕ) (c : Check) (start : List (List ℕ)) {old new : List (List ℕ)}
+    → i < length cs
     → old ≡ start ++ lines_with f e (take i cs) → new ≡ old ++ line_if f e (get_or cs i c)
     → new ≡ start ++ lines_with f e (take (i + 1) cs)
 with_more f e cs i c start {old} {new} lt was more =
     let here = get_or cs i c in
     more ∙ ap (λ l. l ++ line_if f e here) was ∙ append_assoc start (lines_with f e (take i cs)) (line_if f e here)
-    ∙ ap (λ l. start ++ l) (sym (with_push f e (take i cs) here)) ∙ ap (λ l. start ++ lines_with f e l) (sym (take_more cs i c lt))
+    ∙ ap (λ l. start ++ l) (sym (with_push f e (take i cs) here))
+    ∙ ap (λ l. start ++ lines_with f e l) (sym (take_more cs i c lt))
 
 module _ (p : Program) (round depth : ℕ) where
   same_line : (f e d : ℕ) (c : Check) → (c.function.0 ≡ f → d ≡ e) → line_if f e c ≡ line_if f d c
@@ -42,7 +45,8 @@ module _ (p : Program) (round depth : ℕ) where
   -- with the estimate that the checks of a function share, the lines are those with the estimate of each
   shared_from : (f e n : ℕ) (cs : List Check)
       → ((c : ℕ) (check : Check) → slice_get cs c ≡ Some check → check.function.0 ≡ f
-      → estimate p.types p.functions p.checks (n + c) round depth ≡ e) → lines_with f e cs ≡ check_lines p round depth f n cs
+      → estimate p.types p.functions p.checks (n + c) round depth ≡ e)
+      → lines_with f e cs ≡ check_lines p round depth f n cs
   shared_from f e n [] h = refl
   shared_from f e n (c ∷ cs) h =
       let here : n + 0 ≡ n = omega arith in
@@ -53,21 +57,25 @@ module _ (p : Program) (round depth : ℕ) where
       (shared_from f e (suc n) cs (λ k check at is. let next : suc n + k ≡ n + suc k = omega arith in
       ap (λ m. estimate p.types p.functions p.checks m round depth) next ∙ h (suc k) check at is))
 
-  pub shared_lines : (f e : ℕ) → IsSharedEstimate p round depth f e → lines_with f e p.checks ≡ check_lines p round depth f 0 p.checks
+  pub shared_lines : (f e : ℕ) → IsSharedEstimate p round depth f e
+      → lines_with f e p.checks ≡ check_lines p round depth f 0 p.checks
   shared_lines f e h =
       shared_from f e 0 p.checks (λ c check at is. let same : 0 + c ≡ c = omega arith in
       ap (λ m. estimate p.types p.functions p.checks m round depth) same ∙ h c check at is)
 
   from_push : (n : ℕ) (fs : List Function) (f : Function)
-      → lines_from p round depth n (fs ++ f ∷ []) ≡ lines_from p round depth n fs ++ function_lines p round depth (n + length fs) f
+      → lines_from p round depth n (fs ++ f ∷ []) ≡ lines_from p round depth n fs ++ function_lines p round depth
+      (n + length fs) f
   from_push n [] f =
       let same : n ≡ n + 0 = omega arith in
       append-nil (function_lines p round depth n f) ∙ ap (λ k. function_lines p round depth k f) same
   from_push n (g ∷ fs) f =
       let same : suc n + length fs ≡ n + suc (length fs) = omega arith in
       let here = function_lines p round depth n g in
-      ap (λ l. here ++ l) (from_push (suc n) fs f ∙ ap (λ k. lines_from p round depth (suc n) fs ++ function_lines p round depth k f) same)
-      ∙ sym (append_assoc here (lines_from p round depth (suc n) fs) (function_lines p round depth (n + suc (length fs)) f))
+      ap (λ l. here ++ l) (from_push (suc n) fs f ∙ ap (λ k. lines_from p round depth (suc n) fs ++ function_lines p
+      round depth k f) same)
+      ∙ sym (append_assoc here (lines_from p round depth (suc n) fs)
+      (function_lines p round depth (n + suc (length fs)) f))
 
   -- the lines with those of the next function
   pub from_more : (fs : List Function) (i : ℕ) {old new : List (List ℕ)} → i < length fs
@@ -87,7 +95,8 @@ module _ (p : Program) (round depth : ℕ) where
       first (f ∷ fs) h = (f, tt)
 
   -- the lines with those of a function
-  pub function_added : (f e own : ℕ) (g : Function) (name : List ℕ) (checks : List Check) (old : List (List ℕ)) {named new : List (List ℕ)}
+  pub function_added : (f e own : ℕ) (g : Function) (name : List ℕ) (checks : List Check) (old : List (List ℕ))
+      {named new : List (List ℕ)}
       → name ≡ g.name → own ≡ own_checks f p.checks → checks ≡ p.checks → IsSharedEstimate p round depth f e
       → named ≡ old ++ count_text name own ∷ [] → new ≡ named ++ lines_with f e checks
       → new ≡ old ++ function_lines p round depth f g
@@ -102,7 +111,8 @@ module _ (p : Program) (round depth : ℕ) where
       ∙ ap (λ l. old ++ count_text g.name (own_checks f p.checks) ∷ l) own_lines
 
 -- one line more
-pub pushed : {Z : Type 0} (lines new : List (String Z)) (s : String Z) (text : List ℕ) → new ≡ lines ++ s ∷ [] → string_bytes s ≡ text
+pub pushed : {Z : Type 0} (lines new : List (String Z)) (s : String Z) (text : List ℕ) → new ≡ lines ++ s ∷ []
+    → string_bytes s ≡ text
     → map string_bytes new ≡ map string_bytes lines ++ text ∷ []
 pushed lines new s text is says =
     ap (map string_bytes) is ∙ map-append string_bytes lines (s ∷ []) ∙ ap (λ t. map string_bytes lines ++ t ∷ []) says

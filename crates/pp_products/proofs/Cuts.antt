@@ -1,5 +1,7 @@
 -- Numbers of which some digits are cut off, and whether there were any.
-use Rattle.std.proofs.Common.{◌≡◌, ℕ, zero, suc, ◌+◌, ◌-◌, ◌*◌, ◌/◌, ◌%◌, ◌^◌, ◌<◌, ◌≤◌, ◌||◌, ⊎_elim, min, nat_lt, Bool, true, false, not, List, [], ◌∷◌, ◌++◌, length, take, drop, replicate, get_or, All, sym, ap, ◌∙◌, subst, arith, length-append}
+use Rattle.std.proofs.Common.{◌≡◌, ℕ, zero, suc, ◌+◌, ◌-◌, ◌*◌, ◌/◌, ◌%◌, ◌^◌, ◌<◌, ◌≤◌, ◌||◌, ⊎_elim, min, nat_lt}
+use Rattle.std.proofs.Common.{Bool, true, false, not, List, [], ◌∷◌, ◌++◌, length, take, drop, replicate, get_or, All}
+use Rattle.std.proofs.Common.{sym, ap, ◌∙◌, subst, arith, length-append}
 use Rattle.std.specs.Prelude.{nat_le}
 use Rattle.std.proofs.Math.Nat.{mod-eq_of_lt, mod-add-div}
 use Rattle.std.proofs.Math.Pow.{pow_mono}
@@ -19,15 +21,18 @@ use Rattle.pp_bits.proofs.Parts as parts
 below_power : (v m n : ℕ) → v < 2 ^ m → m ≤ n → v < 2 ^ n
 below_power v m n h le = let p : 2 ^ m ≤ 2 ^ n = pow_mono le in omega arith
 
-pub first_digits : (s : ℕ → Bool) (ls : List Literal) (m n : ℕ) → m ≡ min (length ls) n → nat_of s (take m ls) ≡ nat_of s ls % 2 ^ n
+pub first_digits : (s : ℕ → Bool) (ls : List Literal) (m n : ℕ) → m ≡ min (length ls) n
+    → nat_of s (take m ls) ≡ nat_of s ls % 2 ^ n
 first_digits s ls m n e = ⊎_elim
     (λ lt. ap (nat_of s) (take_all m ls (omega arith)) ∙ sym (mod-eq_of_lt (below_power (nat_of s ls) (length ls) n (numbers.nat_of_below s ls) (omega arith))))
     (λ ge. ap (λ k. nat_of s (take k ls)) (omega arith) ∙ parts.nat_of_take s n ls ge)
     (cases_lt (length ls) n)
 
 -- digits after the others that are all zeros
-pub resized_number : (gs : List Gate) (ls all : List Literal) (n m : ℕ) (zero_lit truth : Literal) → m ≡ min (length ls) n
-    → all ≡ take m ls ++ replicate (n - m) zero_lit → zero_lit ≡ opposite truth → StandsFor gs truth (λ s. true) → All (IsOf gs) ls
+pub resized_number : (gs : List Gate) (ls all : List Literal) (n m : ℕ) (zero_lit truth : Literal)
+    → m ≡ min (length ls) n
+    → all ≡ take m ls ++ replicate (n - m) zero_lit → zero_lit ≡ opposite truth → StandsFor gs truth (λ s. true)
+    → All (IsOf gs) ls
     → StandsForNumber gs n all (λ s. nat_of s ls % 2 ^ n)
 resized_number gs ls all n m zero_lit truth e is z t of = record {
   len = ap length is ∙ length-append (take m ls) (replicate (n - m) zero_lit)
@@ -56,8 +61,10 @@ some_digit_turn s xs x b some at e =
     ap (λ v. lit_value s x || v) (e ∙ ap (λ l. nat_lt 0 (nat_of s l)) (numbers.tail_is xs))
     ∙ some_cases (lit_value s x) (nat_of s (drop 1 xs)) (nat_of s xs) (numbers.nat_of_uncons s xs x some at)
 
-pub some_digit_none : (s : ℕ → Bool) (xs : List Literal) (l truth : Literal) → length xs ≡ 0 → l ≡ opposite truth → lit_value s truth ≡ true → lit_value s l ≡ nat_lt 0 (nat_of s xs)
-some_digit_none s [] l truth h z t = numbers.lit_value_negated s l truth z ∙ ap not t ∙ none_positive (nat_of s []) (numbers.nat_of_nil s)
+pub some_digit_none : (s : ℕ → Bool) (xs : List Literal) (l truth : Literal) → length xs ≡ 0 → l ≡ opposite truth
+    → lit_value s truth ≡ true → lit_value s l ≡ nat_lt 0 (nat_of s xs)
+some_digit_none s [] l truth h z t = numbers.lit_value_negated s l truth z ∙ ap not t
+    ∙ none_positive (nat_of s []) (numbers.nat_of_nil s)
 some_digit_none s (x ∷ xs) l truth h z t = absurd (omega arith)
 
 at_least : (q h v : ℕ) → q * h ≤ v → v < q * h + q → nat_lt 0 h ≡ nat_le q v
@@ -65,7 +72,8 @@ at_least q zero v le lt = grind (arith, nat_tests)
 at_least q (suc h) v le lt = let more : q * suc h ≡ q * h + q = omega arith in grind (arith, nat_tests)
 
 -- the digits past the first n are a number other than 0 where the whole is at least 2^n
-exceeds_value : (s : ℕ → Bool) (ls : List Literal) (m n : ℕ) → m ≡ min (length ls) n → nat_lt 0 (nat_of s (drop m ls)) ≡ nat_le (2 ^ n) (nat_of s ls)
+exceeds_value : (s : ℕ → Bool) (ls : List Literal) (m n : ℕ) → m ≡ min (length ls) n
+    → nat_lt 0 (nat_of s (drop m ls)) ≡ nat_le (2 ^ n) (nat_of s ls)
 exceeds_value s ls m n e = ⊎_elim
     (λ lt.
     let none : nat_of s (drop m ls) ≡ 0 = ap (nat_of s) (drop_all m ls (omega arith)) ∙ numbers.nat_of_nil s in
@@ -81,6 +89,7 @@ exceeds_value s ls m n e = ⊎_elim
     (cases_lt (length ls) n)
 
 -- the digits past the first n, as the code slices them
-pub exceeds_turn : (s : ℕ → Bool) (ls : List Literal) (m n : ℕ) → m ≡ min (length ls) n → nat_lt 0 (nat_of s (take (length ls - m) (drop m ls))) ≡ nat_le (2 ^ n) (nat_of s ls)
+pub exceeds_turn : (s : ℕ → Bool) (ls : List Literal) (m n : ℕ) → m ≡ min (length ls) n
+    → nat_lt 0 (nat_of s (take (length ls - m) (drop m ls))) ≡ nat_le (2 ^ n) (nat_of s ls)
 exceeds_turn s ls m n e =
     ap (λ l. nat_lt 0 (nat_of s l)) (take_all (length ls - m) (drop m ls) (rw length-drop (omega arith))) ∙ exceeds_value s ls m n e

@@ -1,5 +1,6 @@
 -- The arithmetic of products, row by row.
-use Rattle.std.proofs.Common.{◌≡◌, ℕ, zero, suc, ◌+◌, ◌-◌, ◌*◌, ◌/◌, ◌%◌, ◌^◌, ◌<◌, Bool, true, false, if◌then◌else◌, List, ◌∷◌, length, take, drop, get_or, sym, ap, ◌∙◌, arith}
+use Rattle.std.proofs.Common.{◌≡◌, ℕ, zero, suc, ◌+◌, ◌-◌, ◌*◌, ◌/◌, ◌%◌, ◌^◌, ◌<◌, Bool, true, false, if◌then◌else◌}
+use Rattle.std.proofs.Common.{List, ◌∷◌, length, take, drop, get_or, sym, ap, ◌∙◌, arith}
 use Rattle.std.proofs.Math.Nat.{add-mul-mod_self_left, mod-add-div, mul_comm}
 use Rattle.std.proofs.lemmas.Nat.{pow_pos}
 use Rattle.std.proofs.lemmas.List.{length-take-le, length-drop}
@@ -16,13 +17,15 @@ mul_budget (suc n) h =
     ap (λ (k : ℕ). 2 * (k * (k + 1)) + 4 * suc n) less ∙ omega arith
 
 pub mul_budget_at : {X : Type 0} (xs : List X) → 0 < length xs
-    → 2 * (length (take (length xs - 1) xs) * (length (take (length xs - 1) xs) + 1)) + 4 * length xs ≡ 2 * (length xs * (length xs + 1))
+    → 2 * (length (take (length xs - 1) xs) * (length (take (length xs - 1) xs) + 1)) + 4 * length xs ≡ 2 *
+    (length xs * (length xs + 1))
 mul_budget_at xs h =
     let short : length (take (length xs - 1) xs) ≡ length xs - 1 = length-take-le (length xs - 1) xs (omega arith) in
     ap (λ (k : ℕ). 2 * (k * (k + 1)) + 4 * length xs) short ∙ mul_budget (length xs) h
 
 -- a row: its lowest digit is that of the masked number, the others are those of a sum that drops what is past p
-row_value : (p low high rest sum v : ℕ) → 0 < p → low + 2 * sum < 2 * p → sum ≡ (high + rest) % p → low + 2 * high ≡ v → low + 2 * sum ≡ (v + 2 * rest) % (2 * p)
+row_value : (p low high rest sum v : ℕ) → 0 < p → low + 2 * sum < 2 * p → sum ≡ (high + rest) % p → low + 2 * high ≡ v
+    → low + 2 * sum ≡ (v + 2 * rest) % (2 * p)
 row_value p low high rest sum v pos small e f =
     let k = (high + rest) / p in
     let whole : (high + rest) % p + p * k ≡ high + rest = mod-add-div (high + rest) p in
@@ -33,7 +36,8 @@ masked_value true a none m z e = omega arith
 masked_value false a none m z e = omega arith
 
 -- the product by a number of one digit more: what the highest digit t of the other adds is past the digits of the row
-product_more : (p a0 t low rest : ℕ) → 0 < p → (low * (a0 + p * t) + 2 * ((a0 * rest) % p)) % (2 * p) ≡ ((a0 + p * t) * (low + 2 * rest)) % (2 * p)
+product_more : (p a0 t low rest : ℕ) → 0 < p → (low * (a0 + p * t) + 2 * ((a0 * rest) % p)) % (2 * p) ≡
+    ((a0 + p * t) * (low + 2 * rest)) % (2 * p)
 product_more p a0 t low rest h =
     let m = (a0 * rest) % p in
     let k = (a0 * rest) / p in
@@ -46,10 +50,12 @@ none_is v n e = e ∙ sym (numbers.remainder_is (2 ^ n) 0 0 0 (pow_pos n) (omega
 
 -- what the code of a row leaves
 pub row_turn : (s : ℕ → Bool) (xs rest none masked ms high hs all : List Literal) (low first : Literal)
-    → length xs ≡ length rest + 1 → nat_of s none ≡ 0 → nat_of s masked ≡ (if lit_value s low then nat_of s xs else nat_of s none)
+    → length xs ≡ length rest + 1 → nat_of s none ≡ 0 → nat_of s masked ≡
+    (if lit_value s low then nat_of s xs else nat_of s none)
     → length masked ≡ length xs → ms ≡ masked → first ≡ get_or masked 0 first
     → length high ≡ length (take (length ms - 1) (drop 1 ms))
-    → nat_of s high ≡ (nat_of s (take (length ms - 1) (drop 1 ms)) + nat_of s rest) % 2 ^ length (take (length ms - 1) (drop 1 ms))
+    → nat_of s high ≡ (nat_of s (take (length ms - 1) (drop 1 ms)) + nat_of s rest) % 2 ^ length
+    (take (length ms - 1) (drop 1 ms))
     → hs ≡ high → all ≡ first ∷ hs
     → nat_of s all ≡ (lit_bit s low * nat_of s xs + 2 * nat_of s rest) % 2 ^ length xs
 row_turn s xs rest none masked ms high hs all low first same off mask mlen ims isfirst hlen sum ihs iall =
@@ -69,7 +75,8 @@ row_turn s xs rest none masked ms high hs all low first same off mask mlen ims i
 -- the product with a number of one digit more
 pub mul_turn : (s : ℕ → Bool) (xs ys rest lent all : List Literal) (low : Literal)
     → 0 < length xs → length xs ≡ length ys → low ≡ get_or ys 0 low → lent ≡ rest
-    → nat_of s rest ≡ (nat_of s (take (length xs - 1) xs) * nat_of s (take (length ys - 1) (drop 1 ys))) % 2 ^ length (take (length xs - 1) xs)
+    → nat_of s rest ≡ (nat_of s (take (length xs - 1) xs) * nat_of s (take (length ys - 1) (drop 1 ys))) % 2 ^ length
+    (take (length xs - 1) xs)
     → nat_of s all ≡ (lit_bit s low * nat_of s xs + 2 * nat_of s lent) % 2 ^ length xs
     → nat_of s all ≡ (nat_of s xs * nat_of s ys) % 2 ^ length xs
 mul_turn s xs ys rest lent all low some same islow il e f =

@@ -1,6 +1,7 @@
 //! Digits put before, cut off and looked at.
 
-ghost use Rattle.std.specs.Prelude.{◌≡◌, ℕ, Bool, ◌∷◌, ◌++◌, ◌%◌, ◌^◌, ◌+◌, ◌-◌, ◌≤◌, min, take, replicate, nat_le, nat_lt, All, length, IfOk};
+ghost use Rattle.std.specs.Prelude.{◌≡◌, ℕ, Bool, ◌∷◌, ◌++◌, ◌%◌, ◌^◌, ◌+◌, ◌-◌, ◌≤◌, min, take, replicate, nat_le};
+ghost use Rattle.std.specs.Prelude.{nat_lt, All, length, IfOk};
 ghost use Rattle.pp_gate.specs.Circuit.{IsOf, StandsFor};
 ghost use Rattle.pp_gate.specs.Growth.{AddsGates};
 ghost use Rattle.pp_bits.specs.Number.{nat_of, StandsForNumber};
@@ -32,7 +33,8 @@ pub(crate) fn resized(circuit: &Circuit, a: &[Lit], width: usize) -> Result<Vec<
 
 /// The first `width` literals, with others after them where there are fewer.
 fn padded(alloc: Global, a: &[Lit], width: usize, fill: Lit) -> Result<Vec<Lit>, NoMemory>
-    ensures { IfOk result (λ r. r.items ≡ take (min (length a.now) width) a.now ++ replicate (width - min (length a.now) width) fill) }
+    ensures { IfOk result (λ r. r.items ≡ take (min (length a.now) width) a.now ++ replicate
+        (width - min (length a.now) width) fill) }
 {
     let mut digits = a[..a.len().min(width)].to_vec(alloc)?;
     digits.resize(width, fill)?;

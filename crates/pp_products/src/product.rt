@@ -21,7 +21,8 @@ fn row(circuit: &mut Circuit, a: &[Lit], low: Lit, rest: &[Lit]) -> Result<Vec<L
     ensures adds { AddsGates circuit.old circuit.new (4 * length a.now) }
     ensures len { IfOk result (λ r. length r.items ≡ length a.now) }
     ensures of { IfOk result (λ r. All (IsOf circuit.new) r.items) }
-    ensures value { IfOk result (λ r. (s : ℕ → Bool) → Gives s circuit.new → nat_of s r.items ≡ (lit_bit s low * nat_of s a.now + 2 * nat_of s rest.now) % 2 ^ length a.now) }
+    ensures value { IfOk result (λ r. (s : ℕ → Bool) → Gives s circuit.new → nat_of s r.items
+        ≡ (lit_bit s low * nat_of s a.now + 2 * nat_of s rest.now) % 2 ^ length a.now) }
 {
     let zeros = constant(circuit, 0, a.len())?;
     let masked = choose(circuit, low, a, &zeros)?;
@@ -39,7 +40,8 @@ pub fn mul(circuit: &mut Circuit, a: &[Lit], b: &[Lit]) -> Result<Vec<Lit>, NoMe
     requires right { All (IsOf circuit.old) b.now }
     requires room { length circuit.old + 2 * (length a.now * (length a.now + 1)) ≤ 2 ^ 30 }
     ensures adds { AddsGates circuit.old circuit.new (2 * (length a.now * (length a.now + 1))) }
-    ensures stands { IfOk result (λ r. StandsForNumber circuit.new (length a.now) r.items (λ s. (nat_of s a.now * nat_of s b.now) % 2 ^ length a.now)) }
+    ensures stands { IfOk result (λ r. StandsForNumber circuit.new (length a.now) r.items
+        (λ s. (nat_of s a.now * nat_of s b.now) % 2 ^ length a.now)) }
 {
     // the rows are those of the second factor: a constant has fewest
     if comes_before(a, b) {
@@ -70,7 +72,8 @@ fn rows(circuit: &mut Circuit, a: &[Lit], b: &[Lit]) -> Result<Vec<Lit>, NoMemor
     requires right { All (IsOf circuit.old) b.now }
     requires room { length circuit.old + 2 * (length a.now * (length a.now + 1)) ≤ 2 ^ 30 }
     ensures adds { AddsGates circuit.old circuit.new (2 * (length a.now * (length a.now + 1))) }
-    ensures stands { IfOk result (λ r. StandsForNumber circuit.new (length a.now) r.items (λ s. (nat_of s a.now * nat_of s b.now) % 2 ^ length a.now)) }
+    ensures stands { IfOk result (λ r. StandsForNumber circuit.new (length a.now) r.items
+        (λ s. (nat_of s a.now * nat_of s b.now) % 2 ^ length a.now)) }
 {
     if a.is_empty() {
         let none = constant(circuit, 0, a.len())?;

@@ -29,7 +29,8 @@ fn divide_step(
     ensures digit_of { IfOk result (λ r. IsOf circuit.new r.0) }
     ensures len { IfOk result (λ r. length r.1.items ≡ min (length rest.now + 1) (length d.now)) }
     ensures of { IfOk result (λ r. All (IsOf circuit.new) r.1.items) }
-    ensures value { IfOk result (λ r. (s : ℕ → Bool) → Gives s circuit.new → nat_of s rest.now < nat_of s d.now → Divides (lit_bit s low + 2 * nat_of s rest.now) (nat_of s d.now) (lit_bit s r.0) (nat_of s r.1.items)) }
+    ensures value { IfOk result (λ r. (s : ℕ → Bool) → Gives s circuit.new → nat_of s rest.now < nat_of s d.now
+        → Divides (lit_bit s low + 2 * nat_of s rest.now) (nat_of s d.now) (lit_bit s r.0) (nat_of s r.1.items)) }
 {
     let width = rest.len() + 1;
     let greater = exceeds(circuit, d, width)?;
@@ -57,7 +58,8 @@ pub fn divide(circuit: &mut Circuit, a: &[Lit], d: &[Lit]) -> Result<(Vec<Lit>, 
     ensures of { IfOk result (λ r. All (IsOf circuit.new) r.0.items) }
     ensures rest_len { IfOk result (λ r. length r.1.items ≡ length d.now) }
     ensures rest_of { IfOk result (λ r. All (IsOf circuit.new) r.1.items) }
-    ensures value { IfOk result (λ r. (s : ℕ → Bool) → Gives s circuit.new → 0 < nat_of s d.now → Divides (nat_of s a.now) (nat_of s d.now) (nat_of s r.0.items) (nat_of s r.1.items)) }
+    ensures value { IfOk result (λ r. (s : ℕ → Bool) → Gives s circuit.new → 0 < nat_of s d.now
+        → Divides (nat_of s a.now) (nat_of s d.now) (nat_of s r.0.items) (nat_of s r.1.items)) }
 {
     let (quotient, rest) = divide_digits(circuit, a, d)?;
     let remainder = resized(circuit, &rest, d.len())?;
@@ -78,7 +80,8 @@ fn divide_digits(
     ensures of { IfOk result (λ r. All (IsOf circuit.new) r.0.items) }
     ensures rest_len { IfOk result (λ r. length r.1.items ≡ min (length a.now) (length d.now)) }
     ensures rest_of { IfOk result (λ r. All (IsOf circuit.new) r.1.items) }
-    ensures value { IfOk result (λ r. (s : ℕ → Bool) → Gives s circuit.new → 0 < nat_of s d.now → Divides (nat_of s a.now) (nat_of s d.now) (nat_of s r.0.items) (nat_of s r.1.items)) }
+    ensures value { IfOk result (λ r. (s : ℕ → Bool) → Gives s circuit.new → 0 < nat_of s d.now
+        → Divides (nat_of s a.now) (nat_of s d.now) (nat_of s r.0.items) (nat_of s r.1.items)) }
 {
     if a.is_empty() {
         let none = constant(circuit, 0, a.len())?;

@@ -1,5 +1,6 @@
 -- Assignments under which the asked literals are true, as the clauses tell them and as the circuit does.
-use Rattle.std.proofs.Common.{◌≡◌, not, if◌then◌else◌, ℕ, ◌&&◌, ◌+◌, ◌*◌, Bool, true, false, eqb, List, [], ◌∷◌, All, refl, sym, ap, ◌∙◌, inl, inr, arith}
+use Rattle.std.proofs.Common.{◌≡◌, not, if◌then◌else◌, ℕ, ◌&&◌, ◌+◌, ◌*◌, Bool, true, false, eqb, List, [], ◌∷◌, All}
+use Rattle.std.proofs.Common.{refl, sym, ap, ◌∙◌, inl, inr, arith}
 use Rattle.std.specs.List.{list_all}
 use Rattle.std.proofs.lemmas.Bool.{and_from, and_parts, eq-eqb, eqb-true, false≢true}
 use Rattle.pp_clause.specs.Clause.{HasBoth, clauses_value, has}

@@ -31,7 +31,8 @@ use Rattle.pp_query.specs.declared.found.Found.TheVariants.{Args, Nothing, Spent
 use Rattle.pp_query.specs.declared.question.Question.{Question}
 use Rattle.pp_query.specs.Found.{IsFound}
 use Rattle.pp_query.specs.Question.{AreClausesOf, IsQuestion, asked_of}
-use Rattle.pp_query.proofs.Asked.{IsFailing, asked_apart, completed_fails, failing_satisfies, opposite_never_fails, some_fails}
+use Rattle.pp_query.proofs.Asked.{IsFailing, asked_apart, completed_fails, failing_satisfies, opposite_never_fails}
+use Rattle.pp_query.proofs.Asked.{some_fails}
 use Rattle.pp_query.proofs.Frames.{failing_of, failing_readable, read_counterexample, some_counterexample}
 
 module _ (p : Program) (c : CheckId) (round depth : ℕ) (q : Question) (is : IsQuestion p c round depth q) where

@@ -1,5 +1,6 @@
 -- Moves to the right, one after another, by too many places, and as signed numbers.
-use Rattle.std.proofs.Common.{◌≡◌, ℕ, ◌+◌, ◌-◌, ◌*◌, ◌/◌, ◌%◌, ◌^◌, ◌<◌, ◌≤◌, ⊎_elim, min, Bool, true, false, sym, ap, ◌∙◌, arith}
+use Rattle.std.proofs.Common.{◌≡◌, ℕ, ◌+◌, ◌-◌, ◌*◌, ◌/◌, ◌%◌, ◌^◌, ◌<◌, ◌≤◌, ⊎_elim, min, Bool, true, false, sym, ap}
+use Rattle.std.proofs.Common.{◌∙◌, arith}
 use Rattle.std.proofs.Math.Nat.{add-mul, div-add-mod', div-le_self, pow-le-pow_right, pow-zero, div-one}
 use Rattle.std.proofs.lemmas.Nat.{div_below, shr-shr, div-mul-add, mod_below}
 use Rattle.std.proofs.lemmas.Bool.{cases_lt}
@@ -13,7 +14,8 @@ moved_right_none n true v h =
     let e : (2 ^ n - 1 - v) / 2 ^ 0 ≡ 2 ^ n - 1 - v = ap (λ m. (2 ^ n - 1 - v) / m) (pow-zero 2) ∙ div-one (2 ^ n - 1 - v) in
     omega arith
 
-pub moved_right_more : (n : ℕ) (fill : Bool) (v i j : ℕ) → moved_right n fill (moved_right n fill v i) j ≡ moved_right n fill v (i + j)
+pub moved_right_more : (n : ℕ) (fill : Bool) (v i j : ℕ)
+    → moved_right n fill (moved_right n fill v i) j ≡ moved_right n fill v (i + j)
 moved_right_more n false v i j = shr-shr v i j
 moved_right_more n true v i j =
     let rest = 2 ^ n - 1 - v in
@@ -26,7 +28,8 @@ moved_right_below n false v k h = omega (arith, div-le_self v (2 ^ k))
 moved_right_below n true v k h = omega arith
 
 -- by n places or more nothing of the number is left
-pub moved_right_all : (n : ℕ) (fill : Bool) (v j k : ℕ) → v < 2 ^ n → n ≤ j → n ≤ k → moved_right n fill v j ≡ moved_right n fill v k
+pub moved_right_all : (n : ℕ) (fill : Bool) (v j k : ℕ) → v < 2 ^ n → n ≤ j → n ≤ k
+    → moved_right n fill v j ≡ moved_right n fill v k
 moved_right_all n false v j k h p q =
     let a : 2 ^ n ≤ 2 ^ j = pow-le-pow_right (omega arith) p in
     let b : 2 ^ n ≤ 2 ^ k = pow-le-pow_right (omega arith) q in

@@ -1,5 +1,6 @@
 -- The sign of a number in two's complement, and what a shift to the right makes of it.
-use Rattle.std.proofs.Common.{◌≡◌, ℕ, suc, ◌+◌, ◌-◌, ◌*◌, ◌/◌, ◌^◌, ◌<◌, ◌≤◌, ⊎_elim, get_or, Bool, true, false, cond, leb, List, [], ◌∷◌, length, take, sym, ap, ◌∙◌, arith}
+use Rattle.std.proofs.Common.{◌≡◌, ℕ, suc, ◌+◌, ◌-◌, ◌*◌, ◌/◌, ◌^◌, ◌<◌, ◌≤◌, ⊎_elim, get_or, Bool, true, false, cond}
+use Rattle.std.proofs.Common.{leb, List, [], ◌∷◌, length, take, sym, ap, ◌∙◌, arith}
 use Rattle.std.specs.Int.{int_shr}
 use Rattle.std.proofs.Math.Nat.{div-le_self}
 use Rattle.std.proofs.lemmas.List.{take_all}
@@ -23,7 +24,8 @@ sign_value s ls l some e =
     top_bit (lit_value s l) (2 ^ last) (nat_of s (take last ls)) (nat_of s ls) (nat_of_first s ls last (omega arith))
     (ap (nat_of s) (sym whole) ∙ nat_of_next s ls last l (omega arith) e)
 
-pub sign_of_none : (s : ℕ → Bool) (ls : List Literal) (b : Bool) → length ls ≡ 0 → b ≡ false → b ≡ leb (2 ^ (length ls - 1)) (nat_of s ls)
+pub sign_of_none : (s : ℕ → Bool) (ls : List Literal) (b : Bool) → length ls ≡ 0 → b ≡ false
+    → b ≡ leb (2 ^ (length ls - 1)) (nat_of s ls)
 sign_of_none s [] b h e = e ∙ sym (ap (leb 1) (nat_of_nil s))
 sign_of_none s (x ∷ xs) b h e = absurd (omega arith)
 

@@ -1,5 +1,7 @@
 -- What a stage makes of the digits, and a turn of the loop over stages.
-use Rattle.std.proofs.Common.{◌≡◌, ℕ, ◌+◌, ◌-◌, ◌*◌, ◌%◌, ◌^◌, ◌<◌, ◌≤◌, min, get_or, Bool, true, false, not, if◌then◌else◌, List, [], ◌++◌, length, All, take, drop, replicate, refl, sym, ap, ◌∙◌, subst, arith}
+use Rattle.std.proofs.Common.{◌≡◌, ℕ, ◌+◌, ◌-◌, ◌*◌, ◌%◌, ◌^◌, ◌<◌, ◌≤◌, min, get_or, Bool, true, false, not}
+use Rattle.std.proofs.Common.{if◌then◌else◌, List, [], ◌++◌, length, All, take, drop, replicate, refl, sym, ap, ◌∙◌}
+use Rattle.std.proofs.Common.{subst, arith}
 use Rattle.std.proofs.Math.Nat.{mul-add, mod-eq_of_lt, mul-one}
 use Rattle.std.proofs.lemmas.Nat.{column_fits}
 use Rattle.pp_clause.specs.Literal.{Literal, lit_value, opposite}
@@ -70,15 +72,19 @@ stage_fits n i m h = column_fits n i n m h (omega arith)
 pub same_digits : (gs : List Gate) (ls all : List Literal) → all ≡ ls → All (IsOf gs) ls → Digits gs (length ls) all
 same_digits gs ls all e of = record { len = ap length e; of = subst (All (IsOf gs)) (sym e) of }
 
-pub left_none : (s : ℕ → Bool) (ls all : List Literal) → all ≡ ls → nat_of s all ≡ (nat_of s ls * 2 ^ nat_of s []) % 2 ^ length ls
+pub left_none : (s : ℕ → Bool) (ls all : List Literal) → all ≡ ls
+    → nat_of s all ≡ (nat_of s ls * 2 ^ nat_of s []) % 2 ^ length ls
 left_none s ls all e =
     ap (nat_of s) e
-    ∙ sym (ap (λ d. (nat_of s ls * 2 ^ d) % 2 ^ length ls) (nat_of_nil s) ∙ ap (λ k. k % 2 ^ length ls) (mul-one (nat_of s ls)) ∙ mod-eq_of_lt (nat_of_below s ls))
+    ∙ sym (ap (λ d. (nat_of s ls * 2 ^ d) % 2 ^ length ls) (nat_of_nil s)
+    ∙ ap (λ k. k % 2 ^ length ls) (mul-one (nat_of s ls)) ∙ mod-eq_of_lt (nat_of_below s ls))
 
-pub right_none : (s : ℕ → Bool) (fill : Bool) (ls all : List Literal) → all ≡ ls → nat_of s all ≡ moved_right (length ls) fill (nat_of s ls) (nat_of s [])
+pub right_none : (s : ℕ → Bool) (fill : Bool) (ls all : List Literal) → all ≡ ls
+    → nat_of s all ≡ moved_right (length ls) fill (nat_of s ls) (nat_of s [])
 right_none s fill ls all e =
     ap (nat_of s) e
-    ∙ sym (ap (moved_right (length ls) fill (nat_of s ls)) (nat_of_nil s) ∙ moved_right_none (length ls) fill (nat_of s ls) (nat_of_below s ls))
+    ∙ sym (ap (moved_right (length ls) fill (nat_of s ls)) (nat_of_nil s)
+    ∙ moved_right_none (length ls) fill (nat_of s ls) (nat_of_below s ls))
 
 -- the places of the next stage
 pub doubled_places : (by i most next : ℕ) → by ≡ min (2 ^ i) most → next ≡ min (by * 2) most → next ≡ min (2 ^ (i + 1)) most
@@ -89,15 +95,18 @@ doubled_places by i most next e f = let p : 2 ^ (i + 1) ≡ 2 * 2 ^ i = power_ne
 pub AddsGates_at_first : (gs : List Gate) (n : ℕ) → IsCircuit gs → AddsGates gs gs (n * 0)
 AddsGates_at_first gs n is = AddsGates_none gs (n * 0) is
 
-pub AddsGates_turn : (old mid new : List Gate) (lent : List Literal) (n i : ℕ) → length lent ≡ n → AddsGates old mid (n * i)
+pub AddsGates_turn : (old mid new : List Gate) (lent : List Literal) (n i : ℕ) → length lent ≡ n
+    → AddsGates old mid (n * i)
     → AddsGates mid new (length lent) → AddsGates old new (n * (i + 1))
 AddsGates_turn old mid new lent n i len g h = AddsGates_more old mid new (n * i) (length lent) (n * (i + 1)) g h (omega (arith, mul-add n i 1))
 
 -- also after a stage that wanted memory
-pub AddsGates_short : (old mid new : List Gate) (lent : List Literal) (n i m : ℕ) → i < m → length lent ≡ n → AddsGates old mid (n * i)
+pub AddsGates_short : (old mid new : List Gate) (lent : List Literal) (n i m : ℕ) → i < m → length lent ≡ n
+    → AddsGates old mid (n * i)
     → AddsGates mid new (length lent) → AddsGates old new (n * m)
 AddsGates_short old mid new lent n i m h len g more =
     AddsGates_more old mid new (n * i) (length lent) (n * m) g more (omega (arith, stage_fits n i m h))
 
-pub zero_value : (s : ℕ → Bool) (zero truth : Literal) → zero ≡ opposite truth → lit_value s truth ≡ true → lit_value s zero ≡ false
+pub zero_value : (s : ℕ → Bool) (zero truth : Literal) → zero ≡ opposite truth → lit_value s truth ≡ true
+    → lit_value s zero ≡ false
 zero_value s zero truth e h = lit_value_negated s zero truth e ∙ ap not h

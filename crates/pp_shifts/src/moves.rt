@@ -1,6 +1,7 @@
 //! Moves by a distance that is known, which take no gates.
 
-ghost use Rattle.std.specs.Prelude.{◌≡◌, ◌-◌, ◌^◌, ℕ, Bool, ◌++◌, All, length, take, drop, replicate, min, nat_le, IfOk};
+ghost use Rattle.std.specs.Prelude.{◌≡◌, ◌-◌, ◌^◌, ℕ, Bool, ◌++◌, All, length, take, drop, replicate, min, nat_le};
+ghost use Rattle.std.specs.Prelude.{IfOk};
 ghost use Rattle.pp_clause.specs.Literal.{lit_value};
 ghost use Rattle.pp_gate.specs.Circuit.{IsOf, IsCircuit, Gives};
 ghost use Rattle.pp_bits.specs.Number.{nat_of};
@@ -27,7 +28,8 @@ pub(crate) fn raised(
     by: usize,
     fill: Lit,
 ) -> Result<Vec<Lit>, NoMemory>
-    ensures value { IfOk result (λ r. r.items ≡ replicate (min by (length a.now)) fill ++ take (length a.now - min by (length a.now)) a.now) }
+    ensures value { IfOk result (λ r. r.items ≡ replicate (min by (length a.now)) fill ++ take
+        (length a.now - min by (length a.now)) a.now) }
     ensures circuit { IsCircuit circuit.now }
 {
     let _gates = circuit.gates();
@@ -44,7 +46,8 @@ pub(crate) fn lowered(
     by: usize,
     fill: Lit,
 ) -> Result<Vec<Lit>, NoMemory>
-    ensures value { IfOk result (λ r. r.items ≡ drop (min by (length a.now)) a.now ++ replicate (min by (length a.now)) fill) }
+    ensures value { IfOk result (λ r. r.items ≡ drop (min by (length a.now)) a.now ++ replicate (min by (length a.now))
+        fill) }
     ensures circuit { IsCircuit circuit.now }
 {
     let _gates = circuit.gates();
@@ -58,7 +61,8 @@ pub(crate) fn lowered(
 pub fn sign(circuit: &Circuit, a: &[Lit]) -> Lit
     requires { All (IsOf circuit.now) a.now }
     ensures of { IsOf circuit.now result }
-    ensures value { (s : ℕ → Bool) → Gives s circuit.now → lit_value s result ≡ nat_le (2 ^ (length a.now - 1)) (nat_of s a.now) }
+    ensures value { (s : ℕ → Bool) → Gives s circuit.now → lit_value s result
+        ≡ nat_le (2 ^ (length a.now - 1)) (nat_of s a.now) }
     ensures circuit { IsCircuit circuit.now }
 {
     let zero = circuit.truth().negated();

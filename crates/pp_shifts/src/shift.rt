@@ -23,7 +23,8 @@ pub fn shl(circuit: &mut Circuit, a: &[Lit], distance: &[Lit]) -> Result<Vec<Lit
     requires distance { All (IsOf circuit.old) distance.now }
     requires room { length circuit.old + length a.now * length distance.now ≤ 2 ^ 30 }
     ensures adds { AddsGates circuit.old circuit.new (length a.now * length distance.now) }
-    ensures stands { IfOk result (λ r. StandsForNumber circuit.new (length a.now) r.items (λ s. (nat_of s a.now * 2 ^ nat_of s distance.now) % 2 ^ length a.now)) }
+    ensures stands { IfOk result (λ r. StandsForNumber circuit.new (length a.now) r.items
+        (λ s. (nat_of s a.now * 2 ^ nat_of s distance.now) % 2 ^ length a.now)) }
 {
     let zero = circuit.truth().negated();
     let mut digits = copied(circuit, a)?;
@@ -44,7 +45,8 @@ pub fn ushr(circuit: &mut Circuit, a: &[Lit], distance: &[Lit]) -> Result<Vec<Li
     requires distance { All (IsOf circuit.old) distance.now }
     requires room { length circuit.old + length a.now * length distance.now ≤ 2 ^ 30 }
     ensures adds { AddsGates circuit.old circuit.new (length a.now * length distance.now) }
-    ensures stands { IfOk result (λ r. StandsForNumber circuit.new (length a.now) r.items (λ s. nat_of s a.now / 2 ^ nat_of s distance.now)) }
+    ensures stands { IfOk result (λ r. StandsForNumber circuit.new (length a.now) r.items
+        (λ s. nat_of s a.now / 2 ^ nat_of s distance.now)) }
 {
     let zero = circuit.truth().negated();
     right(circuit, a, distance, zero)
@@ -62,7 +64,8 @@ pub fn shr(circuit: &mut Circuit, a: &[Lit], distance: &[Lit]) -> Result<Vec<Lit
     ensures adds { AddsGates circuit.old circuit.new (length a.now * length distance.now) }
     ensures len { IfOk result (λ r. length r.items ≡ length a.now) }
     ensures of { IfOk result (λ r. All (IsOf circuit.new) r.items) }
-    ensures value { IfOk result (λ r. (s : ℕ → Bool) → Gives s circuit.new → signed_of (length a.now) (nat_of s r.items) ≡ int_shr (signed_of (length a.now) (nat_of s a.now)) (nat_of s distance.now)) }
+    ensures value { IfOk result (λ r. (s : ℕ → Bool) → Gives s circuit.new → signed_of (length a.now) (nat_of s r.items)
+        ≡ int_shr (signed_of (length a.now) (nat_of s a.now)) (nat_of s distance.now)) }
 {
     let sign = sign(circuit, a);
     let digits = right(circuit, a, distance, sign)?;
@@ -81,7 +84,8 @@ fn right(
     requires fill { IsOf circuit.old fill }
     requires room { length circuit.old + length a.now * length distance.now ≤ 2 ^ 30 }
     ensures adds { AddsGates circuit.old circuit.new (length a.now * length distance.now) }
-    ensures stands { IfOk result (λ r. StandsForNumber circuit.new (length a.now) r.items (λ s. moved_right (length a.now) (lit_value s fill) (nat_of s a.now) (nat_of s distance.now))) }
+    ensures stands { IfOk result (λ r. StandsForNumber circuit.new (length a.now) r.items
+        (λ s. moved_right (length a.now) (lit_value s fill) (nat_of s a.now) (nat_of s distance.now))) }
 {
     let mut digits = copied(circuit, a)?;
     let mut by = 1;
@@ -107,7 +111,8 @@ fn left_stage(
     ensures adds { AddsGates circuit.old circuit.new (length digits.now) }
     ensures len { IfOk result (λ r. length r.items ≡ length digits.now) }
     ensures of { IfOk result (λ r. All (IsOf circuit.new) r.items) }
-    ensures value { IfOk result (λ r. (s : ℕ → Bool) → Gives s circuit.new → lit_value s zero ≡ false → nat_of s r.items ≡ (nat_of s digits.now * 2 ^ (by * lit_bit s choice)) % 2 ^ length digits.now) }
+    ensures value { IfOk result (λ r. (s : ℕ → Bool) → Gives s circuit.new → lit_value s zero ≡ false → nat_of s r.items
+        ≡ (nat_of s digits.now * 2 ^ (by * lit_bit s choice)) % 2 ^ length digits.now) }
 {
     let moved = raised(circuit, digits, by, zero)?;
     let chosen = choose(circuit, choice, &moved, digits)?;
@@ -129,7 +134,8 @@ fn right_stage(
     ensures adds { AddsGates circuit.old circuit.new (length digits.now) }
     ensures len { IfOk result (λ r. length r.items ≡ length digits.now) }
     ensures of { IfOk result (λ r. All (IsOf circuit.new) r.items) }
-    ensures value { IfOk result (λ r. (s : ℕ → Bool) → Gives s circuit.new → nat_of s r.items ≡ moved_right (length digits.now) (lit_value s fill) (nat_of s digits.now) (by * lit_bit s choice)) }
+    ensures value { IfOk result (λ r. (s : ℕ → Bool) → Gives s circuit.new → nat_of s r.items
+        ≡ moved_right (length digits.now) (lit_value s fill) (nat_of s digits.now) (by * lit_bit s choice)) }
 {
     let moved = lowered(circuit, digits, by, fill)?;
     let chosen = choose(circuit, choice, &moved, digits)?;

@@ -14,9 +14,11 @@ use Rattle.pp_prog.specs.declared.id.CheckId.{CheckId}
 use Rattle.pp_prog.specs.declared.place.Place.{Place}
 use Rattle.pp_prog.specs.declared.sort.Sort.{Sort}
 use Rattle.pp_translation.specs.Bare.{bare, bare_function, bare_post}
-use Rattle.pp_translation.specs.Defs.{TranslatesDef, TranslatesDefs, TranslatesPost, no_defs, more_defs, none_more, no_post, one_post}
+use Rattle.pp_translation.specs.Defs.{TranslatesDef, TranslatesDefs, TranslatesPost, no_defs, more_defs, none_more}
+use Rattle.pp_translation.specs.Defs.{no_post, one_post}
 use Rattle.pp_translation.specs.Exprs.{expr_at, unnumbered}
-use Rattle.pp_translation.specs.Functions.{and_all, as_one, function_if, function_of, functions_of, param_at, place_at, post_at}
+use Rattle.pp_translation.specs.Functions.{and_all, as_one, function_if, function_of, functions_of, param_at, place_at}
+use Rattle.pp_translation.specs.Functions.{post_at}
 use Rattle.pp_translation.specs.Numbers.{sort_at}
 use Rattle.pp_translation.specs.Setting.{Setting}
 use Rattle.pp_translation.specs.declared.frame.CheckAt.{CheckAt}
@@ -37,13 +39,15 @@ module _ (typed : Typed) (set : Setting) (own : Frame) (d : TypedDef) where
 
   bare_and : (a : Expr) (xs : List Expr) → bare (and_all a xs) ≡ and_all (bare a) (map bare xs)
   bare_and a [] = refl
-  bare_and a (x ∷ xs) = bare_and (prog.Binary AndAlso a x None) xs ∙ ap (λ z. and_all z (map bare xs)) (bare_binary AndAlso a x None)
+  bare_and a (x ∷ xs) = bare_and (prog.Binary AndAlso a x None) xs
+      ∙ ap (λ z. and_all z (map bare xs)) (bare_binary AndAlso a x None)
 
   bare_one : (xs : List Expr) → option_map bare (as_one xs) ≡ as_one (map bare xs)
   bare_one [] = refl
   bare_one (x ∷ xs) = ap Some (bare_and x xs)
 
-  bare_of_post : (texts : List (List ℕ)) {q : Option TypedPost} {p : Option (CheckId × Expr)} {source : ℕ} {old new : List CheckAt} → TranslatesPost typed set own source q p old new
+  bare_of_post : (texts : List (List ℕ)) {q : Option TypedPost} {p : Option (CheckId × Expr)} {source : ℕ}
+      {old new : List CheckAt} → TranslatesPost typed set own source q p old new
       → bare_post p ≡ post_at typed texts set.roots set.functions own.args q
   bare_of_post texts no_post = refl
   bare_of_post texts (one_post t) = ap (λ z. Some (unnumbered, z)) (bare_expr typed set own t)
@@ -54,12 +58,15 @@ module _ (typed : Typed) (set : Setting) (own : Frame) (d : TypedDef) where
 
   abbrev function_at_args : List GenericSort → List (List ℕ) → Instance → Function
   function_at_args args texts i =
-      made i.name (place_at texts (d.source, d.at)) (map (param_at set.roots args) d.params) (sort_at set.roots args d.result)
-      (as_one (map (expr_at typed set.roots set.functions args) d.pre)) (map (expr_at typed set.roots set.functions args) d.measure)
+      made i.name (place_at texts (d.source, d.at)) (map (param_at set.roots args) d.params)
+      (sort_at set.roots args d.result)
+      (as_one (map (expr_at typed set.roots set.functions args) d.pre))
+      (map (expr_at typed set.roots set.functions args) d.measure)
       (expr_at typed set.roots set.functions args d.body) (post_at typed texts set.roots set.functions args d.post)
 
   -- the function of the program that it is at the arguments of the instance
-  pub def_bare : {texts : List (List ℕ)} {i : Instance} {f : Function} {old new : List CheckAt} → TranslatesDef typed set own texts i d f old new → own.args ≡ i.args
+  pub def_bare : {texts : List (List ℕ)} {i : Instance} {f : Function} {old new : List CheckAt}
+      → TranslatesDef typed set own texts i d f old new → own.args ≡ i.args
       → bare_function f ≡ function_of typed texts set.roots set.functions i d
   def_bare {texts} {i} {f} t is =
       let pre : option_map bare f.pre ≡ as_one (map Bare d.pre) = ap (option_map bare) t.pre.one ∙ bare_one t.pre.parts ∙ ap as_one (bare_all typed set own t.pre.each) in
@@ -67,13 +74,20 @@ module _ (typed : Typed) (set : Setting) (own : Frame) (d : TypedDef) where
       let body = bare_expr typed set own t.body in
       let post = bare_of_post texts t.post in
       let at_own : bare_function f ≡ function_at_args own.args texts i =
-      ap (λ z. made z f.place f.params f.result (option_map bare f.pre) (map bare f.measure) (bare f.body) (bare_post f.post)) t.name
-      ∙ ap (λ z. made i.name z f.params f.result (option_map bare f.pre) (map bare f.measure) (bare f.body) (bare_post f.post)) t.place
-      ∙ ap (λ z. made i.name (place_at texts (d.source, d.at)) z f.result (option_map bare f.pre) (map bare f.measure) (bare f.body) (bare_post f.post)) t.params
-      ∙ ap (λ z. made i.name (place_at texts (d.source, d.at)) (map (param_at set.roots own.args) d.params) z (option_map bare f.pre) (map bare f.measure) (bare f.body) (bare_post f.post)) t.result
-      ∙ ap (λ z. made i.name (place_at texts (d.source, d.at)) (map (param_at set.roots own.args) d.params) (G d.result) z (map bare f.measure) (bare f.body) (bare_post f.post)) pre
-      ∙ ap (λ z. made i.name (place_at texts (d.source, d.at)) (map (param_at set.roots own.args) d.params) (G d.result) (as_one (map Bare d.pre)) z (bare f.body) (bare_post f.post)) measure
-      ∙ ap (λ z. made i.name (place_at texts (d.source, d.at)) (map (param_at set.roots own.args) d.params) (G d.result) (as_one (map Bare d.pre)) (map Bare d.measure) z (bare_post f.post)) body
+      ap (λ z. made z f.place f.params f.result (option_map bare f.pre) (map bare f.measure) (bare f.body)
+      (bare_post f.post)) t.name
+      ∙ ap (λ z. made i.name z f.params f.result (option_map bare f.pre) (map bare f.measure) (bare f.body)
+      (bare_post f.post)) t.place
+      ∙ ap (λ z. made i.name (place_at texts (d.source, d.at)) z f.result (option_map bare f.pre) (map bare f.measure)
+      (bare f.body) (bare_post f.post)) t.params
+      ∙ ap (λ z. made i.name (place_at texts (d.source, d.at)) (map (param_at set.roots own.args) d.params) z
+      (option_map bare f.pre) (map bare f.measure) (bare f.body) (bare_post f.post)) t.result
+      ∙ ap (λ z. made i.name (place_at texts (d.source, d.at)) (map (param_at set.roots own.args) d.params) (G d.result)
+      z (map bare f.measure) (bare f.body) (bare_post f.post)) pre
+      ∙ ap (λ z. made i.name (place_at texts (d.source, d.at)) (map (param_at set.roots own.args) d.params) (G d.result)
+      (as_one (map Bare d.pre)) z (bare f.body) (bare_post f.post)) measure
+      ∙ ap (λ z. made i.name (place_at texts (d.source, d.at)) (map (param_at set.roots own.args) d.params) (G d.result)
+      (as_one (map Bare d.pre)) (map Bare d.measure) z (bare_post f.post)) body
       ∙ ap (λ z. made i.name (place_at texts (d.source, d.at)) (map (param_at set.roots own.args) d.params) (G d.result) (as_one (map Bare d.pre)) (map Bare d.measure) (Bare d.body) z) post in
       at_own ∙ ap (λ (l : List GenericSort). function_at_args l texts i) is
 

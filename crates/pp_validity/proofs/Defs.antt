@@ -1,5 +1,6 @@
 -- A translated function is sorted, and its sites are listed in order.
-use Rattle.std.proofs.Common.{◌≡◌, ℕ, suc, Bool, true, false, ◌&&◌, List, [], ◌∷◌, ◌++◌, map, length, refl, sym, ap, ◌∙◌, arith}
+use Rattle.std.proofs.Common.{◌≡◌, ℕ, suc, Bool, true, false, ◌&&◌, List, [], ◌∷◌, ◌++◌, map, length, refl, sym, ap}
+use Rattle.std.proofs.Common.{◌∙◌, arith}
 use Rattle.std.specs.Prelude.{Option, Some, None, is_some, Contains, All}
 use Rattle.std.proofs.lemmas.List.{append-nil}
 use Rattle.pp_instances.proofs.Parts.{map_push}
@@ -8,8 +9,10 @@ use Rattle.pp_instances.specs.Uses.{mentions, post_mentions, text_mentions}
 use Rattle.pp_instances.specs.declared.member.Instance.{Instance}
 use Rattle.pp_instances.specs.declared.member.Member.{Member}
 use Rattle.pp_prog.specs.Calls.{joined}
-use Rattle.pp_prog.specs.ExprSorts.{binary_sort, has_the_sort, is_of_sort, is_sorted, is_sorted_measure, is_sorted_post, is_sorted_pre, sort_of}
-use Rattle.pp_prog.specs.Listing.{Site, function_sites, measure_sites, plain, post_sites, postcondition, pre_sites, sites}
+use Rattle.pp_prog.specs.ExprSorts.{binary_sort, has_the_sort, is_of_sort, is_sorted, is_sorted_measure, is_sorted_post}
+use Rattle.pp_prog.specs.ExprSorts.{is_sorted_pre, sort_of}
+use Rattle.pp_prog.specs.Listing.{Site, function_sites, measure_sites, plain, post_sites, postcondition, pre_sites}
+use Rattle.pp_prog.specs.Listing.{sites}
 use Rattle.pp_prog.specs.Sorts.{param_sorts as sorts_of_params, sort_of_param as sort_of_prog_param, same_sort}
 use Rattle.pp_prog.specs.declared.check.CheckKind.TheVariants as check
 use Rattle.pp_prog.specs.declared.expr.BinaryOp.TheVariants.{AndAlso}
@@ -87,7 +90,8 @@ module _ (typed : Typed) (set : Setting) (ms : List Member) (fs : List Function)
   abbrev In : Expr → List Site
   In x = sites set.types fs x sc
 
-  two : (s t : List Site) (o p : List Offset) (old mid new : List CheckAt) → L s o old mid → L t p mid new → L (s ++ t) (o ++ p) old new
+  two : (s t : List Site) (o p : List Offset) (old mid new : List CheckAt) → L s o old mid → L t p mid new
+      → L (s ++ t) (o ++ p) old new
   two s t o p old mid new a b = lists_append set.types fs own.number s t o p old mid new a b
 
   same : (s t : List Site) (o p : List Offset) (old new : List CheckAt) → t ≡ s → p ≡ o → L s o old new → L t p old new
@@ -98,7 +102,8 @@ module _ (typed : Typed) (set : Setting) (ms : List Member) (fs : List Function)
   abbrev bool_at : TypedExpr → GenericSort
   bool_at e = sort.Bool
 
-  bools : (es : List TypedExpr) → All (HasSort typed d scope sort.Bool) es → AreSorted typed d.type_params scope (map bool_at es) es
+  bools : (es : List TypedExpr) → All (HasSort typed d scope sort.Bool) es
+      → AreSorted typed d.type_params scope (map bool_at es) es
   bools [] h = none_sorted
   bools (e ∷ es) h =
       let first = head_of (HasSort typed d scope sort.Bool) e es h in
@@ -107,13 +112,16 @@ module _ (typed : Typed) (set : Setting) (ms : List Member) (fs : List Function)
   abbrev own_sort : TypedExpr → GenericSort
   own_sort e = e.of
 
-  each : (es : List TypedExpr) → All (IsSorted typed d.type_params scope) es → AreSorted typed d.type_params scope (map own_sort es) es
+  each : (es : List TypedExpr) → All (IsSorted typed d.type_params scope) es
+      → AreSorted typed d.type_params scope (map own_sort es) es
   each [] h = none_sorted
   each (e ∷ es) h =
-      more_sorted (head_of (IsSorted typed d.type_params scope) e es h) refl (each es (tail_of (IsSorted typed d.type_params scope) e es h))
+      more_sorted (head_of (IsSorted typed d.type_params scope) e es h) refl
+      (each es (tail_of (IsSorted typed d.type_params scope) e es h))
 
   and_sorted : (a : Expr) (xs : List Expr) (es : List TypedExpr) → Sorted set.types fs sc a ≡ Some of_prog.Bool
-      → map (Sorted set.types fs sc) xs ≡ map some (map bool_at es) → Sorted set.types fs sc (and_all a xs) ≡ Some of_prog.Bool
+      → map (Sorted set.types fs sc) xs ≡ map some (map bool_at es)
+      → Sorted set.types fs sc (and_all a xs) ≡ Some of_prog.Bool
   and_sorted a [] es h are = h
   and_sorted a (x ∷ xs) [] h are = let no : Sorted set.types fs sc x ∷ map (Sorted set.types fs sc) xs ≡ [] = are in cc
   and_sorted a (x ∷ xs) (e ∷ es) h are =
@@ -123,11 +131,13 @@ module _ (typed : Typed) (set : Setting) (ms : List Member) (fs : List Function)
       (sort_of_binary set.types fs sc AndAlso a x None ∙ ap (λ z. binary_sort AndAlso z (Sorted set.types fs sc x)) h
       ∙ ap (λ z. binary_sort AndAlso (Some of_prog.Bool) z) (heads ∙ ap Some (sort_at_bool set.roots own.args))) tails
 
-  measure_sorted : (xs : List Expr) (ss : List GenericSort) → map (Sorted set.types fs sc) xs ≡ map some ss → is_sorted_measure set.types fs xs sc ≡ true
+  measure_sorted : (xs : List Expr) (ss : List GenericSort) → map (Sorted set.types fs sc) xs ≡ map some ss
+      → is_sorted_measure set.types fs xs sc ≡ true
   measure_sorted [] ss are = refl
   measure_sorted (x ∷ xs) [] are = let no : Sorted set.types fs sc x ∷ map (Sorted set.types fs sc) xs ≡ [] = are in cc
   measure_sorted (x ∷ xs) (s ∷ ss) are =
-      both_true (is_some (Sorted set.types fs sc x)) (is_sorted_measure set.types fs xs sc) (ap is_some (first_same are)) (measure_sorted xs ss (rest_same are))
+      both_true (is_some (Sorted set.types fs sc x)) (is_sorted_measure set.types fs xs sc)
+      (ap is_some (first_same are)) (measure_sorted xs ss (rest_same are))
 
   measure_in : (xs : List Expr) → measure_sites set.types fs xs sc ≡ joined (map In xs)
   measure_in [] = refl
@@ -135,23 +145,27 @@ module _ (typed : Typed) (set : Setting) (ms : List Member) (fs : List Function)
 
   -- ---- several conditions as one
 
-  filled_or_not : (xs : List Expr) (x : Expr) {old mid new : List CheckAt} (o p : List Offset) → L (pre_sites set.types fs (as_one xs) sc) o old mid → L (In x) p mid new
+  filled_or_not : (xs : List Expr) (x : Expr) {old mid new : List CheckAt} (o p : List Offset)
+      → L (pre_sites set.types fs (as_one xs) sc) o old mid → L (In x) p mid new
       → L (pre_sites set.types fs (as_one (xs ++ x ∷ [])) sc) (o ++ p) old new
   filled_or_not [] x {old} {mid} {new} o p a b = two [] (In x) o p old mid new a b
   filled_or_not (w ∷ xs) x {old} {mid} {new} o p a b =
       let whole = and_all w xs in
       same (In whole ++ In x ++ plain None ∷ []) (In (and_all w (xs ++ x ∷ []))) (o ++ p ++ []) (o ++ p) old new
       (ap In (and_push w xs x) ∙ sites_binary set.types fs sc AndAlso whole x None) (sym (append-nil (o ++ p)))
-      (two (In whole ++ In x) (plain None ∷ []) (o ++ p) [] old new new (two (In whole) (In x) o p old mid new a b) (plain_site set.types fs own.number new))
+      (two (In whole ++ In x) (plain None ∷ []) (o ++ p) [] old new new (two (In whole) (In x) o p old mid new a b)
+      (plain_site set.types fs own.number new))
 
-  pre_lists : {es : List TypedExpr} {xs : List Expr} {old new : List CheckAt} {ss : List GenericSort} → TranslateAll typed set own es xs old new
+  pre_lists : {es : List TypedExpr} {xs : List Expr} {old new : List CheckAt} {ss : List GenericSort}
+      → TranslateAll typed set own es xs old new
       → AreSorted typed d.type_params scope ss es → Within ms own.args (joined_members (map mentions es))
       → L (pre_sites set.types fs (as_one xs) sc) (joined (map site_offsets es)) old new
   pre_lists {old = old} no_exprs h w = lists_none set.types fs own.number old
   pre_lists {old = old} {new = new} (one_more {es = es} {e = e} {xs = xs} {x = x} {mid = mid} before t) h w =
       let r = split typed d.type_params scope es e h in
       let parts = in_parts ms own.args mentions es e w in
-      same _ _ _ _ old new refl (ap joined (map_push site_offsets es e) ∙ joined_push (map site_offsets es) (site_offsets e))
+      same _ _ _ _ old new refl (ap joined (map_push site_offsets es e)
+      ∙ joined_push (map site_offsets es) (site_offsets e))
       (filled_or_not xs x (joined (map site_offsets es)) (site_offsets e) (pre_lists before r.earlier parts.0)
       (lists_expr typed set ms fs known own grouped d.type_params own_types t r.last parts.1))
 
@@ -162,7 +176,8 @@ module _ (typed : Typed) (set : Setting) (ms : List Member) (fs : List Function)
 
   scope_is : (f : Function) → IsIn f → sorts_of_params f.params ≡ sc
   scope_is f h =
-      ap sorts_of_params h ∙ sym (map_map sort_of_prog_param (param_at set.roots own.args) d.params) ∙ map_map G sort_of_param d.params
+      ap sorts_of_params h ∙ sym (map_map sort_of_prog_param (param_at set.roots own.args) d.params)
+      ∙ map_map G sort_of_param d.params
 
   record Parts : Type 0 where
     pre : Within ms own.args (joined_members (map mentions d.pre))
@@ -183,14 +198,16 @@ module _ (typed : Typed) (set : Setting) (ms : List Member) (fs : List Function)
         post = in_right ms own.args (a ++ b ++ mentions d.body) (post_mentions d.post) w;
       }
 
-  pre_right : (xs : List Expr) (es : List TypedExpr) → map (Sorted set.types fs sc) xs ≡ map some (map bool_at es) → is_sorted_pre set.types fs (as_one xs) sc ≡ true
+  pre_right : (xs : List Expr) (es : List TypedExpr) → map (Sorted set.types fs sc) xs ≡ map some (map bool_at es)
+      → is_sorted_pre set.types fs (as_one xs) sc ≡ true
   pre_right [] es are = refl
   pre_right (w ∷ xs) [] are = let no : Sorted set.types fs sc w ∷ map (Sorted set.types fs sc) xs ≡ [] = are in cc
   pre_right (w ∷ xs) (e ∷ es) are =
       let first : Sorted set.types fs sc w ≡ Some of_prog.Bool = first_same are ∙ ap Some (sort_at_bool set.roots own.args) in
       ap (has_the_sort set.types fs of_prog.Bool) (and_sorted w xs es first (rest_same are))
 
-  right : (x : Expr) (l : List Sort) (s t : Sort) → sort_of set.types fs x l ≡ Some t → t ≡ s → is_of_sort set.types fs s l x ≡ true
+  right : (x : Expr) (l : List Sort) (s t : Sort) → sort_of set.types fs x l ≡ Some t → t ≡ s
+      → is_of_sort set.types fs s l x ≡ true
   right x l s t h e = ap (has_the_sort set.types fs s) h ∙ ap (λ (z : Sort). same_sort z s) e ∙ same_self s
 
   abbrev with_result : List GenericSort
@@ -199,46 +216,61 @@ module _ (typed : Typed) (set : Setting) (ms : List Member) (fs : List Function)
   result_in : (f : Function) → f.result ≡ G d.result → sc ++ f.result ∷ [] ≡ map G with_result
   result_in f h = ap (λ (z : Sort). sc ++ z ∷ []) h ∙ sym (map_push G scope d.result)
 
-  claim_right : (x : Expr) (f : Function) (e : TypedExpr) {old new : List CheckAt} → f.result ≡ G d.result → Translates typed set own e x old new
-      → HasSort typed d with_result sort.Bool e → Within ms own.args (mentions e) → is_of_sort set.types fs of_prog.Bool (sc ++ f.result ∷ []) x ≡ true
+  claim_right : (x : Expr) (f : Function) (e : TypedExpr) {old new : List CheckAt} → f.result ≡ G d.result
+      → Translates typed set own e x old new
+      → HasSort typed d with_result sort.Bool e → Within ms own.args (mentions e)
+      → is_of_sort set.types fs of_prog.Bool (sc ++ f.result ∷ []) x ≡ true
   claim_right x f e r t h w =
       ap (λ l. is_of_sort set.types fs of_prog.Bool l x) (result_in f r)
-      ∙ right x (map G with_result) of_prog.Bool (G e.of) (sorted_expr typed set ms fs known own d.type_params own_types t h.0 w) (ap G h.1 ∙ sort_at_bool set.roots own.args)
+      ∙ right x (map G with_result) of_prog.Bool (G e.of)
+      (sorted_expr typed set ms fs known own d.type_params own_types t h.0 w)
+      (ap G h.1 ∙ sort_at_bool set.roots own.args)
 
-  post_right : {q : Option TypedPost} {p : Option (CheckId × Expr)} {source : ℕ} {old new : List CheckAt} (f : Function) → f.result ≡ G d.result
+  post_right : {q : Option TypedPost} {p : Option (CheckId × Expr)} {source : ℕ} {old new : List CheckAt} (f : Function)
+      → f.result ≡ G d.result
       → TranslatesPost typed set own source q p old new → IsPost typed d q → Within ms own.args (post_mentions q)
       → is_sorted_post set.types fs p (sc ++ f.result ∷ []) ≡ true
   post_right f r no_post h w = refl
   post_right f r (one_post {post = post} {claim = claim} t) h w = claim_right claim f post.claim r t h w
 
-  post_lists : {q : Option TypedPost} {p : Option (CheckId × Expr)} {source : ℕ} {old new : List CheckAt} (f : Function) → f.result ≡ G d.result
+  post_lists : {q : Option TypedPost} {p : Option (CheckId × Expr)} {source : ℕ} {old new : List CheckAt} (f : Function)
+      → f.result ≡ G d.result
       → TranslatesPost typed set own source q p old new → IsPost typed d q → Within ms own.args (post_mentions q)
       → L (post_sites set.types fs p f.result sc) (post_offsets source q) old new
   post_lists {old = old} f r no_post h w = lists_none set.types fs own.number old
   post_lists {source = source} {old = old} f r (one_post {post = post} {claim = claim} {new = mid} t) h w =
       let site = postcondition (record { 0 = length mid }) in
       let c = post_check typed set own source post.at in
-      same (sites set.types fs claim (map G with_result) ++ site ∷ []) _ (site_offsets post.claim ++ (source, post.at) ∷ []) _ old (mid ++ c ∷ [])
+      same (sites set.types fs claim (map G with_result) ++ site ∷ []) _
+      (site_offsets post.claim ++ (source, post.at) ∷ []) _ old (mid ++ c ∷ [])
       (ap (λ l. sites set.types fs claim l ++ site ∷ []) (result_in f r)) refl
-      (two (sites set.types fs claim (map G with_result)) (site ∷ []) (site_offsets post.claim) ((source, post.at) ∷ []) old mid (mid ++ c ∷ [])
+      (two (sites set.types fs claim (map G with_result)) (site ∷ []) (site_offsets post.claim) ((source, post.at) ∷ [])
+      old mid (mid ++ c ∷ [])
       (lists_expr typed set ms fs known own grouped d.type_params own_types t h.0 w)
       (one_if set.types fs own.number site check.Postcondition true c mid refl refl refl refl refl tt))
 
   -- the function is sorted
-  pub def_sorted : {texts : List (List ℕ)} {i : Instance} {f : Function} {old new : List CheckAt} → TranslatesDef typed set own texts i d f old new → IsDef typed d
+  pub def_sorted : {texts : List (List ℕ)} {i : Instance} {f : Function} {old new : List CheckAt}
+      → TranslatesDef typed set own texts i d f old new → IsDef typed d
       → Within ms own.args (text_mentions d) → is_sorted set.types fs f ≡ true
   def_sorted {f = f} t h w =
       let parts = parts_of w in
       let pre = sorted_all typed set ms fs known own d.type_params own_types t.pre.each (bools d.pre h.pre) parts.pre in
       let measure = sorted_all typed set ms fs known own d.type_params own_types t.measure (each d.measure h.measure) parts.measure in
       let body = sorted_expr typed set ms fs known own d.type_params own_types t.body h.body.0 parts.body in
-      ap (λ (l : List Sort). is_sorted_pre set.types fs f.pre l && (is_sorted_measure set.types fs f.measure l && (is_of_sort set.types fs f.result l f.body && is_sorted_post set.types fs f.post (l ++ f.result ∷ [])))) (scope_is f t.params)
-      ∙ both_true _ _ (ap (λ (o : Option Expr). is_sorted_pre set.types fs o sc) t.pre.one ∙ pre_right t.pre.parts d.pre pre)
+      ap (λ (l : List Sort). is_sorted_pre set.types fs f.pre l &&
+      (is_sorted_measure set.types fs f.measure l &&
+      (is_of_sort set.types fs f.result l f.body && is_sorted_post set.types fs f.post (l ++ f.result ∷ []))))
+      (scope_is f t.params)
+      ∙ both_true _ _ (ap (λ (o : Option Expr). is_sorted_pre set.types fs o sc) t.pre.one
+      ∙ pre_right t.pre.parts d.pre pre)
       (both_true _ _ (measure_sorted f.measure (map own_sort d.measure) measure)
-      (both_true _ _ (right f.body sc f.result (G d.body.of) body (ap G h.body.1 ∙ sym t.result)) (post_right f t.result t.post h.post parts.post)))
+      (both_true _ _ (right f.body sc f.result (G d.body.of) body (ap G h.body.1 ∙ sym t.result))
+      (post_right f t.result t.post h.post parts.post)))
 
   -- its sites are listed in order
-  pub def_lists : {texts : List (List ℕ)} {i : Instance} {f : Function} {old new : List CheckAt} → TranslatesDef typed set own texts i d f old new → IsDef typed d
+  pub def_lists : {texts : List (List ℕ)} {i : Instance} {f : Function} {old new : List CheckAt}
+      → TranslatesDef typed set own texts i d f old new → IsDef typed d
       → Within ms own.args (text_mentions d) → L (function_sites set.types fs f) (def_offsets d) old new
   def_lists {f = f} {old = old} {new = new} t h w =
       let parts = parts_of w in
@@ -251,8 +283,12 @@ module _ (typed : Typed) (set : Setting) (ms : List Member) (fs : List Function)
       let o = joined (map site_offsets d.pre) in
       let p = joined (map site_offsets d.measure) in
       same (a ++ b ++ In f.body ++ post_sites set.types fs f.post f.result sc) _ (def_offsets d) _ old new
-      (ap (λ (l : List Sort). pre_sites set.types fs f.pre l ++ measure_sites set.types fs f.measure l ++ sites set.types fs f.body l ++ post_sites set.types fs f.post f.result l) (scope_is f t.params)
-      ∙ ap (λ (z : Option Expr). pre_sites set.types fs z sc ++ measure_sites set.types fs f.measure sc ++ In f.body ++ post_sites set.types fs f.post f.result sc) t.pre.one
+      (ap (λ (l : List Sort). pre_sites set.types fs f.pre l ++ measure_sites set.types fs f.measure l ++ sites
+      set.types fs f.body l ++ post_sites set.types fs f.post f.result l) (scope_is f t.params)
+      ∙ ap (λ (z : Option Expr). pre_sites set.types fs z sc ++ measure_sites set.types fs f.measure sc ++ In f.body ++
+      post_sites set.types fs f.post f.result sc) t.pre.one
       ∙ ap (λ l. a ++ l ++ In f.body ++ post_sites set.types fs f.post f.result sc) (measure_in f.measure)) refl
-      (two (a ++ b ++ In f.body) (post_sites set.types fs f.post f.result sc) (o ++ p ++ site_offsets d.body) (post_offsets d.source d.post) old t.after_body new
-      (two (a ++ b) (In f.body) (o ++ p) (site_offsets d.body) old t.after_measure t.after_body (two a b o p old t.after_pre t.after_measure pre measure) body) post)
+      (two (a ++ b ++ In f.body) (post_sites set.types fs f.post f.result sc) (o ++ p ++ site_offsets d.body)
+      (post_offsets d.source d.post) old t.after_body new
+      (two (a ++ b) (In f.body) (o ++ p) (site_offsets d.body) old t.after_measure t.after_body
+      (two a b o p old t.after_pre t.after_measure pre measure) body) post)

@@ -34,17 +34,25 @@ pub record IsOnlyAt (typed : Typed) (set : Setting) (r : ℕ) (k : TypedCtor) (a
   pub t : Datatype
   pub found : slice_get set.types.datatypes (place_of set.roots (root_at r args)) ≡ Some t
   pub one : t.count ≡ 1
-  pub first : slice_get set.types.ctors t.first.0 ≡ Some (ctor_at typed set.roots (place_of set.roots (root_at r args)) args k)
+  pub first : slice_get set.types.ctors t.first.0 ≡ Some
+      (ctor_at typed set.roots (place_of set.roots (root_at r args)) args k)
 
 -- the numbers of the program are those of these members, which are closed, and its functions have the sorts of theirs
 pub record IsKnown (typed : Typed) (set : Setting) (ms : List Member) (fs : List Function) : Type 0 where
-  pub ctors : (c : ℕ) (k : TypedCtor) (args : List GenericSort) → slice_get typed.ctors c ≡ Some k → Contains ms (root_at k.root args)
-      → slice_get set.types.ctors (ctor_number typed.ctors set.roots c args).0 ≡ Some (ctor_at typed set.roots (place_of set.roots (root_at k.root args)) args k)
-  pub only : (k : TypedCtor) (args : List GenericSort) → ctors_of typed.ctors k.root ≡ k ∷ [] → Contains ms (root_at k.root args) → IsOnlyAt typed set k.root k args
-  pub functions : (f : ℕ) (d : TypedDef) (args : List GenericSort) → slice_get typed.defs f ≡ Some d → Contains ms (function_at f args) → IsFunctionAt set fs f d args
-  pub fields : (c : ℕ) (k : TypedCtor) (args : List GenericSort) → slice_get typed.ctors c ≡ Some k → Contains ms (root_at k.root args)
+  pub ctors : (c : ℕ) (k : TypedCtor) (args : List GenericSort) → slice_get typed.ctors c ≡ Some k
+      → Contains ms (root_at k.root args)
+      → slice_get set.types.ctors (ctor_number typed.ctors set.roots c args).0 ≡ Some
+      (ctor_at typed set.roots (place_of set.roots (root_at k.root args)) args k)
+  pub only : (k : TypedCtor) (args : List GenericSort) → ctors_of typed.ctors k.root ≡ k ∷ []
+      → Contains ms (root_at k.root args) → IsOnlyAt typed set k.root k args
+  pub functions : (f : ℕ) (d : TypedDef) (args : List GenericSort) → slice_get typed.defs f ≡ Some d
+      → Contains ms (function_at f args) → IsFunctionAt set fs f d args
+  pub fields : (c : ℕ) (k : TypedCtor) (args : List GenericSort) → slice_get typed.ctors c ≡ Some k
+      → Contains ms (root_at k.root args)
       → (s : GenericSort) → Contains k.fields s → HasTypes ms (put args s)
-  pub owner : (c : ℕ) (k : TypedCtor) → slice_get typed.ctors c ≡ Some k → (root : TypedRoot) × (slice_get typed.roots k.root ≡ Some root) × AreInRange typed.roots root.type_params k.fields
+  pub owner : (c : ℕ) (k : TypedCtor) → slice_get typed.ctors c ≡ Some k → (root : TypedRoot)
+      × (slice_get typed.roots k.root ≡ Some root) × AreInRange typed.roots root.type_params k.fields
   pub signature : (f : ℕ) (d : TypedDef) → slice_get typed.defs f ≡ Some d
       → AreInRange typed.roots d.type_params (param_sorts d.params) × IsInRange typed.roots d.type_params d.result
-  pub whole : (r : ℕ) (root : TypedRoot) (args : List GenericSort) → slice_get typed.roots r ≡ Some root → Contains ms (root_at r args) → length args ≡ root.type_params
+  pub whole : (r : ℕ) (root : TypedRoot) (args : List GenericSort) → slice_get typed.roots r ≡ Some root
+      → Contains ms (root_at r args) → length args ≡ root.type_params

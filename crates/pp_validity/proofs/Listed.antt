@@ -1,11 +1,13 @@
 -- Sites in order, with the checks that they carry and the offsets at which they stand.
-use Rattle.std.proofs.Common.{◌≡◌, ⊎_elim, ℕ, suc, ◌+◌, Bool, true, false, List, [], ◌∷◌, ◌++◌, map, length, refl, sym, ap, ◌∙◌, subst, arith, append_assoc, length-append}
+use Rattle.std.proofs.Common.{◌≡◌, ⊎_elim, ℕ, suc, ◌+◌, Bool, true, false, List, [], ◌∷◌, ◌++◌, map, length, refl, sym}
+use Rattle.std.proofs.Common.{ap, ◌∙◌, subst, arith, append_assoc, length-append}
 use Rattle.std.specs.Prelude.{None, Contains}
 use Rattle.std.proofs.lemmas.List.{append-nil, map-append}
 use Rattle.std.proofs.lemmas.List.Elements.{Contains-push_cases, Contains-append_cases}
 use Rattle.pp_instances.proofs.Kept.{nothing_in}
 use Rattle.pp_prog.specs.Calls.{joined}
-use Rattle.pp_prog.specs.Listing.{Site, plain, division, assertion, precondition, measure, matching, postcondition, as_kind, carried}
+use Rattle.pp_prog.specs.Listing.{Site, plain, division, assertion, precondition, measure, matching, postcondition}
+use Rattle.pp_prog.specs.Listing.{as_kind, carried}
 use Rattle.pp_prog.specs.Valid.{Carries}
 use Rattle.pp_prog.specs.declared.check.CheckKind.{CheckKind}
 use Rattle.pp_prog.specs.declared.expr.Function.{Function}
@@ -30,11 +32,13 @@ abbrev pub numbers_from : ℕ → List CheckAt → List (CheckId × CheckKind)
 numbers_from n [] = []
 numbers_from n (c ∷ cs) = (record { 0 = n }, c.kind) ∷ numbers_from (suc n) cs
 
-numbers_append : (n : ℕ) (a b : List CheckAt) → numbers_from n (a ++ b) ≡ numbers_from n a ++ numbers_from (n + length a) b
+numbers_append : (n : ℕ) (a b : List CheckAt) → numbers_from n (a ++ b) ≡ numbers_from n a ++ numbers_from
+    (n + length a) b
 numbers_append n [] b = let e : n ≡ n + 0 = omega arith in ap (λ k. numbers_from k b) e
 numbers_append n (c ∷ a) b =
     let e : suc n + length a ≡ n + suc (length a) = omega arith in
-    ap (λ l. (record { 0 = n }, c.kind) ∷ l) (numbers_append (suc n) a b ∙ ap (λ k. numbers_from (suc n) a ++ numbers_from k b) e)
+    ap (λ l. (record { 0 = n }, c.kind) ∷ l) (numbers_append (suc n) a b
+    ∙ ap (λ k. numbers_from (suc n) a ++ numbers_from k b) e)
 
 told_append : (s t : List Site) (o p : List Offset) → count s ≡ length o → told (s ++ t) (o ++ p) ≡ told s o ++ told t p
 told_append [] t [] p h = refl
@@ -90,29 +94,37 @@ module _ (types : TypeTable) (fs : List Function) (f : ℕ) where
     carry = λ s h. absurd (nothing_in s h);
   }
 
-  pub lists_append : (s t : List Site) (o p : List Offset) (old mid new : List CheckAt) → Lists s o old mid → Lists t p mid new → Lists (s ++ t) (o ++ p) old new
+  pub lists_append : (s t : List Site) (o p : List Offset) (old mid new : List CheckAt) → Lists s o old mid
+      → Lists t p mid new → Lists (s ++ t) (o ++ p) old new
   lists_append s t o p old mid new a b =
       let behind : length mid ≡ length old + length a.more = ap length a.is ∙ length-append old a.more in
       record {
         more = a.more ++ b.more;
         is = b.is ∙ ap (λ l. l ++ b.more) a.is ∙ append_assoc old a.more b.more;
-        entries = ap joined (map-append carried s t) ∙ joined_append (map carried s) (map carried t) ∙ ap (λ l. l ++ joined (map carried t)) a.entries
-            ∙ ap (λ l. numbers_from (length old) a.more ++ l) (b.entries ∙ ap (λ k. numbers_from k b.more) behind) ∙ sym (numbers_append (length old) a.more b.more);
-        places = told_append s t o p a.even ∙ ap (λ l. l ++ told t p) a.places ∙ ap (λ l. map offset_of a.more ++ l) b.places ∙ sym (map-append offset_of a.more b.more);
-        even = count_append s t ∙ ap (λ n. n + count t) a.even ∙ ap (λ n. length o + n) b.even ∙ sym (length-append o p);
+        entries = ap joined (map-append carried s t) ∙ joined_append (map carried s) (map carried t)
+            ∙ ap (λ l. l ++ joined (map carried t)) a.entries
+            ∙ ap (λ l. numbers_from (length old) a.more ++ l) (b.entries ∙ ap (λ k. numbers_from k b.more) behind)
+            ∙ sym (numbers_append (length old) a.more b.more);
+        places = told_append s t o p a.even ∙ ap (λ l. l ++ told t p) a.places
+            ∙ ap (λ l. map offset_of a.more ++ l) b.places ∙ sym (map-append offset_of a.more b.more);
+        even = count_append s t ∙ ap (λ n. n + count t) a.even ∙ ap (λ n. length o + n) b.even
+            ∙ sym (length-append o p);
         owned = λ c h. ⊎_elim (a.owned c) (b.owned c) (Contains-append_cases a.more b.more c h);
         carry = λ x h. ⊎_elim (a.carry x) (b.carry x) (Contains-append_cases s t x h);
       }
 
-  pub lists_same : (s t : List Site) (o p : List Offset) (old new : List CheckAt) → t ≡ s → p ≡ o → Lists s o old new → Lists t p old new
+  pub lists_same : (s t : List Site) (o p : List Offset) (old new : List CheckAt) → t ≡ s → p ≡ o → Lists s o old new
+      → Lists t p old new
   lists_same s t o p old new e q h = subst (λ l. Lists l p old new) (sym e) (subst (λ l. Lists s l old new) (sym q) h)
 
   only : {A : Type 0} (P : A → Type 0) (x : A) → P x → (y : A) → Contains (x ∷ []) y → P y
   only P x h y c = ⊎_elim (λ no. absurd (nothing_in y no)) (λ e. subst P e h) (Contains-push_cases [] x y c)
 
   -- a site whose check is there where the test holds
-  pub one_if : (site : Site) (k : CheckKind) (b : Bool) (c : CheckAt) (cs : List CheckAt) → c.kind ≡ k → c.function ≡ f → carried site ≡ as_kind k (number_if b cs)
-      → told (site ∷ []) (offset_of c ∷ []) ≡ for_each (carried site) (offset_of c) ++ [] → count (site ∷ []) ≡ 1 → Carries types fs f site
+  pub one_if : (site : Site) (k : CheckKind) (b : Bool) (c : CheckAt) (cs : List CheckAt) → c.kind ≡ k → c.function ≡ f
+      → carried site ≡ as_kind k (number_if b cs)
+      → told (site ∷ []) (offset_of c ∷ []) ≡ for_each (carried site) (offset_of c) ++ [] → count (site ∷ []) ≡ 1
+      → Carries types fs f site
       → Lists (site ∷ []) (offset_of c ∷ []) cs (more_if b c cs)
   one_if site k true c cs is own are at one carry = record {
     more = c ∷ [];

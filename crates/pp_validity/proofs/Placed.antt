@@ -1,5 +1,6 @@
 -- Members, constructors and datatypes stand at their numbers.
-use Rattle.std.proofs.Common.{◌≡◌, ⊎_elim, ℕ, zero, suc, ◌+◌, nat_eq, cond, Bool, true, false, not, List, [], ◌∷◌, ◌++◌, map, take, length, refl, sym, ap, ◌∙◌, arith, eq-eqb}
+use Rattle.std.proofs.Common.{◌≡◌, ⊎_elim, ℕ, zero, suc, ◌+◌, nat_eq, cond, Bool, true, false, not, List, [], ◌∷◌, ◌++◌}
+use Rattle.std.proofs.Common.{map, take, length, refl, sym, ap, ◌∙◌, arith, eq-eqb}
 use Rattle.std.specs.Prelude.{Some, None, slice_get, Contains}
 use Rattle.std.specs.List.{filter, sum_by}
 use Rattle.std.specs.Option.{option_map}
@@ -16,7 +17,8 @@ use Rattle.pp_instances.specs.declared.member.Instance.{Instance}
 use Rattle.pp_instances.specs.declared.member.Member.{Member}
 use Rattle.pp_prog.specs.declared.types.Ctor.{Ctor}
 use Rattle.pp_prog.specs.declared.types.Datatype.{Datatype}
-use Rattle.pp_translation.specs.Numbers.{count_of, ctor_at, ctor_number, ctor_if, ctors, ctors_at, ctors_from, datatypes_from, decl_number, rank_of, stands_for}
+use Rattle.pp_translation.specs.Numbers.{count_of, ctor_at, ctor_number, ctor_if, ctors, ctors_at, ctors_from}
+use Rattle.pp_translation.specs.Numbers.{datatypes_from, decl_number, rank_of, stands_for}
 use Rattle.pp_typed.specs.Sorted.{ctors_of}
 use Rattle.pp_typed.specs.declared.sort.GenericSort.{GenericSort}
 use Rattle.pp_typed.specs.declared.typed.Typed.{Typed}
@@ -28,7 +30,8 @@ not_first k ks m h off =
     (λ (e : k ≡ m). let t : false ≡ true = sym off ∙ ap (same m) e ∙ same_self m in cc) (Contains-push_cases [] k m first))
     (λ (c : Contains ks m). c) (Contains-append_cases (k ∷ []) ks m h)
 
-placed_by : (k : Member) (ks : List Member) (m : Member) (b : Bool) → same m k ≡ b → (b ≡ false → slice_get ks (place_of ks m) ≡ Some m)
+placed_by : (k : Member) (ks : List Member) (m : Member) (b : Bool) → same m k ≡ b
+    → (b ≡ false → slice_get ks (place_of ks m) ≡ Some m)
     → slice_get (k ∷ ks) (cond (not b) (1 + place_of ks m) 0) ≡ Some m
 placed_by k ks m true t later = ap Some (sym (same_is m k t))
 placed_by k ks m false off later = let e : 1 + place_of ks m ≡ suc (place_of ks m) = omega arith in ap (slice_get (k ∷ ks)) e ∙ later refl
@@ -57,7 +60,8 @@ rank_by true y all some x h = h
 rank_by false y all some x h = h
 
 -- what passes a test, at its rank
-pub at_rank : {A : Type 0} (p : A → Bool) (xs : List A) (c : ℕ) (x : A) → slice_get xs c ≡ Some x → p x ≡ true → slice_get (filter p xs) (length (filter p (take c xs))) ≡ Some x
+pub at_rank : {A : Type 0} (p : A → Bool) (xs : List A) (c : ℕ) (x : A) → slice_get xs c ≡ Some x → p x ≡ true
+    → slice_get (filter p xs) (length (filter p (take c xs))) ≡ Some x
 at_rank p [] c x h t = let no : None ≡ Some x = h in cc
 at_rank p (y ∷ xs) zero x h t =
     let same : y ≡ x = some_same h in
@@ -65,7 +69,8 @@ at_rank p (y ∷ xs) zero x h t =
 at_rank p (y ∷ xs) (suc c) x h t = rank_by (p y) y (filter p xs) (filter p (take c xs)) x (at_rank p xs c x h t)
 
 module _ (typed : Typed) (roots : List Member) where
-  at_ctors : (base d : ℕ) (ms : List Member) (m : Member) (n : ℕ) (k : Ctor) → slice_get ms d ≡ Some m → slice_get (ctors_at typed roots (base + d) m) n ≡ Some k
+  at_ctors : (base d : ℕ) (ms : List Member) (m : Member) (n : ℕ) (k : Ctor) → slice_get ms d ≡ Some m
+      → slice_get (ctors_at typed roots (base + d) m) n ≡ Some k
       → slice_get (ctors_from typed roots base ms) (sum_by (count_of typed.ctors) (take d ms) + n) ≡ Some k
   at_ctors base d [] m n k h at = let no : None ≡ Some m = h in cc
   at_ctors base zero (r ∷ rs) m n k h at =
@@ -74,19 +79,23 @@ module _ (typed : Typed) (roots : List Member) where
       let f : base + 0 ≡ base = omega arith in
       ap (slice_get (ctors_from typed roots base (r ∷ rs))) e
       ∙ before (ctors_at typed roots base r) (ctors_from typed roots (suc base) rs) n k
-      (ap (λ z. slice_get (ctors_at typed roots base z) n) same ∙ ap (λ b. slice_get (ctors_at typed roots b m) n) (sym f) ∙ at)
+      (ap (λ z. slice_get (ctors_at typed roots base z) n) same
+      ∙ ap (λ b. slice_get (ctors_at typed roots b m) n) (sym f) ∙ at)
   at_ctors base (suc d) (r ∷ rs) m n k h at =
       let sums : sum_by (count_of typed.ctors) (r ∷ take d rs) ≡ count_of typed.ctors r + sum_by (count_of typed.ctors) (take d rs) = sum_by-cons (count_of typed.ctors) r (take d rs) in
       let many : length (ctors_at typed roots base r) ≡ count_of typed.ctors r = length-map (ctors_of typed.ctors (decl_number r.of)) (ctor_at typed roots base r.args) in
       let S = sum_by (count_of typed.ctors) (take d rs) in
       let e : sum_by (count_of typed.ctors) (r ∷ take d rs) + n ≡ length (ctors_at typed roots base r) + (S + n) = omega arith in
       let f : base + suc d ≡ suc base + d = omega arith in
-      ap (slice_get (ctors_from typed roots base (r ∷ rs))) e ∙ behind (ctors_at typed roots base r) (ctors_from typed roots (suc base) rs) (S + n)
+      ap (slice_get (ctors_from typed roots base (r ∷ rs))) e
+      ∙ behind (ctors_at typed roots base r) (ctors_from typed roots (suc base) rs) (S + n)
       ∙ at_ctors (suc base) d rs m n k h (ap (λ b. slice_get (ctors_at typed roots b m) n) (sym f) ∙ at)
 
   -- the constructor that a constructor is at these arguments
-  pub ctor_found : (c : ℕ) (k : TypedCtor) (args : List GenericSort) → slice_get typed.ctors c ≡ Some k → Contains roots (root_at k.root args)
-      → slice_get (ctors typed roots) (ctor_number typed.ctors roots c args).0 ≡ Some (ctor_at typed roots (place_of roots (root_at k.root args)) args k)
+  pub ctor_found : (c : ℕ) (k : TypedCtor) (args : List GenericSort) → slice_get typed.ctors c ≡ Some k
+      → Contains roots (root_at k.root args)
+      → slice_get (ctors typed roots) (ctor_number typed.ctors roots c args).0 ≡ Some
+      (ctor_at typed roots (place_of roots (root_at k.root args)) args k)
   ctor_found c k args h there =
       let d = place_of roots (root_at k.root args) in
       let here = placed roots (root_at k.root args) there in
@@ -95,14 +104,16 @@ module _ (typed : Typed) (roots : List Member) where
       ap (λ o. slice_get (ctors typed roots) (ctor_if typed.ctors roots c args o).0) h
       ∙ at_ctors 0 d roots (root_at k.root args) (rank_of typed.ctors c k) (ctor_at typed roots d args k) here
       (ap (λ b. slice_get (ctors_at typed roots b (root_at k.root args)) (rank_of typed.ctors c k)) e
-      ∙ slice_get-map (ctor_at typed roots d args) (ctors_of typed.ctors k.root) (rank_of typed.ctors c k) ∙ ap (option_map (ctor_at typed roots d args)) rank)
+      ∙ slice_get-map (ctor_at typed roots d args) (ctors_of typed.ctors k.root) (rank_of typed.ctors c k)
+      ∙ ap (option_map (ctor_at typed roots d args)) rank)
 
 -- the datatype of an instance
 abbrev pub datatype : List TypedCtor → ℕ → Instance → Datatype
 datatype all n i = record { name = i.name; first = record { 0 = n }; count = count_of all (stands_for Root i) }
 
 pub data_found : (all : List TypedCtor) (first d : ℕ) (is : List Instance) (i : Instance) → slice_get is d ≡ Some i
-    → slice_get (datatypes_from all first is) d ≡ Some (datatype all (first + sum_by (count_of all) (map (stands_for Root) (take d is))) i)
+    → slice_get (datatypes_from all first is) d ≡ Some (datatype all
+    (first + sum_by (count_of all) (map (stands_for Root) (take d is))) i)
 data_found all first d [] i h = let no : None ≡ Some i = h in cc
 data_found all first zero (j ∷ is) i h =
     let same : j ≡ i = some_same h in

@@ -1,5 +1,6 @@
 -- The functions of a program have the signatures of their instances, and a precondition and a measure where these have.
-use Rattle.std.proofs.Common.{◌≡◌, ⊎_elim, ℕ, true, List, [], ◌∷◌, ◌++◌, map, length, refl, sym, ap, ◌∙◌, subst, arith, length-append}
+use Rattle.std.proofs.Common.{◌≡◌, ⊎_elim, ℕ, true, List, [], ◌∷◌, ◌++◌, map, length, refl, sym, ap, ◌∙◌, subst, arith}
+use Rattle.std.proofs.Common.{length-append}
 use Rattle.std.specs.Prelude.{Some, is_some, slice_get}
 use Rattle.pp_instances.specs.declared.member.Instance.{Instance}
 use Rattle.pp_prog.specs.Sorts.{param_sorts as sorts_of_params, sort_of_param as sort_of_prog_param}
@@ -35,9 +36,11 @@ one_is_some [] = refl
 one_is_some (x ∷ xs) = refl
 
 module _ (typed : Typed) (set : Setting) (texts : List (List ℕ)) where
-  written_alike : {own : Frame} {es : List TypedExpr} {xs : List Expr} {old new : List CheckAt} → TranslateAll typed set own es xs old new → is_written_prog xs ≡ is_written es
+  written_alike : {own : Frame} {es : List TypedExpr} {xs : List Expr} {old new : List CheckAt}
+      → TranslateAll typed set own es xs old new → is_written_prog xs ≡ is_written es
   written_alike no_exprs = refl
-  written_alike (one_more {es = es} {e = e} {xs = xs} {x = x} earlier t) = written_prog_push xs x ∙ sym (written_push es e)
+  written_alike (one_more {es = es} {e = e} {xs = xs} {x = x} earlier t) = written_prog_push xs x
+      ∙ sym (written_push es e)
 
   -- a function of the program has the signature of its instance
   pub record IsSignature (fs : List Function) (n : ℕ) (i : Instance) (d : TypedDef) : Type 0 where
@@ -48,19 +51,22 @@ module _ (typed : Typed) (set : Setting) (texts : List (List ℕ)) where
     pub pre : is_some g.pre ≡ is_written d.pre
     pub measure : is_written_prog g.measure ≡ is_written d.measure
 
-  signature_of : {own : Frame} {i : Instance} {d : TypedDef} {f : Function} {old new : List CheckAt} (fs : List Function) (n : ℕ) → own.args ≡ i.args
+  signature_of : {own : Frame} {i : Instance} {d : TypedDef} {f : Function} {old new : List CheckAt}
+      (fs : List Function) (n : ℕ) → own.args ≡ i.args
       → TranslatesDef typed set own texts i d f old new → slice_get fs n ≡ Some f → IsSignature fs n i d
   signature_of {own} {i} {d} {f} fs n args t found = record {
     g = f;
     found = found;
-    params = ap sorts_of_params t.params ∙ sym (map_map sort_of_prog_param (param_at set.roots own.args) d.params) ∙ map_map (sort_at set.roots own.args) sort_of_param d.params
+    params = ap sorts_of_params t.params ∙ sym (map_map sort_of_prog_param (param_at set.roots own.args) d.params)
+        ∙ map_map (sort_at set.roots own.args) sort_of_param d.params
         ∙ ap (λ (l : List GenericSort). map (sort_at set.roots l) (param_sorts d.params)) args;
     result = t.result ∙ ap (λ (l : List GenericSort). sort_at set.roots l d.result) args;
     pre = ap is_some t.pre.one ∙ one_is_some t.pre.parts ∙ written_alike t.pre.each;
     measure = written_alike t.measure;
   }
 
-  later : {fs : List Function} {n : ℕ} {i : Instance} {d : TypedDef} (f : Function) → IsSignature fs n i d → IsSignature (fs ++ f ∷ []) n i d
+  later : {fs : List Function} {n : ℕ} {i : Instance} {d : TypedDef} (f : Function) → IsSignature fs n i d
+      → IsSignature (fs ++ f ∷ []) n i d
   later {fs} {n} f s = record {
     g = s.g;
     found = before fs (f ∷ []) n s.g s.found;
@@ -71,12 +77,14 @@ module _ (typed : Typed) (set : Setting) (texts : List (List ℕ)) where
   }
 
   abbrev pub Declared : List Instance → Type 0
-  Declared is = (n : ℕ) (i : Instance) → slice_get is n ≡ Some i → (d : TypedDef) × (slice_get typed.defs i.number ≡ Some d)
+  Declared is = (n : ℕ) (i : Instance) → slice_get is n ≡ Some i → (d : TypedDef)
+      × (slice_get typed.defs i.number ≡ Some d)
 
   declared_before : (is : List Instance) (i : Instance) → Declared (is ++ i ∷ []) → Declared is
   declared_before is i h = λ n j at. h n j (before is (i ∷ []) n j at)
 
-  pub even : {is : List Instance} {fs : List Function} {start cs : List CheckAt} → TranslatesDefs typed set texts is fs start cs → Declared is → length fs ≡ length is
+  pub even : {is : List Instance} {fs : List Function} {start cs : List CheckAt}
+      → TranslatesDefs typed set texts is fs start cs → Declared is → length fs ≡ length is
   even no_defs h = refl
   even (none_more {is = is} i missing earlier) h = let d = h (length is) i (at_last is i) in absurd (none_some (sym missing ∙ d.1))
   even (more_defs {is = is} {i = i} {fs = fs} {f = f} own d number args measured at_def earlier t) h =
@@ -85,11 +93,14 @@ module _ (typed : Typed) (set : Setting) (texts : List (List ℕ)) where
       let q = length-append is (i ∷ []) in
       omega arith
 
-  pub signatures : {is : List Instance} {fs : List Function} {start cs : List CheckAt} → TranslatesDefs typed set texts is fs start cs → Declared is
-      → (n : ℕ) (i : Instance) (d : TypedDef) → slice_get is n ≡ Some i → slice_get typed.defs i.number ≡ Some d → IsSignature fs n i d
+  pub signatures : {is : List Instance} {fs : List Function} {start cs : List CheckAt}
+      → TranslatesDefs typed set texts is fs start cs → Declared is
+      → (n : ℕ) (i : Instance) (d : TypedDef) → slice_get is n ≡ Some i → slice_get typed.defs i.number ≡ Some d
+      → IsSignature fs n i d
   signatures no_defs h n i d at at_def = absurd (none_some at)
   signatures (none_more {is = is} j missing earlier) h n i d at at_def = let e = h (length is) j (at_last is j) in absurd (none_some (sym missing ∙ e.1))
-  signatures (more_defs {is = is} {i = j} {fs = fs} {f = f} own e number args measured j_def earlier t) h n i d at at_def =
+  signatures (more_defs {is = is} {i = j} {fs = fs} {f = f} own e number args measured j_def earlier t) h n i d at
+      at_def =
       let even_here = even earlier (declared_before is j h) in
       ⊎_elim (λ (q : slice_get is n ≡ Some i). later f (signatures earlier (declared_before is j h) n i d q at_def))
       (λ (q : (n ≡ length is) × (j ≡ i)).

@@ -1,7 +1,9 @@
 -- The checks of translated functions stand in the texts where the typed functions do.
-use Rattle.std.proofs.Common.{◌≡◌, ⊎_elim, ℕ, suc, Bool, true, false, not, List, [], ◌∷◌, ◌++◌, map, refl, sym, ap, ◌∙◌, subst, arith}
+use Rattle.std.proofs.Common.{◌≡◌, ⊎_elim, ℕ, suc, Bool, true, false, not, List, [], ◌∷◌, ◌++◌, map, refl, sym, ap, ◌∙◌}
+use Rattle.std.proofs.Common.{subst, arith}
 use Rattle.std.specs.Prelude.{Option, Some, None, All, Contains, slice_get}
-use Rattle.std.proofs.lemmas.List.Elements.{All-contains, Contains-append_cases, Contains-append_left, Contains-append_right, Contains-get_or, Contains-push, Contains-push_cases}
+use Rattle.std.proofs.lemmas.List.Elements.{All-contains, Contains-append_cases, Contains-append_left}
+use Rattle.std.proofs.lemmas.List.Elements.{Contains-append_right, Contains-get_or, Contains-push, Contains-push_cases}
 use Rattle.std.proofs.lemmas.Option.{get_or_from_slice_get, slice_get_within}
 use Rattle.pp_instances.proofs.Kept.{nothing_in}
 use Rattle.pp_instances.specs.declared.member.Instance.{Instance}
@@ -9,17 +11,24 @@ use Rattle.pp_prog.specs.declared.expr.Case.{Case}
 use Rattle.pp_prog.specs.declared.expr.Expr.{Expr}
 use Rattle.pp_prog.specs.declared.expr.Function.{Function}
 use Rattle.pp_prog.specs.declared.id.CheckId.{CheckId}
-use Rattle.pp_translation.specs.Defs.{StandsAt, TranslatesDef, TranslatesDefs, TranslatesPost, no_defs, more_defs, none_more, no_post, one_post}
-use Rattle.pp_translation.specs.Numbered.{Translates, TranslateAll, TranslateGuard, TranslateCase, TranslateCases, after_pre, callee, check_at, descends, has_pre, is_division, more_if, of_int, of_bool, of_local, of_call, of_construct, of_field, of_unary, of_binary, of_if, of_match, of_val, of_assert, no_exprs, one_more, no_guard, one_guard, one_case, no_cases, more_cases}
+use Rattle.pp_translation.specs.Defs.{StandsAt, TranslatesDef, TranslatesDefs, TranslatesPost, no_defs, more_defs}
+use Rattle.pp_translation.specs.Defs.{none_more, no_post, one_post}
+use Rattle.pp_translation.specs.Numbered.{Translates, TranslateAll, TranslateGuard, TranslateCase, TranslateCases}
+use Rattle.pp_translation.specs.Numbered.{after_pre, callee, check_at, descends, has_pre, is_division, more_if, of_int}
+use Rattle.pp_translation.specs.Numbered.{of_bool, of_local, of_call, of_construct, of_field, of_unary, of_binary}
+use Rattle.pp_translation.specs.Numbered.{of_if, of_match, of_val, of_assert, no_exprs, one_more, no_guard, one_guard}
+use Rattle.pp_translation.specs.Numbered.{one_case, no_cases, more_cases}
 use Rattle.pp_prog.specs.declared.check.CheckKind.TheVariants as check
 use Rattle.pp_translation.specs.Setting.{Setting}
 use Rattle.pp_translation.specs.declared.frame.CheckAt.{CheckAt}
 use Rattle.pp_translation.specs.declared.frame.Frame.{Frame}
-use Rattle.pp_typed.specs.Stand.{DefStands, ExprStands, Offset, PostStands, Stands, TypedStands, case_offsets, expr_offsets, joined, kind_offsets, offsets}
+use Rattle.pp_typed.specs.Stand.{DefStands, ExprStands, Offset, PostStands, Stands, TypedStands, case_offsets}
+use Rattle.pp_typed.specs.Stand.{expr_offsets, joined, kind_offsets, offsets}
 use Rattle.pp_typed.specs.declared.expr.TypedCase.{TypedCase}
 use Rattle.pp_typed.specs.declared.expr.TypedExpr.{TypedExpr}
 use Rattle.pp_typed.specs.declared.expr.TypedKind.{TypedKind}
-use Rattle.pp_typed.specs.declared.expr.TypedKind.TheFolds.{fold-TypedCase, fold-TypedKind, fold-roll-TypedKind, fold_out-TypedCase, fold_out-TypedExpr, map-TypedCase}
+use Rattle.pp_typed.specs.declared.expr.TypedKind.TheFolds.{fold-TypedCase, fold-TypedKind, fold-roll-TypedKind}
+use Rattle.pp_typed.specs.declared.expr.TypedKind.TheFolds.{fold_out-TypedCase, fold_out-TypedExpr, map-TypedCase}
 use Rattle.pp_typed.specs.declared.expr.TypedKind.TheOpen as layer
 use Rattle.pp_typed.specs.declared.expr.TypedKind.TheVariants as kind
 use Rattle.pp_typed.specs.declared.expr.TypedKind.TheViews.{out-TypedCase}
@@ -48,7 +57,8 @@ guard_offsets None = []
 guard_offsets (Some g) = offsets g
 
 case_parts : (p : TypedPattern) (g : Option TypedExpr) (b : TypedExpr)
-    → case_offsets (map-TypedCase TypedKind TypedCase TypedExpr Os Os Os in_kind in_case offsets (record { pattern = p; guard = g; body = b }))
+    → case_offsets (map-TypedCase TypedKind TypedCase TypedExpr Os Os Os in_kind in_case offsets
+    (record { pattern = p; guard = g; body = b }))
     ≡ guard_offsets g ++ offsets b
 case_parts p None b = refl
 case_parts p (Some g) b = refl
@@ -123,22 +133,28 @@ module _ (texts : List (List ℕ)) where
           let parts = below e (kind.Call f sorts es) (joined (map offsets es)) is
           (ap in_kind (sym (kind.rolls-Call f sorts es)) ∙ fold-roll-TypedKind Os Os Os kind_offsets case_offsets expr_offsets (layer.Call f sorts es)) st in
           let at : Stands texts (e.source, e.at) = here e st in
-          if_more (descends typed set own f (callee typed set own f sorts)) (check_at typed set own check.Measure e) (after_pre typed set own e f mid)
-          (if_more (has_pre (slice_get typed.defs f)) (check_at typed set own check.Precondition e) mid (stand_all t parts h) at) at
+          if_more (descends typed set own f (callee typed set own f sorts)) (check_at typed set own check.Measure e)
+          (after_pre typed set own e f mid)
+          (if_more (has_pre (slice_get typed.defs f)) (check_at typed set own check.Precondition e) mid
+          (stand_all t parts h) at) at
       stand_expr {e} (of_construct {es = es} c sorts is t) st h =
           stand_all t (below e (kind.Construct c sorts es) (joined (map offsets es)) is
-          (ap in_kind (sym (kind.rolls-Construct c sorts es)) ∙ fold-roll-TypedKind Os Os Os kind_offsets case_offsets expr_offsets (layer.Construct c sorts es)) st) h
+          (ap in_kind (sym (kind.rolls-Construct c sorts es))
+          ∙ fold-roll-TypedKind Os Os Os kind_offsets case_offsets expr_offsets (layer.Construct c sorts es)) st) h
       stand_expr {e} (of_field {base = base} j is t) st h =
           stand_expr t (below e (kind.Field base j) (offsets base) is
-          (ap in_kind (sym (kind.rolls-Field base j)) ∙ fold-roll-TypedKind Os Os Os kind_offsets case_offsets expr_offsets (layer.Field base j)) st) h
+          (ap in_kind (sym (kind.rolls-Field base j)) ∙ fold-roll-TypedKind Os Os Os kind_offsets case_offsets
+          expr_offsets (layer.Field base j)) st) h
       stand_expr {e} (of_unary {a = a} op is t) st h =
           stand_expr t (below e (kind.Unary op a) (offsets a) is
-          (ap in_kind (sym (kind.rolls-Unary op a)) ∙ fold-roll-TypedKind Os Os Os kind_offsets case_offsets expr_offsets (layer.Unary op a)) st) h
+          (ap in_kind (sym (kind.rolls-Unary op a)) ∙ fold-roll-TypedKind Os Os Os kind_offsets case_offsets
+          expr_offsets (layer.Unary op a)) st) h
       stand_expr {e} (of_binary {a = a} {b = b} {new = new} op is ta tb) st h =
           let parts = below e (kind.Binary op a b) (offsets a ++ offsets b) is
           (ap in_kind (sym (kind.rolls-Binary op a b)) ∙ fold-roll-TypedKind Os Os Os kind_offsets case_offsets expr_offsets (layer.Binary op a b)) st in
           if_more (is_division op) (check_at typed set own check.Division e) new
-          (stand_expr tb (right (offsets a) (offsets b) parts) (stand_expr ta (left (offsets a) (offsets b) parts) h)) (here e st)
+          (stand_expr tb (right (offsets a) (offsets b) parts) (stand_expr ta (left (offsets a) (offsets b) parts) h))
+          (here e st)
       stand_expr {e} (of_if {c = c} {a = a} {b = b} is tc ta tb) st h =
           let parts = below e (kind.If c a b) (offsets c ++ offsets a ++ offsets b) is
           (ap in_kind (sym (kind.rolls-If c a b)) ∙ fold-roll-TypedKind Os Os Os kind_offsets case_offsets expr_offsets (layer.If c a b)) st in
@@ -149,7 +165,8 @@ module _ (texts : List (List ℕ)) where
           let parts = below e (kind.Match m cs) (offsets m ++ joined (map in_case cs)) is
           (ap in_kind (sym (kind.rolls-Match m cs)) ∙ fold-roll-TypedKind Os Os Os kind_offsets case_offsets expr_offsets (layer.Match m cs)) st in
           stand_cases t (right (offsets m) (joined (map in_case cs)) parts)
-          (if_more (not covered) (check_at typed set own check.Match e) mid (stand_expr tm (left (offsets m) (joined (map in_case cs)) parts) h) (here e st))
+          (if_more (not covered) (check_at typed set own check.Match e) mid
+          (stand_expr tm (left (offsets m) (joined (map in_case cs)) parts) h) (here e st))
       stand_expr {e} (of_val {bound = a} {rest = b} is ta tb) st h =
           let parts = below e (kind.Val a b) (offsets a ++ offsets b) is
           (ap in_kind (sym (kind.rolls-Val a b)) ∙ fold-roll-TypedKind Os Os Os kind_offsets case_offsets expr_offsets (layer.Val a b)) st in
@@ -158,20 +175,24 @@ module _ (texts : List (List ℕ)) where
           let parts = below e (kind.Assert a b) (offsets a ++ offsets b) is
           (ap in_kind (sym (kind.rolls-Assert a b)) ∙ fold-roll-TypedKind Os Os Os kind_offsets case_offsets expr_offsets (layer.Assert a b)) st in
           stand_expr tb (right (offsets a) (offsets b) parts)
-          (added mid (check_at typed set own check.Assertion e) (stand_expr ta (left (offsets a) (offsets b) parts) h) (here e st))
+          (added mid (check_at typed set own check.Assertion e) (stand_expr ta (left (offsets a) (offsets b) parts) h)
+          (here e st))
 
-      stand_all : {es : List TypedExpr} {xs : List Expr} {old new : List CheckAt} → TranslateAll typed set own es xs old new
+      stand_all : {es : List TypedExpr} {xs : List Expr} {old new : List CheckAt}
+          → TranslateAll typed set own es xs old new
           → Stand (joined (map offsets es)) → StandAll old → StandAll new
       stand_all no_exprs st h = h
       stand_all (one_more {es = es} {e = e} t one) st h =
           let parts = pushed offsets es e st in stand_expr one parts.1 (stand_all t parts.0 h)
 
-      stand_guard : {g : Option TypedExpr} {x : Option Expr} {old new : List CheckAt} → TranslateGuard typed set own g x old new
+      stand_guard : {g : Option TypedExpr} {x : Option Expr} {old new : List CheckAt}
+          → TranslateGuard typed set own g x old new
           → Stand (guard_offsets g) → StandAll old → StandAll new
       stand_guard no_guard st h = h
       stand_guard (one_guard t) st h = stand_expr t st h
 
-      stand_case : {s : GenericSort} {c : TypedCase} {y : Case} {old new : List CheckAt} → TranslateCase typed set own s c y old new
+      stand_case : {s : GenericSort} {c : TypedCase} {y : Case} {old new : List CheckAt}
+          → TranslateCase typed set own s c y old new
           → Stand (in_case c) → StandAll old → StandAll new
       stand_case (one_case c tg tb) st h =
           let parts = subst Stand (of_case c) st in

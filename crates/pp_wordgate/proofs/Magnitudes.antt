@@ -1,5 +1,6 @@
 -- Signs and magnitudes in two's complement, and what the quotients and remainders of magnitudes make of words.
-use Rattle.std.proofs.Common.{◌≡◌, ◌≢◌, ℕ, zero, suc, ◌+◌, ◌-◌, ◌*◌, ◌%◌, ◌^◌, ◌<◌, Bool, true, false, if◌then◌else◌, leb, List, length, refl, sym, ap, ◌∙◌, subst, arith}
+use Rattle.std.proofs.Common.{◌≡◌, ◌≢◌, ℕ, zero, suc, ◌+◌, ◌-◌, ◌*◌, ◌%◌, ◌^◌, ◌<◌, Bool, true, false, if◌then◌else◌}
+use Rattle.std.proofs.Common.{leb, List, length, refl, sym, ap, ◌∙◌, subst, arith}
 use Rattle.std.specs.Int.{Width, w8, w16, w32, w64, w128, cast_signed}
 use Rattle.std.specs.Int.RustNames.{unsigned_abs}
 use Rattle.std.proofs.Math.Nat.{mod-eq_of_lt}
@@ -36,20 +37,28 @@ magnitude_some n v small some = by (leb (2 ^ (n - 1)) v)
     by false = some
     by true = let less : 2 ^ n - v < 2 ^ n = omega arith in subst (λ k. 0 < k) (sym (mod-eq_of_lt less)) (omega arith)
 
-pub divisor_some : (s : ℕ → Bool) (b : List Literal) (n d : ℕ) → n ≡ length b → d ≡ magnitude_of n (nat_of s b) → 0 < nat_of s b → 0 < d
+pub divisor_some : (s : ℕ → Bool) (b : List Literal) (n d : ℕ) → n ≡ length b → d ≡ magnitude_of n (nat_of s b)
+    → 0 < nat_of s b → 0 < d
 divisor_some s b n d same e some =
-    subst (λ k. 0 < k) (sym (e ∙ ap (λ k. magnitude_of k (nat_of s b)) same)) (magnitude_some (length b) (nat_of s b) (nat_of_below s b) some)
+    subst (λ k. 0 < k) (sym (e ∙ ap (λ k. magnitude_of k (nat_of s b)) same))
+    (magnitude_some (length b) (nat_of s b) (nat_of_below s b) some)
 
 pub Divides_same : (m n d e q r : ℕ) → m ≡ n → d ≡ e → Divides m d q r → Divides n e q r
-Divides_same m n d e q r x y h = record { whole = ap (λ k. q * k + r) (sym y) ∙ h.whole ∙ x; below = subst (λ k. r < k) y h.below }
+Divides_same m n d e q r x y h = record {
+  whole = ap (λ k. q * k + r) (sym y) ∙ h.whole
+      ∙ x;
+  below = subst (λ k. r < k) y h.below;
+}
 
 -- ---- at the widths of Rust's integers
 
 -- the top digit is the sign
-top_digit : (w : Width) (s : ℕ → Bool) (a : List Literal) → length a ≡ bits w → leb (2 ^ (length a - 1)) (nat_of s a) ≡ leb (2 ^ hbits w) (nat_of s a)
+top_digit : (w : Width) (s : ℕ → Bool) (a : List Literal) → length a ≡ bits w
+    → leb (2 ^ (length a - 1)) (nat_of s a) ≡ leb (2 ^ hbits w) (nat_of s a)
 top_digit w s a wide = ap (λ k. leb (2 ^ (k - 1)) (nat_of s a)) wide ∙ ap (λ k. leb (2 ^ k) (nat_of s a)) (one_less w)
 
-sign_word : (w : Width) (s : ℕ → Bool) (a : List Literal) (x : Bool) → length a ≡ bits w → x ≡ leb (2 ^ (length a - 1)) (nat_of s a)
+sign_word : (w : Width) (s : ℕ → Bool) (a : List Literal) (x : Bool) → length a ≡ bits w
+    → x ≡ leb (2 ^ (length a - 1)) (nat_of s a)
     → x ≡ is_negative (word_of w s a)
 unfolding word_of
 sign_word w s a x wide e = e ∙ top_digit w s a wide ∙ sym (is_negative-cast_signed w (nat_of s a))
@@ -76,7 +85,8 @@ Divides_words : (w : Width) (s : ℕ → Bool) (a b : List Literal) (q r : ℕ) 
     → Divides (magnitude_of (length a) (nat_of s a)) (magnitude_of (length a) (nat_of s b)) q r
     → Divides (unsigned_abs (word_of w s a)) (unsigned_abs (word_of w s b)) q r
 Divides_words w s a b q r same wide d =
-    Divides_same _ _ _ _ q r (magnitude_word w s a (length a) refl wide) (magnitude_word w s b (length a) same (sym same ∙ wide)) d
+    Divides_same _ _ _ _ q r (magnitude_word w s a (length a) refl wide)
+    (magnitude_word w s b (length a) same (sym same ∙ wide)) d
 
 xor_is_differ : (x y : Bool) → xor_of x y ≡ differ x y
 xor_is_differ true y = refl
@@ -96,7 +106,8 @@ quotient_word w s a b q lq all x y negative rest same wide eq hq ex ey en d e =
     let parts = Divides_words w s a b (nat_of s q) rest same wide d in
     let signs : negative ≡ differ (is_negative n) (is_negative m) =
     en ∙ xor_is_differ x y ∙ (λ i. differ (sign_word w s a x wide ex i) (sign_word w s b y (sym same ∙ wide) ey i)) in
-    quotient_of_bits w n m (nat_of s q) rest (nat_of s all) (IsWord-cast_signed w (nat_of s a) (below_bits w s a wide)) parts.whole parts.below
+    quotient_of_bits w n m (nat_of s q) rest (nat_of s all) (IsWord-cast_signed w (nat_of s a) (below_bits w s a wide))
+    parts.whole parts.below
     (e ∙ (λ i. if signs i then (2 ^ length (eq i) - nat_of s (eq i)) % 2 ^ length (eq i) else nat_of s (eq i))
     ∙ ap (λ k. if differ (is_negative n) (is_negative m) then (2 ^ k - nat_of s q) % 2 ^ k else nat_of s q) (hq ∙ wide))
 
@@ -112,12 +123,14 @@ remainder_word w s a b r lr all negative q same wide er hr en d e =
     let m = cast_signed w (nat_of s b) in
     let parts = Divides_words w s a b q (nat_of s r) same wide d in
     let sign : negative ≡ is_negative n = sign_word w s a negative wide en in
-    remainder_of_bits w n m q (nat_of s r) (nat_of s all) (IsWord-cast_signed w (nat_of s a) (below_bits w s a wide)) (below_bits w s r (hr ∙ wide)) parts.whole parts.below
+    remainder_of_bits w n m q (nat_of s r) (nat_of s all) (IsWord-cast_signed w (nat_of s a) (below_bits w s a wide))
+    (below_bits w s r (hr ∙ wide)) parts.whole parts.below
     (e ∙ (λ i. if sign i then (2 ^ length (er i) - nat_of s (er i)) % 2 ^ length (er i) else nat_of s (er i))
     ∙ ap (λ k. if is_negative n then (2 ^ k - nat_of s r) % 2 ^ k else nat_of s r) (hr ∙ wide))
 
 -- what the code lends of two words, and makes a word of
-pub division_word : (operation : Width → ℤ → ℤ → ℤ) (w : Width) (gs : List Gate) (a b la lb digits r : List Literal) → la ≡ a → lb ≡ b → length a ≡ bits w
+pub division_word : (operation : Width → ℤ → ℤ → ℤ) (w : Width) (gs : List Gate) (a b la lb digits r : List Literal)
+    → la ≡ a → lb ≡ b → length a ≡ bits w
     → r ≡ digits → StandsForDivision operation gs la lb digits
     → (s : ℕ → Bool) → Gives s gs → word_of w s b ≢ pos 0 → word_of w s r ≡ operation w (word_of w s a) (word_of w s b)
 division_word operation w gs a b la lb digits r ea eb wide er stands s gives some =

@@ -1,5 +1,6 @@
 -- What equations on the numbers of words say of the integers that the words stand for.
-use Rattle.std.proofs.Common.{to_z, of_z, ◌≡◌, ◌↔◌, ℕ, ◌+◌, ◌-◌, ◌*◌, ◌/◌, ◌%◌, ◌^◌, ◌<◌, ◌≤◌, ◌==◌, Bool, true, false, if◌then◌else◌, List, length, take, refl, sym, ap, ◌∙◌, subst, arith}
+use Rattle.std.proofs.Common.{to_z, of_z, ◌≡◌, ◌↔◌, ℕ, ◌+◌, ◌-◌, ◌*◌, ◌/◌, ◌%◌, ◌^◌, ◌<◌, ◌≤◌, ◌==◌, Bool, true, false}
+use Rattle.std.proofs.Common.{if◌then◌else◌, List, length, take, refl, sym, ap, ◌∙◌, subst, arith}
 use Rattle.std.specs.Int.{Width, int_shr, cast_signed, cast_unsigned}
 use Rattle.std.proofs.Math.Nat.{mod-eq_of_lt}
 use Rattle.std.specs.Int.RustNames.{FitsSigned, bit_and, bit_or, bit_xor, int_lt}
@@ -7,11 +8,13 @@ use Rattle.std.proofs.lemmas.Int.{to_z-of_z}
 use Rattle.std.proofs.lemmas.Bool.Decides.{nat_tests}
 use Rattle.pp_clause.specs.Literal.{Literal}
 use Rattle.pp_gate.specs.declared.gate.Gate.{Gate}
-use Rattle.pp_word.specs.Word.{shift_distance, word_add, word_sub, word_mul, word_neg, word_and, word_or, word_xor, word_not, word_shl, word_shr, word_ushr, word_less}
+use Rattle.pp_word.specs.Word.{shift_distance, word_add, word_sub, word_mul, word_neg, word_and, word_or, word_xor}
+use Rattle.pp_word.specs.Word.{word_not, word_shl, word_shr, word_ushr, word_less}
 use Rattle.pp_word.proofs.Ranges.{cast_unsigned_below, IsWord-from_fits, fits_from_IsWord, IsWord-cast_signed}
 use Rattle.pp_word.specs.Wrapping.{IsWord}
 use Rattle.pp_wordlaws.proofs.Readings.{same_reading}
-use Rattle.pp_wordlaws.proofs.Sums.{sum_of_bits, difference_of_bits, product_of_bits, negative_of_bits, complement_of_bits}
+use Rattle.pp_wordlaws.proofs.Sums.{sum_of_bits, difference_of_bits, product_of_bits, negative_of_bits}
+use Rattle.pp_wordlaws.proofs.Sums.{complement_of_bits}
 use Rattle.pp_wordlaws.proofs.Moves.{left_of_bits, unsigned_right_of_bits, distance_of_bits}
 use Rattle.pp_wordlaws.proofs.Digits.{and_of_bits, or_of_bits, xor_of_bits}
 use Rattle.pp_gate.specs.Circuit.{Gives}
@@ -29,52 +32,69 @@ pub below_bits : (w : Width) (s : ℕ → Bool) (a : List Literal) → length a 
 below_bits w s a len = subst (λ n. nat_of s a < 2 ^ n) len (nat_of_below s a)
 
 -- what the code lends of a word, and makes of it
-on_words : (w : Width) (s : ℕ → Bool) (f : ℕ → ℕ → ℕ → ℕ) (a b la lb r : List Literal) → la ≡ a → lb ≡ b → length a ≡ bits w
+on_words : (w : Width) (s : ℕ → Bool) (f : ℕ → ℕ → ℕ → ℕ) (a b la lb r : List Literal) → la ≡ a → lb ≡ b
+    → length a ≡ bits w
     → nat_of s r ≡ f (length la) (nat_of s la) (nat_of s lb) → nat_of s r ≡ f (bits w) (nat_of s a) (nat_of s b)
 on_words w s f a b la lb r ea eb ha e =
     e ∙ (λ i. f (length (ea i)) (nat_of s (ea i)) (nat_of s (eb i))) ∙ ap (λ n. f n (nat_of s a) (nat_of s b)) ha
 
-pub sum_word : (w : Width) (s : ℕ → Bool) (a b la lb r : List Literal) → la ≡ a → lb ≡ b → length a ≡ bits w → length b ≡ bits w
-    → nat_of s r ≡ (nat_of s la + nat_of s lb) % 2 ^ length la → word_of w s r ≡ word_add w (word_of w s a) (word_of w s b)
+pub sum_word : (w : Width) (s : ℕ → Bool) (a b la lb r : List Literal) → la ≡ a → lb ≡ b → length a ≡ bits w
+    → length b ≡ bits w
+    → nat_of s r ≡ (nat_of s la + nat_of s lb) % 2 ^ length la
+    → word_of w s r ≡ word_add w (word_of w s a) (word_of w s b)
 unfolding word_of
 sum_word w s a b la lb r ea eb ha hb e =
-    sum_of_bits w (nat_of s a) (nat_of s b) (nat_of s r) (below_bits w s a ha) (below_bits w s b hb) (on_words w s (λ n x y. (x + y) % 2 ^ n) a b la lb r ea eb ha e)
+    sum_of_bits w (nat_of s a) (nat_of s b) (nat_of s r) (below_bits w s a ha) (below_bits w s b hb)
+    (on_words w s (λ n x y. (x + y) % 2 ^ n) a b la lb r ea eb ha e)
 
-pub difference_word : (w : Width) (s : ℕ → Bool) (a b la lb r : List Literal) → la ≡ a → lb ≡ b → length a ≡ bits w → length b ≡ bits w
-    → nat_of s r ≡ (nat_of s la + (2 ^ length la - nat_of s lb)) % 2 ^ length la → word_of w s r ≡ word_sub w (word_of w s a) (word_of w s b)
+pub difference_word : (w : Width) (s : ℕ → Bool) (a b la lb r : List Literal) → la ≡ a → lb ≡ b → length a ≡ bits w
+    → length b ≡ bits w
+    → nat_of s r ≡ (nat_of s la + (2 ^ length la - nat_of s lb)) % 2 ^ length la
+    → word_of w s r ≡ word_sub w (word_of w s a) (word_of w s b)
 unfolding word_of
 difference_word w s a b la lb r ea eb ha hb e =
-    difference_of_bits w (nat_of s a) (nat_of s b) (nat_of s r) (below_bits w s a ha) (below_bits w s b hb) (on_words w s (λ n x y. (x + (2 ^ n - y)) % 2 ^ n) a b la lb r ea eb ha e)
+    difference_of_bits w (nat_of s a) (nat_of s b) (nat_of s r) (below_bits w s a ha) (below_bits w s b hb)
+    (on_words w s (λ n x y. (x + (2 ^ n - y)) % 2 ^ n) a b la lb r ea eb ha e)
 
-pub product_word : (w : Width) (s : ℕ → Bool) (a b la lb r : List Literal) → la ≡ a → lb ≡ b → length a ≡ bits w → length b ≡ bits w
-    → nat_of s r ≡ (nat_of s la * nat_of s lb) % 2 ^ length la → word_of w s r ≡ word_mul w (word_of w s a) (word_of w s b)
+pub product_word : (w : Width) (s : ℕ → Bool) (a b la lb r : List Literal) → la ≡ a → lb ≡ b → length a ≡ bits w
+    → length b ≡ bits w
+    → nat_of s r ≡ (nat_of s la * nat_of s lb) % 2 ^ length la
+    → word_of w s r ≡ word_mul w (word_of w s a) (word_of w s b)
 unfolding word_of
 product_word w s a b la lb r ea eb ha hb e =
-    product_of_bits w (nat_of s a) (nat_of s b) (nat_of s r) (below_bits w s a ha) (below_bits w s b hb) (on_words w s (λ n x y. (x * y) % 2 ^ n) a b la lb r ea eb ha e)
+    product_of_bits w (nat_of s a) (nat_of s b) (nat_of s r) (below_bits w s a ha) (below_bits w s b hb)
+    (on_words w s (λ n x y. (x * y) % 2 ^ n) a b la lb r ea eb ha e)
 
-pub and_word : (w : Width) (s : ℕ → Bool) (a b la lb r : List Literal) → la ≡ a → lb ≡ b → length a ≡ bits w → length b ≡ bits w
+pub and_word : (w : Width) (s : ℕ → Bool) (a b la lb r : List Literal) → la ≡ a → lb ≡ b → length a ≡ bits w
+    → length b ≡ bits w
     → nat_of s r ≡ bit_and (nat_of s la) (nat_of s lb) → word_of w s r ≡ word_and w (word_of w s a) (word_of w s b)
 unfolding word_of
 and_word w s a b la lb r ea eb ha hb e =
-    and_of_bits w (nat_of s a) (nat_of s b) (nat_of s r) (below_bits w s a ha) (below_bits w s b hb) (on_words w s (λ n x y. bit_and x y) a b la lb r ea eb ha e)
+    and_of_bits w (nat_of s a) (nat_of s b) (nat_of s r) (below_bits w s a ha) (below_bits w s b hb)
+    (on_words w s (λ n x y. bit_and x y) a b la lb r ea eb ha e)
 
-pub or_word : (w : Width) (s : ℕ → Bool) (a b la lb r : List Literal) → la ≡ a → lb ≡ b → length a ≡ bits w → length b ≡ bits w
+pub or_word : (w : Width) (s : ℕ → Bool) (a b la lb r : List Literal) → la ≡ a → lb ≡ b → length a ≡ bits w
+    → length b ≡ bits w
     → nat_of s r ≡ bit_or (nat_of s la) (nat_of s lb) → word_of w s r ≡ word_or w (word_of w s a) (word_of w s b)
 unfolding word_of
 or_word w s a b la lb r ea eb ha hb e =
-    or_of_bits w (nat_of s a) (nat_of s b) (nat_of s r) (below_bits w s a ha) (below_bits w s b hb) (on_words w s (λ n x y. bit_or x y) a b la lb r ea eb ha e)
+    or_of_bits w (nat_of s a) (nat_of s b) (nat_of s r) (below_bits w s a ha) (below_bits w s b hb)
+    (on_words w s (λ n x y. bit_or x y) a b la lb r ea eb ha e)
 
-pub xor_word : (w : Width) (s : ℕ → Bool) (a b la lb r : List Literal) → la ≡ a → lb ≡ b → length a ≡ bits w → length b ≡ bits w
+pub xor_word : (w : Width) (s : ℕ → Bool) (a b la lb r : List Literal) → la ≡ a → lb ≡ b → length a ≡ bits w
+    → length b ≡ bits w
     → nat_of s r ≡ bit_xor (nat_of s la) (nat_of s lb) → word_of w s r ≡ word_xor w (word_of w s a) (word_of w s b)
 unfolding word_of
 xor_word w s a b la lb r ea eb ha hb e =
-    xor_of_bits w (nat_of s a) (nat_of s b) (nat_of s r) (below_bits w s a ha) (below_bits w s b hb) (on_words w s (λ n x y. bit_xor x y) a b la lb r ea eb ha e)
+    xor_of_bits w (nat_of s a) (nat_of s b) (nat_of s r) (below_bits w s a ha) (below_bits w s b hb)
+    (on_words w s (λ n x y. bit_xor x y) a b la lb r ea eb ha e)
 
 pub negative_word : (w : Width) (s : ℕ → Bool) (a la r : List Literal) → la ≡ a → length a ≡ bits w
     → nat_of s r ≡ (2 ^ length la - nat_of s la) % 2 ^ length la → word_of w s r ≡ word_neg w (word_of w s a)
 unfolding word_of
 negative_word w s a la r ea ha e =
-    negative_of_bits w (nat_of s a) (nat_of s r) (below_bits w s a ha) (on_words w s (λ n x y. (2 ^ n - x) % 2 ^ n) a a la la r ea ea ha e)
+    negative_of_bits w (nat_of s a) (nat_of s r) (below_bits w s a ha)
+    (on_words w s (λ n x y. (2 ^ n - x) % 2 ^ n) a a la la r ea ea ha e)
 
 pub complement_word : (w : Width) (s : ℕ → Bool) (a la r : List Literal) → la ≡ a → length a ≡ bits w
     → nat_of s r ≡ 2 ^ length la - 1 - nat_of s la → word_of w s r ≡ word_not w (word_of w s a)
@@ -87,13 +107,17 @@ complement_word w s a la r ea ha e =
 -- ---- comparisons, constants, choices
 
 -- the integer in two's complement is that of the word
-pub signed_word : (w : Width) (s : ℕ → Bool) (a la : List Literal) → la ≡ a → length a ≡ bits w → signed_of (length la) (nat_of s la) ≡ word_of w s a
+pub signed_word : (w : Width) (s : ℕ → Bool) (a la : List Literal) → la ≡ a → length a ≡ bits w
+    → signed_of (length la) (nat_of s la) ≡ word_of w s a
 unfolding word_of
 signed_word w s a la ea ha =
-    (λ i. signed_of (length (ea i)) (nat_of s (ea i))) ∙ ap (λ n. signed_of n (nat_of s a)) ha ∙ signed_by_cast w (nat_of s a) (below_bits w s a ha)
+    (λ i. signed_of (length (ea i)) (nat_of s (ea i))) ∙ ap (λ n. signed_of n (nat_of s a)) ha
+    ∙ signed_by_cast w (nat_of s a) (below_bits w s a ha)
 
-pub less_word : (w : Width) (s : ℕ → Bool) (a b la lb : List Literal) (r : Bool) → la ≡ a → lb ≡ b → length a ≡ bits w → length b ≡ bits w
-    → r ≡ int_lt (signed_of (length la) (nat_of s la)) (signed_of (length la) (nat_of s lb)) → r ≡ word_less (word_of w s a) (word_of w s b)
+pub less_word : (w : Width) (s : ℕ → Bool) (a b la lb : List Literal) (r : Bool) → la ≡ a → lb ≡ b → length a ≡ bits w
+    → length b ≡ bits w
+    → r ≡ int_lt (signed_of (length la) (nat_of s la)) (signed_of (length la) (nat_of s lb))
+    → r ≡ word_less (word_of w s a) (word_of w s b)
 less_word w s a b la lb r ea eb ha hb e =
     let wide : length la ≡ length lb = ap length ea ∙ ha ∙ sym (ap length eb ∙ hb) in
     e ∙ ap (λ n. int_lt (signed_of (length la) (nat_of s la)) (signed_of n (nat_of s lb))) wide
@@ -105,17 +129,20 @@ same_number m n h = grind (arith, nat_tests)
 same_test : (m n : ℕ) → m ≡ n → (m == n) ≡ true
 same_test m n h = grind (arith, nat_tests)
 
-pub equal_word : (w : Width) (s : ℕ → Bool) (a b la lb : List Literal) (r : Bool) → la ≡ a → lb ≡ b → length a ≡ bits w → length b ≡ bits w
+pub equal_word : (w : Width) (s : ℕ → Bool) (a b la lb : List Literal) (r : Bool) → la ≡ a → lb ≡ b → length a ≡ bits w
+    → length b ≡ bits w
     → r ≡ (nat_of s la == nat_of s lb) → (r ≡ true) ↔ (word_of w s a ≡ word_of w s b)
 unfolding word_of
 equal_word w s a b la lb r ea eb ha hb e =
     let is : r ≡ (nat_of s a == nat_of s b) = e ∙ (λ i. nat_of s (ea i) == nat_of s (eb i)) in (
       λ h. ap (cast_signed w) (same_number (nat_of s a) (nat_of s b) (sym is ∙ h)),
-      λ h. is ∙ same_test (nat_of s a) (nat_of s b) (same_reading w (nat_of s a) (nat_of s b) (below_bits w s a ha) (below_bits w s b hb) h),
+      λ h. is ∙ same_test (nat_of s a) (nat_of s b) (same_reading w (nat_of s a) (nat_of s b) (below_bits w s a ha)
+          (below_bits w s b hb) h),
     )
 
 pub chosen_word : (w : Width) (s : ℕ → Bool) (a b la lb r : List Literal) (choice : Bool) → la ≡ a → lb ≡ b
-    → nat_of s r ≡ (if choice then nat_of s la else nat_of s lb) → word_of w s r ≡ (if choice then word_of w s a else word_of w s b)
+    → nat_of s r ≡ (if choice then nat_of s la else nat_of s lb)
+    → word_of w s r ≡ (if choice then word_of w s a else word_of w s b)
 unfolding word_of
 chosen_word w s a b la lb r true ea eb e = ap (cast_signed w) (e ∙ ap (nat_of s) ea)
 chosen_word w s a b la lb r false ea eb e = ap (cast_signed w) (e ∙ ap (nat_of s) eb)
@@ -129,27 +156,35 @@ constant_word w s r v n f small is e =
 
 -- ---- shifts, by the number of the lowest k literals of a word as long or shorter, where there are 2^k places
 
-pub distance_word : (w v : Width) (s : ℕ → Bool) (k : ℕ) (b lb d : List Literal) → 2 ^ k ≡ bits w → k ≤ bits v → bits v ≤ bits w → lb ≡ b → length b ≡ bits v
+pub distance_word : (w v : Width) (s : ℕ → Bool) (k : ℕ) (b lb d : List Literal) → 2 ^ k ≡ bits w → k ≤ bits v
+    → bits v ≤ bits w → lb ≡ b → length b ≡ bits v
     → d ≡ take k lb → shift_distance w (word_of v s b) ≡ nat_of s d
 unfolding word_of
 distance_word w v s k b lb d places some shorter eb hb e =
     distance_of_bits w v k (nat_of s b) (nat_of s d) places some shorter (below_bits v s b hb)
-    (ap (nat_of s) (e ∙ ap (take k) eb) ∙ nat_of_take s k b (subst (λ n. k ≤ n) (sym hb) some) ∙ ap (λ n. nat_of s b % n) places)
+    (ap (nat_of s) (e ∙ ap (take k) eb) ∙ nat_of_take s k b (subst (λ n. k ≤ n) (sym hb) some)
+    ∙ ap (λ n. nat_of s b % n) places)
 
-pub left_word : (w : Width) (s : ℕ → Bool) (a la d r : List Literal) (z : ℤ) → la ≡ a → length a ≡ bits w → shift_distance w z ≡ nat_of s d
+pub left_word : (w : Width) (s : ℕ → Bool) (a la d r : List Literal) (z : ℤ) → la ≡ a → length a ≡ bits w
+    → shift_distance w z ≡ nat_of s d
     → nat_of s r ≡ (nat_of s la * 2 ^ nat_of s d) % 2 ^ length la → word_of w s r ≡ word_shl w (word_of w s a) z
 unfolding word_of
 left_word w s a la d r z ea ha far e =
-    left_of_bits w (nat_of s a) (nat_of s d) (nat_of s r) z (below_bits w s a ha) far (on_words w s (λ n x i. (x * 2 ^ i) % 2 ^ n) a d la d r ea refl ha e)
+    left_of_bits w (nat_of s a) (nat_of s d) (nat_of s r) z (below_bits w s a ha) far
+    (on_words w s (λ n x i. (x * 2 ^ i) % 2 ^ n) a d la d r ea refl ha e)
 
-pub unsigned_right_word : (w : Width) (s : ℕ → Bool) (a la d r : List Literal) (z : ℤ) → la ≡ a → length a ≡ bits w → shift_distance w z ≡ nat_of s d
+pub unsigned_right_word : (w : Width) (s : ℕ → Bool) (a la d r : List Literal) (z : ℤ) → la ≡ a → length a ≡ bits w
+    → shift_distance w z ≡ nat_of s d
     → nat_of s r ≡ nat_of s la / 2 ^ nat_of s d → word_of w s r ≡ word_ushr w (word_of w s a) z
 unfolding word_of
 unsigned_right_word w s a la d r z ea ha far e =
-    unsigned_right_of_bits w (nat_of s a) (nat_of s d) (nat_of s r) z (below_bits w s a ha) far (on_words w s (λ n x i. x / 2 ^ i) a d la d r ea refl ha e)
+    unsigned_right_of_bits w (nat_of s a) (nat_of s d) (nat_of s r) z (below_bits w s a ha) far
+    (on_words w s (λ n x i. x / 2 ^ i) a d la d r ea refl ha e)
 
-pub right_word : (w : Width) (s : ℕ → Bool) (a la d r : List Literal) (z : ℤ) → la ≡ a → length a ≡ bits w → shift_distance w z ≡ nat_of s d
-    → length r ≡ length la → signed_of (length la) (nat_of s r) ≡ int_shr (signed_of (length la) (nat_of s la)) (nat_of s d)
+pub right_word : (w : Width) (s : ℕ → Bool) (a la d r : List Literal) (z : ℤ) → la ≡ a → length a ≡ bits w
+    → shift_distance w z ≡ nat_of s d
+    → length r ≡ length la → signed_of (length la) (nat_of s r) ≡ int_shr (signed_of (length la) (nat_of s la))
+    (nat_of s d)
     → word_of w s r ≡ word_shr w (word_of w s a) z
 unfolding word_of word_shr
 right_word w s a la d r z ea ha far len e =
@@ -160,12 +195,15 @@ right_word w s a la d r z ea ha far len e =
 
 -- ---- words that a call answers
 
-pub same_word : (w : Width) (gs : List Gate) (digits r : List Literal) (meaning : (ℕ → Bool) → ℤ) → r ≡ digits → StandsForWord w gs digits meaning → StandsForWord w gs r meaning
+pub same_word : (w : Width) (gs : List Gate) (digits r : List Literal) (meaning : (ℕ → Bool) → ℤ) → r ≡ digits
+    → StandsForWord w gs digits meaning → StandsForWord w gs r meaning
 same_word w gs digits r meaning e h = subst (λ ls. StandsForWord w gs ls meaning) (sym e) h
 
 -- the digits that were made, as a word
-pub from_digits : (w : Width) (gs : List Gate) (n : ℕ) (digits r : List Literal) (number : (ℕ → Bool) → ℕ) (meaning : (ℕ → Bool) → ℤ) → r ≡ digits → n ≡ bits w
-    → StandsForNumber gs n digits number → ((s : ℕ → Bool) → nat_of s digits ≡ number s → word_of w s digits ≡ meaning s) → StandsForWord w gs r meaning
+pub from_digits : (w : Width) (gs : List Gate) (n : ℕ) (digits r : List Literal) (number : (ℕ → Bool) → ℕ)
+    (meaning : (ℕ → Bool) → ℤ) → r ≡ digits → n ≡ bits w
+    → StandsForNumber gs n digits number → ((s : ℕ → Bool) → nat_of s digits ≡ number s
+    → word_of w s digits ≡ meaning s) → StandsForWord w gs r meaning
 from_digits w gs n digits r number meaning e wide stands means = same_word w gs digits r meaning e (record {
   len = stands.len ∙ wide;
   of = stands.of;
@@ -189,10 +227,12 @@ chosen_word_of w old new digits r n e wide chosen s gives v fits =
       value = ap (λ l. cast_signed w (nat_of c.assignment l)) e ∙ ap (cast_signed w) c.number ∙ to_z-of_z w v fits;
     }
 
-pub value_of_word : (w : Width) (s : ℕ → Bool) (a la : List Literal) (n : ℕ) (v : ℤ) → la ≡ a → length a ≡ bits w → n ≡ nat_of s la → v ≡ cast_signed w n
+pub value_of_word : (w : Width) (s : ℕ → Bool) (a la : List Literal) (n : ℕ) (v : ℤ) → la ≡ a → length a ≡ bits w
+    → n ≡ nat_of s la → v ≡ cast_signed w n
     → to_z w (of_z w v) ≡ word_of w s a
 unfolding word_of
 value_of_word w s a la n v e wide f g =
     let same : n ≡ nat_of s a = f ∙ ap (nat_of s) e in
     let small : n < 2 ^ bits w = subst (λ k. k < 2 ^ bits w) (sym same) (below_bits w s a wide) in
-    to_z-of_z w v (fits_from_IsWord w v (subst (IsWord w) (sym g) (IsWord-cast_signed w n small))) ∙ g ∙ ap (cast_signed w) same
+    to_z-of_z w v (fits_from_IsWord w v (subst (IsWord w) (sym g) (IsWord-cast_signed w n small))) ∙ g
+    ∙ ap (cast_signed w) same

@@ -1,6 +1,7 @@
 -- The integers that words stand for, where an assignment `s` gives each variable a truth value: the literals are the bits in
 -- two's complement, the lowest first, as many as the width has. (own; JLS 4.2)
-use Rattle.std.specs.Prelude.{◌≡◌, ◌≢◌, ℕ, ◌+◌, ◌-◌, ◌*◌, ◌%◌, ◌^◌, Bool, if◌then◌else◌, nat_le, List, All, length, ℤ, pos}
+use Rattle.std.specs.Prelude.{◌≡◌, ◌≢◌, ℕ, ◌+◌, ◌-◌, ◌*◌, ◌%◌, ◌^◌, Bool, if◌then◌else◌, nat_le, List, All, length, ℤ}
+use Rattle.std.specs.Prelude.{pos}
 use Rattle.std.specs.Int.{Width, cast_signed}
 use Rattle.pp_clause.specs.Literal.{Literal}
 use Rattle.pp_gate.specs.declared.gate.Gate.{Gate}

@@ -18,7 +18,8 @@ pub fn and(circuit: &mut Circuit, a: Word, b: Word) -> Result<Word, NoMemory>
     requires left { All (IsOf circuit.old) a }
     requires right { All (IsOf circuit.old) b }
     ensures adds { AddsGates circuit.old circuit.new 64 }
-    ensures stands { IfOk result (λ r. StandsForWord w32 circuit.new r (λ s. word_and w32 (word_of w32 s a) (word_of w32 s b))) }
+    ensures stands { IfOk result (λ r. StandsForWord w32 circuit.new r
+        (λ s. word_and w32 (word_of w32 s a) (word_of w32 s b))) }
 {
     let digits = pp_bits::and(circuit, a.lits(), b.lits())?;
     Ok(Word::from_lits(&digits))
@@ -32,7 +33,8 @@ pub fn or(circuit: &mut Circuit, a: Word, b: Word) -> Result<Word, NoMemory>
     requires left { All (IsOf circuit.old) a }
     requires right { All (IsOf circuit.old) b }
     ensures adds { AddsGates circuit.old circuit.new 64 }
-    ensures stands { IfOk result (λ r. StandsForWord w32 circuit.new r (λ s. word_or w32 (word_of w32 s a) (word_of w32 s b))) }
+    ensures stands { IfOk result (λ r. StandsForWord w32 circuit.new r
+        (λ s. word_or w32 (word_of w32 s a) (word_of w32 s b))) }
 {
     let digits = pp_bits::or(circuit, a.lits(), b.lits())?;
     Ok(Word::from_lits(&digits))
@@ -46,7 +48,8 @@ pub fn xor(circuit: &mut Circuit, a: Word, b: Word) -> Result<Word, NoMemory>
     requires left { All (IsOf circuit.old) a }
     requires right { All (IsOf circuit.old) b }
     ensures adds { AddsGates circuit.old circuit.new 64 }
-    ensures stands { IfOk result (λ r. StandsForWord w32 circuit.new r (λ s. word_xor w32 (word_of w32 s a) (word_of w32 s b))) }
+    ensures stands { IfOk result (λ r. StandsForWord w32 circuit.new r
+        (λ s. word_xor w32 (word_of w32 s a) (word_of w32 s b))) }
 {
     let digits = pp_bits::xor(circuit, a.lits(), b.lits())?;
     Ok(Word::from_lits(&digits))

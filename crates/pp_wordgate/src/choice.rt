@@ -32,7 +32,8 @@ pub fn choose(circuit: &mut Circuit, choice: Lit, a: Word, b: Word) -> Result<Wo
     requires left { All (IsOf circuit.old) a }
     requires right { All (IsOf circuit.old) b }
     ensures adds { AddsGates circuit.old circuit.new 32 }
-    ensures stands { IfOk result (λ r. StandsForWord w32 circuit.new r (λ s. if lit_value s choice then word_of w32 s a else word_of w32 s b)) }
+    ensures stands { IfOk result (λ r. StandsForWord w32 circuit.new r
+        (λ s. if lit_value s choice then word_of w32 s a else word_of w32 s b)) }
 {
     let digits = pp_bits::choose(circuit, choice, a.lits(), b.lits())?;
     Ok(Word::from_lits(&digits))

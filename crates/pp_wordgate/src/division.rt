@@ -21,7 +21,8 @@ pub fn div(circuit: &mut Circuit, a: Word, b: Word) -> Result<Word, NoMemory>
     requires right { All (IsOf circuit.old) b }
     ensures adds { AddsGates circuit.old circuit.new 16384 }
     ensures of { IfOk result (λ r. All (IsOf circuit.new) r) }
-    ensures value { IfOk result (λ r. (s : ℕ → Bool) → Gives s circuit.new → word_of w32 s b ≢ pos 0 → word_of w32 s r ≡ word_div w32 (word_of w32 s a) (word_of w32 s b)) }
+    ensures value { IfOk result (λ r. (s : ℕ → Bool) → Gives s circuit.new → word_of w32 s b ≢ pos 0 → word_of w32 s r
+        ≡ word_div w32 (word_of w32 s a) (word_of w32 s b)) }
 {
     let digits = quotient(circuit, a.lits(), b.lits())?;
     Ok(Word::from_lits(&digits))
@@ -37,7 +38,8 @@ pub fn rem(circuit: &mut Circuit, a: Word, b: Word) -> Result<Word, NoMemory>
     requires right { All (IsOf circuit.old) b }
     ensures adds { AddsGates circuit.old circuit.new 16384 }
     ensures of { IfOk result (λ r. All (IsOf circuit.new) r) }
-    ensures value { IfOk result (λ r. (s : ℕ → Bool) → Gives s circuit.new → word_of w32 s b ≢ pos 0 → word_of w32 s r ≡ word_rem w32 (word_of w32 s a) (word_of w32 s b)) }
+    ensures value { IfOk result (λ r. (s : ℕ → Bool) → Gives s circuit.new → word_of w32 s b ≢ pos 0 → word_of w32 s r
+        ≡ word_rem w32 (word_of w32 s a) (word_of w32 s b)) }
 {
     let digits = remainder(circuit, a.lits(), b.lits())?;
     Ok(Word::from_lits(&digits))

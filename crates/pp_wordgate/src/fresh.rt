@@ -21,7 +21,8 @@ pub fn unknown(circuit: &mut Circuit) -> Result<Word, NoMemory>
     ensures grows { Grows circuit.old circuit.new 32 }
     ensures circuit { IsCircuit circuit.new }
     ensures inputs { IfOk result (λ r. AreInputs circuit.old circuit.new 32 r) }
-    ensures chosen { IfOk result (λ r. (s : ℕ → Bool) → Gives s circuit.old → (v : ℤ) → FitsSigned w32 v → ChosenWord w32 circuit.old circuit.new s r v) }
+    ensures chosen { IfOk result (λ r. (s : ℕ → Bool) → Gives s circuit.old → (v : ℤ) → FitsSigned w32 v
+        → ChosenWord w32 circuit.old circuit.new s r v) }
 {
     let digits = pp_bits::inputs(circuit, 32)?;
     Ok(Word::from_lits(&digits))

@@ -21,7 +21,8 @@ pub fn equal(circuit: &mut Circuit, a: Word, b: Word) -> Result<Lit, NoMemory>
     requires right { All (IsOf circuit.old) b }
     ensures adds { AddsGates circuit.old circuit.new 64 }
     ensures of { IfOk result (λ r. IsOf circuit.new r) }
-    ensures value { IfOk result (λ r. (s : ℕ → Bool) → Gives s circuit.new → (lit_value s r ≡ true) ↔ (word_of w32 s a ≡ word_of w32 s b)) }
+    ensures value { IfOk result (λ r. (s : ℕ → Bool) → Gives s circuit.new
+        → (lit_value s r ≡ true) ↔ (word_of w32 s a ≡ word_of w32 s b)) }
 {
     let equal = pp_bits::equal(circuit, a.lits(), b.lits())?;
     Ok(equal)

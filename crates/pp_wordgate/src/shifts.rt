@@ -21,7 +21,8 @@ pub fn shl(circuit: &mut Circuit, a: Word, b: Word) -> Result<Word, NoMemory>
     requires left { All (IsOf circuit.old) a }
     requires right { All (IsOf circuit.old) b }
     ensures adds { AddsGates circuit.old circuit.new 512 }
-    ensures stands { IfOk result (λ r. StandsForWord w32 circuit.new r (λ s. word_shl w32 (word_of w32 s a) (word_of w32 s b))) }
+    ensures stands { IfOk result (λ r. StandsForWord w32 circuit.new r
+        (λ s. word_shl w32 (word_of w32 s a) (word_of w32 s b))) }
 {
     let distance = &b.lits()[..DISTANCE_BITS];
     let digits = pp_shifts::shl(circuit, a.lits(), distance)?;
@@ -37,7 +38,8 @@ pub fn shr(circuit: &mut Circuit, a: Word, b: Word) -> Result<Word, NoMemory>
     requires left { All (IsOf circuit.old) a }
     requires right { All (IsOf circuit.old) b }
     ensures adds { AddsGates circuit.old circuit.new 512 }
-    ensures stands { IfOk result (λ r. StandsForWord w32 circuit.new r (λ s. word_shr w32 (word_of w32 s a) (word_of w32 s b))) }
+    ensures stands { IfOk result (λ r. StandsForWord w32 circuit.new r
+        (λ s. word_shr w32 (word_of w32 s a) (word_of w32 s b))) }
 {
     let distance = &b.lits()[..DISTANCE_BITS];
     let digits = pp_shifts::shr(circuit, a.lits(), distance)?;
@@ -53,7 +55,8 @@ pub fn ushr(circuit: &mut Circuit, a: Word, b: Word) -> Result<Word, NoMemory>
     requires left { All (IsOf circuit.old) a }
     requires right { All (IsOf circuit.old) b }
     ensures adds { AddsGates circuit.old circuit.new 512 }
-    ensures stands { IfOk result (λ r. StandsForWord w32 circuit.new r (λ s. word_ushr w32 (word_of w32 s a) (word_of w32 s b))) }
+    ensures stands { IfOk result (λ r. StandsForWord w32 circuit.new r
+        (λ s. word_ushr w32 (word_of w32 s a) (word_of w32 s b))) }
 {
     let distance = &b.lits()[..DISTANCE_BITS];
     let digits = pp_shifts::ushr(circuit, a.lits(), distance)?;

@@ -61,7 +61,9 @@ fn divide_magnitudes(
     ensures of { IfOk result (λ r. All (IsOf circuit.new) r.0.items) }
     ensures rest_len { IfOk result (λ r. length r.1.items ≡ length a.now) }
     ensures rest_of { IfOk result (λ r. All (IsOf circuit.new) r.1.items) }
-    ensures value { IfOk result (λ r. (s : ℕ → Bool) → Gives s circuit.new → 0 < nat_of s b.now → Divides (magnitude_of (length a.now) (nat_of s a.now)) (magnitude_of (length a.now) (nat_of s b.now)) (nat_of s r.0.items) (nat_of s r.1.items)) }
+    ensures value { IfOk result (λ r. (s : ℕ → Bool) → Gives s circuit.new → 0 < nat_of s b.now
+        → Divides (magnitude_of (length a.now) (nat_of s a.now)) (magnitude_of (length a.now) (nat_of s b.now))
+        (nat_of s r.0.items) (nat_of s r.1.items)) }
 {
     let dividend = magnitude(circuit, a)?;
     let divisor = magnitude(circuit, b)?;
@@ -74,7 +76,8 @@ fn magnitude(circuit: &mut Circuit, a: &[Lit]) -> Result<Vec<Lit>, NoMemory>
     requires room { length circuit.old + 4 * length a.now ≤ 2 ^ 30 }
     requires of { All (IsOf circuit.old) a.now }
     ensures adds { AddsGates circuit.old circuit.new (4 * length a.now) }
-    ensures stands { IfOk result (λ r. StandsForNumber circuit.new (length a.now) r.items (λ s. magnitude_of (length a.now) (nat_of s a.now))) }
+    ensures stands { IfOk result (λ r. StandsForNumber circuit.new (length a.now) r.items
+        (λ s. magnitude_of (length a.now) (nat_of s a.now))) }
 {
     let negative = sign(circuit, a);
     let digits = with_sign(circuit, negative, a)?;
@@ -87,7 +90,8 @@ fn with_sign(circuit: &mut Circuit, negative: Lit, a: &[Lit]) -> Result<Vec<Lit>
     requires negative { IsOf circuit.old negative }
     requires of { All (IsOf circuit.old) a.now }
     ensures adds { AddsGates circuit.old circuit.new (4 * length a.now) }
-    ensures stands { IfOk result (λ r. StandsForNumber circuit.new (length a.now) r.items (λ s. if lit_value s negative then (2 ^ length a.now - nat_of s a.now) % 2 ^ length a.now else nat_of s a.now)) }
+    ensures stands { IfOk result (λ r. StandsForNumber circuit.new (length a.now) r.items
+        (λ s. if lit_value s negative then (2 ^ length a.now - nat_of s a.now) % 2 ^ length a.now else nat_of s a.now)) }
 {
     let negated = pp_bits::neg(circuit, a)?;
     let digits = pp_bits::choose(circuit, negative, &negated, a)?;

@@ -18,7 +18,8 @@ pub fn add(circuit: &mut Circuit, a: Word, b: Word) -> Result<Word, NoMemory>
     requires left { All (IsOf circuit.old) a }
     requires right { All (IsOf circuit.old) b }
     ensures adds { AddsGates circuit.old circuit.new 256 }
-    ensures stands { IfOk result (λ r. StandsForWord w32 circuit.new r (λ s. word_add w32 (word_of w32 s a) (word_of w32 s b))) }
+    ensures stands { IfOk result (λ r. StandsForWord w32 circuit.new r
+        (λ s. word_add w32 (word_of w32 s a) (word_of w32 s b))) }
 {
     let sum = pp_bits::add(circuit, a.lits(), b.lits())?;
     Ok(Word::from_lits(&sum))
@@ -32,7 +33,8 @@ pub fn sub(circuit: &mut Circuit, a: Word, b: Word) -> Result<Word, NoMemory>
     requires left { All (IsOf circuit.old) a }
     requires right { All (IsOf circuit.old) b }
     ensures adds { AddsGates circuit.old circuit.new 256 }
-    ensures stands { IfOk result (λ r. StandsForWord w32 circuit.new r (λ s. word_sub w32 (word_of w32 s a) (word_of w32 s b))) }
+    ensures stands { IfOk result (λ r. StandsForWord w32 circuit.new r
+        (λ s. word_sub w32 (word_of w32 s a) (word_of w32 s b))) }
 {
     let difference = pp_bits::sub(circuit, a.lits(), b.lits())?;
     Ok(Word::from_lits(&difference))
@@ -46,7 +48,8 @@ pub fn mul(circuit: &mut Circuit, a: Word, b: Word) -> Result<Word, NoMemory>
     requires left { All (IsOf circuit.old) a }
     requires right { All (IsOf circuit.old) b }
     ensures adds { AddsGates circuit.old circuit.new 8192 }
-    ensures stands { IfOk result (λ r. StandsForWord w32 circuit.new r (λ s. word_mul w32 (word_of w32 s a) (word_of w32 s b))) }
+    ensures stands { IfOk result (λ r. StandsForWord w32 circuit.new r
+        (λ s. word_mul w32 (word_of w32 s a) (word_of w32 s b))) }
 {
     let product = pp_products::mul(circuit, a.lits(), b.lits())?;
     Ok(Word::from_lits(&product))

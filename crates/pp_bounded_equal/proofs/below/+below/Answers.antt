@@ -23,8 +23,11 @@ use Rattle.pp_bounded_trees.proofs.Lawful.{bounded_lawful}
 use Rattle.pp_bounded_merge.proofs.MergedCtors.{found_ctor}
 use Rattle.pp_bounded_merge.proofs.Ranks.{rank_in, ranks, top_found}
 use Rattle.pp_bounded_trees.proofs.Reading.{rank}
-use Rattle.pp_bounded_equal.proofs.SearchTree.{BelowBefore_next, BelowBefore_none, below_all, ctors_nodes_grow, ctors_nodes_next, nodes_some, one_side, own_in_block, side_nodes, times_grow, times_one, times_plus}
-use Rattle.pp_bounded_equal.proofs.Searching.{AreUnderTest_leaf, AreUnderTest_push, under_apart, under_bit, under_field, under_same, under_word}
+use Rattle.pp_bounded_equal.proofs.SearchTree.{BelowBefore_next, BelowBefore_none, below_all, ctors_nodes_grow}
+use Rattle.pp_bounded_equal.proofs.SearchTree.{ctors_nodes_next, nodes_some, one_side, own_in_block, side_nodes}
+use Rattle.pp_bounded_equal.proofs.SearchTree.{times_grow, times_one, times_plus}
+use Rattle.pp_bounded_equal.proofs.Searching.{AreUnderTest_leaf, AreUnderTest_push, under_apart, under_bit, under_field}
+use Rattle.pp_bounded_equal.proofs.Searching.{under_same, under_word}
 use Rattle.pp_bounded_merge.proofs.Sides.{alternatives_moved, nil_from, side_data, side_read, side_high}
 use Rattle.pp_bounded_equal.proofs.below.+below.Goals as goal
 

@@ -1,4 +1,5 @@
-use Rattle.std.proofs.Common.{◌≡◌, ◌∙◌, ◌+◌, ◌≤◌, ℕ, suc, List, [], ◌∷◌, ◌++◌, length, take, Option, Some, None, sym, ap, arith, subst}
+use Rattle.std.proofs.Common.{◌≡◌, ◌∙◌, ◌+◌, ◌≤◌, ℕ, suc, List, [], ◌∷◌, ◌++◌, length, take, Option, Some, None, sym}
+use Rattle.std.proofs.Common.{ap, arith, subst}
 use Rattle.std.proofs.lemmas.List.{take_all}
 use Rattle.pp_prog.specs.declared.types.TypeTable.{TypeTable}
 use Rattle.pp_gate.proofs.Growing.{AddsGates_more, AddsGates_none, AddsGates_weaker, length-Grows}
@@ -13,13 +14,17 @@ use Rattle.pp_bounded_trees.specs.Meaning.{bounded_sense}
 use Rattle.pp_bounded_merge.specs.Merge.{AreOfSorts}
 use Rattle.pp_bounded_trees.specs.Values.{symbol_value, values_of}
 use Rattle.pp_bounded_trees.proofs.Candidates.{take_next}
-use Rattle.pp_bounded_equal.proofs.Compared.{AreEqualFields_none, AreEqualFields_of, AreEqualFields_push, ctors_test_grow, ctors_test_next, tests_taken, tests_within, two_entries}
-use Rattle.pp_bounded_equal.proofs.EqualTree.{EqualBefore_next, EqualBefore_none, equal_all, in_arena, never_equal, never_equal_fields, no_value, none_has, side_rank, own_block, test_some, trees_test, two_trees}
+use Rattle.pp_bounded_equal.proofs.Compared.{AreEqualFields_none, AreEqualFields_of, AreEqualFields_push}
+use Rattle.pp_bounded_equal.proofs.Compared.{ctors_test_grow, ctors_test_next, tests_taken, tests_within, two_entries}
+use Rattle.pp_bounded_equal.proofs.EqualTree.{EqualBefore_next, EqualBefore_none, equal_all, in_arena, never_equal}
+use Rattle.pp_bounded_equal.proofs.EqualTree.{never_equal_fields, no_value, none_has, side_rank, own_block, test_some}
+use Rattle.pp_bounded_equal.proofs.EqualTree.{trees_test, two_trees}
 use Rattle.pp_bounded_trees.proofs.Lawful.{bounded_lawful}
 use Rattle.pp_bounded_merge.proofs.MergedCtors.{found_ctor}
 use Rattle.pp_bounded_merge.proofs.Ranks.{rank_in, ranks, top_found}
 use Rattle.pp_bounded_trees.proofs.Reading.{value_there}
-use Rattle.pp_bounded_merge.proofs.Sides.{AreOfSorts_later, alternatives_moved, nil_from, pair_at, pair_read, right_within, side_data, side_read, whole_right}
+use Rattle.pp_bounded_merge.proofs.Sides.{AreOfSorts_later, alternatives_moved, nil_from, pair_at, pair_read}
+use Rattle.pp_bounded_merge.proofs.Sides.{right_within, side_data, side_read, whole_right}
 use Rattle.pp_bounded_equal.proofs.equal.+equal.Goals as goal
 
 same_or_less : (n : ℕ) → n ≤ n

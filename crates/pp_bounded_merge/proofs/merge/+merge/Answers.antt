@@ -1,4 +1,5 @@
-use Rattle.std.proofs.Common.{◌≡◌, ◌∙◌, ◌+◌, ℕ, List, [], ◌∷◌, ◌++◌, length, take, Option, Some, None, refl, sym, ap, arith, subst}
+use Rattle.std.proofs.Common.{◌≡◌, ◌∙◌, ◌+◌, ℕ, List, [], ◌∷◌, ◌++◌, length, take, Option, Some, None, refl, sym, ap}
+use Rattle.std.proofs.Common.{arith, subst}
 use Rattle.std.proofs.lemmas.List.{take_all}
 use Rattle.pp_gate.proofs.Growing.{IsOf_more, length-Grows}
 use Rattle.pp_prog.specs.declared.sort.Sort.{Sort}
@@ -12,15 +13,21 @@ use Rattle.pp_bounded_trees.specs.declared.arena.BoundedTree.{BoundedTree}
 use Rattle.pp_bounded_merge.specs.Merge.{Adds, AreChosen, IsChosen, AreOfSorts, MergedBefore, joined_bits, pairs_bits}
 use Rattle.pp_bounded_merge.proofs.Adding.{Adds_gates, Adds_more, Adds_none, Adds_same, Adds_weaker}
 use Rattle.pp_bounded_trees.proofs.Candidates.{take_next}
-use Rattle.pp_bounded_merge.proofs.Chosen.{AreChosen_none, AreChosen_push, pairs_taken, pairs_within, symbols_length, symbols_taken}
-use Rattle.pp_bounded_merge.proofs.MergedCtors.{MergedBefore_later, MergedBefore_none, MergedBefore_push, MergedBefore_skip, found_ctor}
+use Rattle.pp_bounded_merge.proofs.Chosen.{AreChosen_none, AreChosen_push, pairs_taken, pairs_within, symbols_length}
+use Rattle.pp_bounded_merge.proofs.Chosen.{symbols_taken}
+use Rattle.pp_bounded_merge.proofs.MergedCtors.{MergedBefore_later, MergedBefore_none, MergedBefore_push}
+use Rattle.pp_bounded_merge.proofs.MergedCtors.{MergedBefore_skip, found_ctor}
 use Rattle.pp_bounded_merge.proofs.MergedSides.{both_sorts, merged_both, merged_left, merged_right}
 use Rattle.pp_bounded_merge.proofs.MergedTree.{merged_node}
 use Rattle.pp_bounded_trees.proofs.Lawful.{bounded_lawful}
 use Rattle.pp_bounded_merge.proofs.Ranks.{rank_in, ranks, top_found}
-use Rattle.pp_bounded_merge.proofs.Sides.{AreOfSorts_later, TwoSides_later, not_empty, pair_at, pair_read, joined_both, whole_right, whole_sorts, sides_bits, sides_high, sides_rank, sides_small, two_sides, chosen_left, chosen_right, merged_grow, merged_next, side_copied, side_data}
+use Rattle.pp_bounded_merge.proofs.Sides.{AreOfSorts_later, TwoSides_later, not_empty, pair_at, pair_read, joined_both}
+use Rattle.pp_bounded_merge.proofs.Sides.{whole_right, whole_sorts, sides_bits, sides_high, sides_rank, sides_small}
+use Rattle.pp_bounded_merge.proofs.Sides.{two_sides, chosen_left, chosen_right, merged_grow, merged_next, side_copied}
+use Rattle.pp_bounded_merge.proofs.Sides.{side_data}
 use Rattle.pp_bounded_merge.proofs.merge.+merge.Goals as goal
-use Rattle.pp_bounded_merge.proofs.merge.+merge.Goals.{choose_alternatives-in-Some+in_ok-push-in-Some, choose_alternatives-in-None}
+use Rattle.pp_bounded_merge.proofs.merge.+merge.Goals.{choose_alternatives-in-Some+in_ok-push-in-Some}
+use Rattle.pp_bounded_merge.proofs.merge.+merge.Goals.{choose_alternatives-in-None}
 
 -- ---- constructors
 

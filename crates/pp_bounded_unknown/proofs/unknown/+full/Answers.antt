@@ -16,9 +16,11 @@ use Rattle.pp_domain.proofs.Composition.{Moves_grown, Moves_more, Moves_none, Mo
 use Rattle.pp_bounded_unknown.specs.Full.{AllPossible, AreFull, AreFullAlternatives, IsFull}
 use Rattle.pp_bounded_trees.specs.Possible.{bits_if, ctor_bits, total, has_value}
 use Rattle.pp_bounded_trees.specs.Meaning.{bounded_sense}
-use Rattle.pp_bounded_trees.proofs.Candidates.{next_suc, positive_next, some_possible, take_next, total_taken, total_within, bits_of_bool, bits_of_int}
+use Rattle.pp_bounded_trees.proofs.Candidates.{next_suc, positive_next, some_possible, take_next, total_taken}
+use Rattle.pp_bounded_trees.proofs.Candidates.{total_within, bits_of_bool, bits_of_int}
 use Rattle.pp_bounded_unknown.proofs.Full.{AreFull_none, AreFull_push}
-use Rattle.pp_bounded_unknown.proofs.FullParts.{AreFullAlternatives_none, AreFullAlternatives_push, all_at, bit_full, height_within, word_full}
+use Rattle.pp_bounded_unknown.proofs.FullParts.{AreFullAlternatives_none, AreFullAlternatives_push, all_at, bit_full}
+use Rattle.pp_bounded_unknown.proofs.FullParts.{height_within, word_full}
 use Rattle.pp_bounded_unknown.proofs.FullTree.{full_node}
 use Rattle.pp_bounded_trees.proofs.Known.{Moves_same}
 use Rattle.pp_bounded_trees.proofs.Lawful.{bounded_lawful}

@@ -1,6 +1,7 @@
 use Rattle.std.proofs.Common.{◌∙◌, refl, sym, arith}
 use Rattle.pp_domain.proofs.Composition.{Moves_weaker}
-use Rattle.pp_bounded_unknown.proofs.AnyValue.{full_unknown, nothing_moves, nothing_unknown, refused_moves, refused_unknown}
+use Rattle.pp_bounded_unknown.proofs.AnyValue.{full_unknown, nothing_moves, nothing_unknown, refused_moves}
+use Rattle.pp_bounded_unknown.proofs.AnyValue.{refused_unknown}
 use Rattle.pp_bounded_trees.proofs.Known.{Moves_same}
 use Rattle.pp_bounded_unknown.proofs.unknown.unknown_tree.Goals as goal
 

@@ -1,5 +1,6 @@
 use Rattle.std.proofs.Common.{arith}
-use Rattle.pp_build.proofs.Progress.{building_end, building_left, building_moves, building_start, building_turn, can_perform, pushed_length}
+use Rattle.pp_build.proofs.Progress.{building_end, building_left, building_moves, building_start, building_turn}
+use Rattle.pp_build.proofs.Progress.{can_perform, pushed_length}
 use Rattle.pp_build.proofs.perform.build.Goals as goal
 
 pub loop-number-init : goal.loop-number-init

@@ -2,9 +2,11 @@ use Rattle.std.specs.Int.{w32}
 use Rattle.std.proofs.lemmas.Int.{to_z-of_z}
 use Rattle.pp_domain.proofs.AnySort.{Moves_gates}
 use Rattle.pp_domain.proofs.Composition.{Moves_none}
-use Rattle.pp_build.proofs.OperatorSteps.{binary_count, binary_performed, descent_count, descent_performed, descent_sorts, unary_performed, unknown_performed}
+use Rattle.pp_build.proofs.OperatorSteps.{binary_count, binary_performed, descent_count, descent_performed}
+use Rattle.pp_build.proofs.OperatorSteps.{descent_sorts, unary_performed, unknown_performed}
 use Rattle.pp_build.proofs.Performing.{leaves_by, room_for}
-use Rattle.pp_build.proofs.TruthSteps.{alike_performed, bool_performed, both_left, both_performed, both_right, int_performed, not_performed}
+use Rattle.pp_build.proofs.TruthSteps.{alike_performed, bool_performed, both_left, both_performed, both_right}
+use Rattle.pp_build.proofs.TruthSteps.{int_performed, not_performed}
 use Rattle.pp_build.proofs.Values.{int_fits}
 use Rattle.pp_build.proofs.perform.perform.Goals as goal
 

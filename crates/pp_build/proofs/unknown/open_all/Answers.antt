@@ -1,4 +1,5 @@
-use Rattle.pp_build.proofs.ManyUnknown.{all_moved, all_unknown, opened_left, opened_room, opened_sort, opened_start, opened_turn}
+use Rattle.pp_build.proofs.ManyUnknown.{all_moved, all_unknown, opened_left, opened_room, opened_sort, opened_start}
+use Rattle.pp_build.proofs.ManyUnknown.{opened_turn}
 use Rattle.pp_build.proofs.unknown.open_all.Goals as goal
 
 pub loop-param-init : goal.loop-param-init

@@ -10,11 +10,13 @@ use Rattle.pp_modes.proofs.answering.answer.Goals as goal
 pub returns-in-Verify : goal.returns-in-Verify
 returns-in-Verify c =
     if_ok c.answer_verify.result c.answer_verify.ensures
-    (λ r is. subst (λ t. AnswersTask c.args.program.now (task_told t) (response_of r)) (sym c.in-Verify.is) (verified is))
+    (λ r is. subst (λ t. AnswersTask c.args.program.now (task_told t) (response_of r)) (sym c.in-Verify.is)
+    (verified is))
 
 pub returns-in_ok-list_lines-in-List : goal.returns-in_ok-list_lines-in-List
 returns-in_ok-list_lines-in-List c =
-    subst (λ t. AnswersTask c.args.program.now (task_told t) (report status.AllValid (map string_bytes c.in_ok-list_lines-in-List.field-0.items)))
+    subst (λ t. AnswersTask c.args.program.now (task_told t)
+    (report status.AllValid (map string_bytes c.in_ok-list_lines-in-List.field-0.items)))
     (sym c.in-List.is)
     (subst (λ l. AnswersTask c.args.program.now (list c.in-List.rounds c.in-List.depth) (report status.AllValid l))
     (sym c.in_ok-list_lines-in-List.ensures) listed)

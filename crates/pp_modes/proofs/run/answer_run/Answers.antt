@@ -17,7 +17,8 @@ returns-then-len-gt0 c =
     let some = c.if-len-gt0.true in
     let long = c.len.ensures in
     if_ok c.no_function-then-len-gt0.result c.no_function-then-len-gt0.ensures
-    (λ r is. has_params c.args.program.now c.args.name.now c.args.fuel (response_of r) c.in-Some.f.0 c.function.result.now c.in-Some.ensures
+    (λ r is. has_params c.args.program.now c.args.name.now c.args.fuel (response_of r) c.in-Some.f.0
+    c.function.result.now c.in-Some.ensures
     c.function.ensures (omega arith) is)
 
 pub run-requires-clause-function : goal.run-requires-clause-function
@@ -28,6 +29,8 @@ returns c =
     let none = c.if-len-gt0.false in
     let long = c.len.ensures in
     if_ok c.ran.result c.ran.ensures
-    (λ r is. is_run c.args.program.now c.args.name.now c.args.fuel (response_of r) c.in-Some.f.0 c.function.result.now c.in_ok-outcome.outcome
+    (λ r is. is_run c.args.program.now c.args.name.now c.args.fuel (response_of r) c.in-Some.f.0 c.function.result.now
+    c.in_ok-outcome.outcome
     c.in-Some.ensures c.function.ensures (omega arith)
-    (c.in_ok-outcome.ensures ∙ ap (λ g. run_at c.args.program.now.types.ctors c.args.program.now.functions g [] c.args.fuel) c.function.ensures) is)
+    (c.in_ok-outcome.ensures ∙ ap (λ g. run_at c.args.program.now.types.ctors c.args.program.now.functions g []
+    c.args.fuel) c.function.ensures) is)

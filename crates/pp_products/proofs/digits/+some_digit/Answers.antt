@@ -19,5 +19,6 @@ returns-in_ok-some-clause-stands t c =
       of = or.stands.of;
       value = λ s gives.
           or.stands.value s gives
-          ∙ some_digit_turn s _ _ _ some c.index-a-0.is (c.in_ok-above.ensures.stands.value s (growing.Gives_before _ _ _ or.adds s gives));
+          ∙ some_digit_turn s _ _ _ some c.index-a-0.is
+          (c.in_ok-above.ensures.stands.value s (growing.Gives_before _ _ _ or.adds s gives));
     }

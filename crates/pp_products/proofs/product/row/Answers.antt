@@ -11,5 +11,6 @@ returns-clause-value c = λ s gives.
     let before = growing.Gives_before _ _ _ high.adds s gives in
     let first = growing.Gives_before _ _ _ masked.adds s before in
     let zero = ap (nat_of s) c.deref.ensures.value ∙ none_is _ _ (c.in_ok-zeros.ensures.stands.value s first) in
-    row_turn s _ _ _ _ _ _ _ _ _ _ c.requires.same zero (masked.stands.value s before) masked.stands.len c.deref-2.ensures.value c.index.ensures
+    row_turn s _ _ _ _ _ _ _ _ _ _ c.requires.same zero (masked.stands.value s before) masked.stands.len
+    c.deref-2.ensures.value c.index.ensures
     high.stands.len (high.stands.value s gives) c.deref-3.ensures.value c.in_ok-all.ensures

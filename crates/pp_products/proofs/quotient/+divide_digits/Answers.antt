@@ -17,9 +17,11 @@ returns-in_ok-all-clause-adds t c =
 
 pub returns-in_ok-all-clause-of : goal.returns-in_ok-all-clause-of
 returns-in_ok-all-clause-of t c =
-    AreOf_over _ _ _ _ _ _ _ c.in_ok-digit.ensures.adds c.in_ok-high.ensures.of c.in_ok-digit.ensures.digit_of c.deref-else-is_empty.ensures.value c.in_ok-all.ensures
+    AreOf_over _ _ _ _ _ _ _ c.in_ok-digit.ensures.adds c.in_ok-high.ensures.of c.in_ok-digit.ensures.digit_of
+    c.deref-else-is_empty.ensures.value c.in_ok-all.ensures
 
 pub returns-in_ok-all-clause-value : goal.returns-in_ok-all-clause-value
 returns-in_ok-all-clause-value t c = λ s gives some.
     divide_more s _ _ _ _ _ _ _ _ _ _ (search rules) c.index-a-0.is c.deref.ensures.value c.deref-else-is_empty.ensures.value c.in_ok-all.ensures
-    (c.in_ok-high.ensures.value s (growing.Gives_before _ _ _ c.in_ok-digit.ensures.adds s gives) some) (c.in_ok-digit.ensures.value s gives)
+    (c.in_ok-high.ensures.value s (growing.Gives_before _ _ _ c.in_ok-digit.ensures.adds s gives) some)
+    (c.in_ok-digit.ensures.value s gives)

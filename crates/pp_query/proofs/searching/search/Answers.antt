@@ -1,7 +1,8 @@
 use Rattle.std.proofs.Common.{◌∙◌, sym, arith}
 use Rattle.pp_clause.specs.Assignment.{assigned}
 use Rattle.pp_query.proofs.Asked.{same_number-false, same_number-true}
-use Rattle.pp_query.proofs.Outcomes.{args_found, asked_of_circuit, failing_read, none_opposite, nothing_opposite, nothing_refuted, sat_fails, spent_evidence}
+use Rattle.pp_query.proofs.Outcomes.{args_found, asked_of_circuit, failing_read, none_opposite, nothing_opposite}
+use Rattle.pp_query.proofs.Outcomes.{nothing_refuted, sat_fails, spent_evidence}
 use Rattle.pp_query.proofs.searching.search.Goals as goal
 
 pub returns-then-eq : goal.returns-then-eq

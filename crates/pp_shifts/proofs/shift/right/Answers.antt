@@ -1,7 +1,8 @@
 use Rattle.std.proofs.Common.{◌≡◌, ◌≤◌, ◌-◌, ◌^◌, length, refl, arith, ap, ◌∙◌}
 use Rattle.pp_bits.specs.Number.{nat_of}
 use Rattle.pp_bits.proofs.Growing.{Gives_before}
-use Rattle.pp_shifts.proofs.Stages.{right_none, right_turn, same_digits, doubled_places, AddsGates_at_first, AddsGates_turn, AddsGates_short}
+use Rattle.pp_shifts.proofs.Stages.{right_none, right_turn, same_digits, doubled_places, AddsGates_at_first}
+use Rattle.pp_shifts.proofs.Stages.{AddsGates_turn, AddsGates_short}
 use Rattle.pp_shifts.proofs.shift.right.Goals as goal
 
 pub loop-i-init : goal.loop-i-init
@@ -17,7 +18,8 @@ loop-i-init c =
 pub returns-in_err-digits-2-clause-adds : goal.returns-in_err-digits-2-clause-adds
 returns-in_err-digits-2-clause-adds c =
     let now = c.loop-i.invariant in
-    AddsGates_short _ _ _ _ _ _ _ c.loop-i-test.true (ap length c.deref.ensures.value ∙ now.digits.len) now.grown c.in_err-digits-2.ensures.adds
+    AddsGates_short _ _ _ _ _ _ _ c.loop-i-test.true (ap length c.deref.ensures.value ∙ now.digits.len) now.grown
+    c.in_err-digits-2.ensures.adds
 
 pub loop-i-preserved : goal.loop-i-preserved
 loop-i-preserved c =
@@ -30,7 +32,8 @@ loop-i-preserved c =
       grown = AddsGates_turn _ _ _ _ _ _ len now.grown stage.adds;
       digits = record { len = stage.len ∙ len; of = stage.of };
       places = doubled_places _ _ _ _ now.places c.saturating_mul-by.ensures;
-      value = λ s gives. right_turn s _ _ _ _ _ _ _ _ _ _ _ c.loop-i-test.true c.index-distance-i.is refl short now.places len (ap (nat_of s) lent)
+      value = λ s gives. right_turn s _ _ _ _ _ _ _ _ _ _ _ c.loop-i-test.true c.index-distance-i.is refl short
+          now.places len (ap (nat_of s) lent)
           (now.value s (Gives_before _ _ _ stage.adds s gives))
           (stage.value s gives);
     }

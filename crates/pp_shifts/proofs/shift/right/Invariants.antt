@@ -12,5 +12,6 @@ invariant-loop-i l = record {
   grown : AddsGates l.initial.circuit l.circuit (length l.a * l.i);
   digits : Digits l.circuit (length l.a) l.digits.items;
   places : l.by ≡ min (2 ^ l.i) (2 ^ 64 - 1);
-  value : (s : ℕ → Bool) → Gives s l.circuit → nat_of s l.digits.items ≡ moved_right (length l.a) (lit_value s l.fill) (nat_of s l.a) (nat_of s (take l.i l.distance));
+  value : (s : ℕ → Bool) → Gives s l.circuit → nat_of s l.digits.items ≡ moved_right (length l.a) (lit_value s l.fill)
+      (nat_of s l.a) (nat_of s (take l.i l.distance));
 }

@@ -3,4 +3,5 @@ use Rattle.pp_shifts.proofs.shift.right_stage.Goals as goal
 
 pub returns-clause-value : goal.returns-clause-value
 returns-clause-value c =
-    λ s gives. right_stage_value s _ _ _ _ _ _ _ c.in_ok-moved.ensures.value c.deref.ensures.value (c.in_ok-chosen.ensures.stands.value s gives)
+    λ s gives. right_stage_value s _ _ _ _ _ _ _ c.in_ok-moved.ensures.value c.deref.ensures.value
+    (c.in_ok-chosen.ensures.stands.value s gives)

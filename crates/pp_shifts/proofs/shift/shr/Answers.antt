@@ -10,4 +10,5 @@ returns-clause-value c =
     let moved = c.in_ok-digits.ensures in
     λ s gives.
     ap (signed_of (length c.args.a.now)) (moved.stands.value s gives)
-    ∙ signed_of-moved _ _ _ _ (nat_of_below s c.args.a.now) (c.sign-sign.ensures.value s (Gives_before _ _ _ moved.adds s gives))
+    ∙ signed_of-moved _ _ _ _ (nat_of_below s c.args.a.now)
+    (c.sign-sign.ensures.value s (Gives_before _ _ _ moved.adds s gives))

@@ -5,5 +5,6 @@ use Rattle.pp_wordgate.proofs.division.rem.Goals as goal
 
 pub returns-clause-value : goal.returns-clause-value
 returns-clause-value c =
-    division_word _ w32 _ _ _ _ _ _ _ c.lits.ensures.value c.lits-2.ensures.value c.lits.ensures.len (c.from_lits.ensures ∙ c.deref.ensures.value)
+    division_word _ w32 _ _ _ _ _ _ _ c.lits.ensures.value c.lits-2.ensures.value c.lits.ensures.len
+    (c.from_lits.ensures ∙ c.deref.ensures.value)
     c.in_ok-digits.ensures.stands

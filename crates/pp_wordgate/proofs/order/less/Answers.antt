@@ -7,5 +7,6 @@ returns-clause-stands c =
     let less = c.in_ok-less.ensures.stands in
     record {
       of = less.of;
-      value = λ s gives. less_word w32 s _ _ _ _ _ c.lits.ensures.value c.lits-2.ensures.value c.lits.ensures.len c.lits-2.ensures.len (less.value s gives);
+      value = λ s gives. less_word w32 s _ _ _ _ _ c.lits.ensures.value c.lits-2.ensures.value c.lits.ensures.len
+          c.lits-2.ensures.len (less.value s gives);
     }

@@ -14,5 +14,6 @@ returns-clause-stands c =
       value = λ w wide s gives some.
           let before = Gives_before _ _ _ digits.adds s gives in
           remainder_word w s _ _ _ _ _ _ _ c.requires.same wide lent parts.rest_len
-          (c.sign-negative.ensures.value s before) (parts.value s before (word_some w s _ some)) (digits.stands.value s gives);
+          (c.sign-negative.ensures.value s before) (parts.value s before (word_some w s _ some))
+          (digits.stands.value s gives);
     }
