@@ -31,8 +31,10 @@ decision_before old new e place step at =
           let long = ap length e.is ∙ length-append old e.added in
           let w = at.stands.within in
           let is : step ≡ get_or e.added (place - length old) step =
-          at.stands.is ∙ ap (λ (z : List Step). get_or z place step) e.is ∙ get_or-append_right old e.added (length old) place step refl ge in
-          let has_reason : IsSome (get_or e.added (place - length old) step).reason = e.reasons (place - length old) step (omega arith) in
+          at.stands.is ∙ ap (λ (z : List Step). get_or z place step) e.is
+          ∙ get_or-append_right old e.added (length old) place step refl ge in
+          let has_reason : IsSome (get_or e.added (place - length old) step).reason =
+          e.reasons (place - length old) step (omega arith) in
           none_some step.reason (subst (λ (z : Step). IsSome z.reason) (sym is) has_reason) at.free)
     ]
   where

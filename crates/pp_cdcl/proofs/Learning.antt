@@ -13,7 +13,8 @@ use Rattle.pp_clause.specs.New.{IsNew}
 use Rattle.pp_clause.specs.declared.log.Lemma.{Lemma}
 use Rattle.pp_clause.proofs.Has.{has-nil, has-cases, has-All, All-from_has}
 use Rattle.pp_trail.specs.declared.step.Step.{Step}
-use Rattle.pp_trail.specs.Trail.{Trail, IsTrail, IsUpTo, lits}
+use Rattle.pp_clause.specs.Bound.{IsUpTo}
+use Rattle.pp_trail.specs.Trail.{Trail, IsTrail, lits}
 use Rattle.pp_trail.proofs.Places.{literal_at, has_at}
 use Rattle.pp_trail.proofs.Negated.{negated_at, all_negated_from}
 use Rattle.pp_learn.specs.Conflict.{decisions}
@@ -27,18 +28,23 @@ has_more : (steps : List Step) (n k : ℕ) (m : Literal) → n ≤ k → has (li
     → has (lits (take k steps)) m ≡ true
 has_more steps n k m le h =
     let p = literal_at steps n m h in
-    subst (λ (z : Literal). has (lits (take k steps)) z ≡ true) p.is (has_at steps p.place k p.step p.stands (let b = p.before in omega arith))
+    subst (λ (z : Literal). has (lits (take k steps)) z ≡ true) p.is
+    (has_at steps p.place k p.step p.stands (let b = p.before in omega arith))
 
 pub has_whole : (steps : List Step) (n : ℕ) (m : Literal) → n ≤ length steps → has (lits (take n steps)) m ≡ true
     → has (lits steps) m ≡ true
-has_whole steps n m le h = subst (λ (z : List Step). has (lits z) m ≡ true) (take_all (length steps) steps (omega arith)) (has_more steps n (length steps) m le h)
+has_whole steps n m le h =
+    subst (λ (z : List Step). has (lits z) m ≡ true) (take_all (length steps) steps (omega arith))
+    (has_more steps n (length steps) m le h)
 
 learnt_refutes_not : (assumed : List Literal) (watch : Trail) (end start : ℕ) (m : Lemma) (back : ℕ)
     → HoldsAll assumed watch.steps end → end ≤ start → IsLearnt watch start m back
     → all_negated assumed m.clause ≡ false
 learnt_refutes_not assumed watch end start m back a le h =
     false_from_ne_true (all_negated assumed m.clause) (λ n.
-    let there : has (lits (take end watch.steps)) (opposite h.literal) ≡ true = has-All (λ z. has (lits (take end watch.steps)) z ≡ true) assumed (opposite h.literal) a.held (negated_at assumed m.clause h.literal n h.held) in
+    let there : has (lits (take end watch.steps)) (opposite h.literal) ≡ true =
+    has-All (λ z. has (lits (take end watch.steps)) z ≡ true) assumed (opposite h.literal) a.held
+    (negated_at assumed m.clause h.literal n h.held) in
     both_ways (has (lits (take start watch.steps)) (opposite h.literal)) h.is_open.negation
     (has_more watch.steps end start (opposite h.literal) le there))
 
@@ -63,8 +69,14 @@ stands_take : (steps : List Step) (n place : ℕ) (step : Step) → n ≤ length
 stands_take steps n place step le d =
     let cut : length (take n steps) ≡ n = length-take-le n steps le in
     let w = d.stands.within in
-    let lt : place < n = omega arith in
-    (record { stands = record { within = omega arith; is = d.stands.is ∙ get_or-take n steps place step lt }; free = d.free }, lt)
+    let lt : place < n = omega arith in (
+      record {
+        stands = record { within = omega arith; is = d.stands.is ∙ get_or-take n steps place step lt };
+        free =
+            d.free;
+      },
+      lt,
+    )
 
 learnt_layered : (watch : Trail) (start to : ℕ) (m : Lemma) (back : ℕ) → IsLayered watch → IsLearnt watch start m back
     → to ≤ length watch.steps → NoDecision watch.steps back to
@@ -75,8 +87,12 @@ learnt_layered watch start to m back y h le none = record {
       elim (cases_lt place back) [
         | inr ge ↦ absurd (none.none place step p.0 ge p.1)
         | inl lt ↦ (
-            let before : take place (take to watch.steps) ≡ take place watch.steps = take-take place to watch.steps (let b = p.1 in omega arith) in
-            let missing : has (lits (take place watch.steps)) (opposite h.literal) ≡ false = false_from_ne_true _ (λ k. both_ways (has (lits (take start watch.steps)) (opposite h.literal)) h.is_open.negation (has_more watch.steps place start (opposite h.literal) (let w = h.within in omega arith) k)) in
+            let before : take place (take to watch.steps) ≡ take place watch.steps =
+            take-take place to watch.steps (let b = p.1 in omega arith) in
+            let missing : has (lits (take place watch.steps)) (opposite h.literal) ≡ false =
+            false_from_ne_true _ (λ k. both_ways (has (lits (take start watch.steps)) (opposite h.literal))
+            h.is_open.negation (has_more watch.steps place start (opposite h.literal)
+            (let w = h.within in omega arith) k)) in
             rw before (elim (others_or_not (lits (take place watch.steps)) m.clause h.literal) [
               | inl o ↦ absurd (let b = h.least place o in omega arith)
               | inr w ↦ closed_add watch.clauses (lits (take place watch.steps)) m.clause h.literal
@@ -88,7 +104,8 @@ learnt_layered watch start to m back y h le none = record {
 assumed_take : (assumed : List Literal) (steps : List Step) (end n : ℕ) → n ≤ length steps
     → AreAssumed assumed steps end → n ≤ end → AreAssumed assumed (take n steps) (length (take n steps))
 assumed_take assumed steps end n le a k = record {
-  each = λ place step d lt. (let p = stands_take steps n place step le d in let b = p.1 in a.each place step p.0 (omega arith));
+  each = λ place step d lt.
+      (let p = stands_take steps n place step le d in let b = p.1 in a.each place step p.0 (omega arith));
 }
 
 holds_take : (assumed : List Literal) (steps : List Step) (end n : ℕ) → n ≤ length steps → HoldsAll assumed steps end

@@ -60,7 +60,8 @@ log_refutes cs assumed lemmas log m h lt d n =
     let len = length_push log m in
     let back : length (log ++ m ∷ []) - 1 ≡ length log = omega arith in
     let last : slice_get (log ++ m ∷ []) (length log) ≡ Some m =
-    slice_get-get_or (log ++ m ∷ []) (length log) m (omega arith) ∙ ap (λ (z : Lemma). Some z) (get_or_push log m m (length log) refl) in
+    slice_get-get_or (log ++ m ∷ []) (length log) m (omega arith)
+    ∙ ap (λ (z : Lemma). Some z) (get_or_push log m m (length log) refl) in
     record {
       few = omega arith;
       refutes = record {

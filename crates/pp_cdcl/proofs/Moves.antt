@@ -18,7 +18,8 @@ use Rattle.pp_clause.specs.declared.log.Lemma.{Lemma}
 use Rattle.pp_clause.proofs.Has.{has-push_last, has-append_left, same_var_cases, opposite_twice, false_not_true}
 use Rattle.pp_clause.proofs.Soundness.{All-numbered}
 use Rattle.pp_trail.specs.declared.step.Step.{Step}
-use Rattle.pp_trail.specs.Trail.{Trail, IsTrail, IsUpTo, IsReason, IsFalse, IsPlaceOf, StandsAt, lits}
+use Rattle.pp_clause.specs.Bound.{IsUpTo}
+use Rattle.pp_trail.specs.Trail.{Trail, IsTrail, IsReason, IsFalse, IsPlaceOf, StandsAt, lits}
 use Rattle.pp_trail.proofs.Places.{IsAbsent, has_at, absent_before}
 use Rattle.pp_trail.proofs.Growing.{lits_push}
 use Rattle.pp_trail.proofs.Negated.{all_negated_from}
@@ -50,7 +51,9 @@ refutes cs assumed lemmas watch log new m h a d n e =
 
 -- an assumption that is false
 stands_there : (steps : List Step) (place : ℕ) (s : Step) → StandsAt steps place s → has (lits steps) s.lit ≡ true
-stands_there steps place s at = subst (λ (z : List Step). has (lits z) s.lit ≡ true) (take_all (length steps) steps (omega arith)) (has_at steps place (length steps) s at at.within)
+stands_there steps place s at =
+    subst (λ (z : List Step). has (lits z) s.lit ≡ true) (take_all (length steps) steps (omega arith))
+    (has_at steps place (length steps) s at at.within)
 
 negated_there : (assumed : List Literal) (steps : List Step) (l : Literal) (place : ℕ)
     → IsMissing assumed (lits steps) l → (p : IsPlaceOf steps l.var place) → p.step.lit ≡ opposite l
@@ -98,14 +101,18 @@ reason_is assumed steps l place n d m p e = record {
 
 pub place_up_to : (cs : List (List Literal)) (vars : ℕ) (steps : List Step) (x place : ℕ) → IsTrail cs vars steps
     → IsPlaceOf steps x place → x ≤ vars
-place_up_to cs vars steps x place t p = (let b = step_up_to cs vars steps place p.step t p.stands in let e = p.is in omega arith)
+place_up_to cs vars steps x place t p =
+    (let b = step_up_to cs vars steps place p.step t p.stands in let e = p.is in omega arith)
 
 pub place_absent : (cs : List (List Literal)) (vars : ℕ) (steps : List Step) (x place : ℕ) → IsTrail cs vars steps
     → IsPlaceOf steps x place → IsAbsent x (take place steps)
 place_absent cs vars steps x place t p = subst (λ (z : ℕ). IsAbsent z (take place steps)) p.is
     (absent_before steps place p.step t.distinct p.stands)
 
-pub assumed_decided : (assumed : List Literal) (steps : List Step) (place : ℕ) (l : Literal) → AreAssumed assumed steps (length steps) → place ≤ length steps → has assumed l ≡ true → (let s : Step = record { lit = l; reason = None } in AreAssumed assumed (take place steps ++ s ∷ []) (length (take place steps ++ s ∷ [])))
+pub assumed_decided : (assumed : List Literal) (steps : List Step) (place : ℕ) (l : Literal)
+    → AreAssumed assumed steps (length steps) → place ≤ length steps → has assumed l ≡ true
+    → (let s : Step = record { lit = l; reason = None } in
+    AreAssumed assumed (take place steps ++ s ∷ []) (length (take place steps ++ s ∷ [])))
 assumed_decided assumed steps place l a le h =
     let s : Step = record { lit = l; reason = None } in
     record {
@@ -116,12 +123,17 @@ assumed_decided assumed steps place l a le h =
                 (sym (d.stands.is ∙ get_or_push (take place steps) s step i (sym e))) h
             | inr ne ↦ (
                 let w : i < place = (let k = length_push (take place steps) s in omega arith) in
-                let is : step ≡ get_or steps i step = d.stands.is ∙ get_or_append_left (take place steps) (s ∷ []) step i (omega arith) ∙ get_or-take place steps i step w in
-                a.each i step (record { stands = record { within = omega arith; is = is }; free = d.free }) (omega arith))
+                let is : step ≡ get_or steps i step =
+                d.stands.is ∙ get_or_append_left (take place steps) (s ∷ []) step i (omega arith)
+                ∙ get_or-take place steps i step w in
+                a.each i step (record { stands = record { within = omega arith; is = is }; free = d.free })
+                (omega arith))
           ]);
     }
 
-pub false_decided : (cs : List (List Literal)) (vars : ℕ) (steps : List Step) (place n : ℕ) (l : Literal) → IsTrail cs vars steps → IsReasonOf steps place (opposite l) n → (let s : Step = record { lit = l; reason = None } in IsFalse cs (lits (take place steps ++ s ∷ [])) n)
+pub false_decided : (cs : List (List Literal)) (vars : ℕ) (steps : List Step) (place n : ℕ) (l : Literal)
+    → IsTrail cs vars steps → IsReasonOf steps place (opposite l) n
+    → (let s : Step = record { lit = l; reason = None } in IsFalse cs (lits (take place steps ++ s ∷ [])) n)
 false_decided cs vars steps place n l t h =
     let s : Step = record { lit = l; reason = None } in
     let r : IsReason cs (lits (take place steps)) h.step.lit n = t.reasons place h.step h.stands n h.reason in
@@ -163,9 +175,11 @@ fewer_steps a v x y le = omega arith
 pub left_grown : (lemmas : ℕ) (old new : Trail) (log : List Lemma) → Grows old new
     → left lemmas new log ≤ left lemmas old log
 left_grown lemmas old new log g =
-    let long : length new.steps ≡ length old.steps + length g.steps.added = ap length g.steps.is ∙ length-append old.steps g.steps.added in
+    let long : length new.steps ≡ length old.steps + length g.steps.added =
+    ap length g.steps.is ∙ length-append old.steps g.steps.added in
     subst (λ (v : ℕ). (lemmas - length log) * (v + 1) + (v - length new.steps) ≤ left lemmas old log) (sym g.vars)
-    (fewer_steps (lemmas - length log) old.vars (old.vars - length new.steps) (old.vars - length old.steps) (omega arith))
+    (fewer_steps (lemmas - length log) old.vars (old.vars - length new.steps) (old.vars - length old.steps)
+    (omega arith))
 
 more_steps : (a v x y : ℕ) → x < y → a * (v + 1) + x < a * (v + 1) + y
 more_steps a v x y lt = omega arith
@@ -174,7 +188,8 @@ left_decided : (lemmas : ℕ) (watch : Trail) (log : List Lemma) (s : Step) → 
     → left lemmas (record watch { steps = watch.steps ++ s ∷ [] }) log < left lemmas watch log
 left_decided lemmas watch log s lt =
     let k : length (watch.steps ++ s ∷ []) ≡ length watch.steps + 1 = length_push watch.steps s in
-    more_steps (lemmas - length log) watch.vars (watch.vars - length (watch.steps ++ s ∷ [])) (watch.vars - length watch.steps) (omega arith)
+    more_steps (lemmas - length log) watch.vars (watch.vars - length (watch.steps ++ s ∷ []))
+    (watch.vars - length watch.steps) (omega arith)
 
 pub goes_decided : (cs : List (List Literal)) (assumed : List Literal) (lemmas : ℕ) (watch : Trail) (log : List Lemma)
     (base : Option ℕ) (s : Step) (next : Search) → Invariant cs assumed lemmas watch log base → IsSome base
@@ -219,7 +234,8 @@ goes_learnt cs assumed lemmas watch log base m back to next s k ne le none e f g
     (subst (λ (z : ℕ). (lemmas - length (log ++ m ∷ [])) * (watch.vars + 1) +
     (watch.vars - length (take to watch.steps)) < z * (watch.vars + 1) + (watch.vars - length watch.steps))
     (sym one)
-    (fewer_lemmas (lemmas - length (log ++ m ∷ [])) watch.vars (watch.vars - length (take to watch.steps)) (watch.vars - length watch.steps) (omega arith)))
+    (fewer_lemmas (lemmas - length (log ++ m ∷ [])) watch.vars (watch.vars - length (take to watch.steps))
+    (watch.vars - length watch.steps) (omega arith)))
 
 -- the trail is cut, and then the clause is added
 pub cut_and_added : (old cut new : Trail) (to : ℕ) (c d : List Literal) → cut ≡ record old { steps = take to old.steps }

@@ -31,7 +31,8 @@ reached_over : (xs : List ℕ) (cs : List (List Literal)) → All (IsOver xs) cs
 unfolding reached_by
 reached_over xs cs hs [] a found h e = subst (λ (z : List Literal). IsOver xs z) (some_eq _ _ e) h
 reached_over xs cs hs (n ∷ ns) a found h e =
-    let p = then_some (numbered cs n) (λ ys. option_and_then (λ next. reached_by cs next ns) (resolvent a ys)) found e in
+    let p = then_some (numbered cs n) (λ ys. option_and_then (λ next. reached_by cs next ns) (resolvent a ys)) found
+    e in
     let q = then_some (resolvent a p.0) (λ next. reached_by cs next ns) found p.2 in
     reached_over xs cs hs ns q.0 found (resolvent_over xs a p.0 q.0 h (All-numbered (IsOver xs) cs n p.0 hs p.1) q.1)
     q.2

@@ -12,7 +12,8 @@ use Rattle.pp_clause.specs.Log.{all_negated}
 use Rattle.pp_clause.proofs.Has.{has-here, has-there, has-All, same_var_cases, opposite_twice}
 use Rattle.pp_clause.proofs.Truth.{true_from_has}
 use Rattle.pp_trail.specs.declared.step.Step.{Step}
-use Rattle.pp_trail.specs.Trail.{IsTrail, IsUpTo, StandsAt, lits}
+use Rattle.pp_clause.specs.Bound.{IsUpTo}
+use Rattle.pp_trail.specs.Trail.{IsTrail, StandsAt, lits}
 use Rattle.pp_trail.proofs.Places.{IsAbsent, literal_at, has_at, absent_before, absent_lits, absent_from_lits}
 use Rattle.pp_trail.proofs.Growing.{lits_take}
 use Rattle.pp_cdcl.specs.Reading.{Reads, IsFull}
@@ -21,7 +22,9 @@ use Rattle.pp_cdcl.specs.Reading.{Reads, IsFull}
 pub step_up_to : (cs : List (List Literal)) (vars : ℕ) (steps : List Step) (i : ℕ) (s : Step) → IsTrail cs vars steps
     → StandsAt steps i s → s.lit.var ≤ vars
 step_up_to cs vars steps i s t at =
-    has-All (λ l. l.var ≤ vars) (lits (take (i + 1) steps)) s.lit (rw (lits_take (i + 1) steps) (All-take (λ l. l.var ≤ vars) (i + 1) (lits steps) t.up_to)) (has_at steps i (i + 1) s at (omega arith))
+    has-All (λ l. l.var ≤ vars) (lits (take (i + 1) steps)) s.lit
+    (rw (lits_take (i + 1) steps) (All-take (λ l. l.var ≤ vars) (i + 1) (lits steps) t.up_to))
+    (has_at steps i (i + 1) s at (omega arith))
 
 -- the values after one more step
 pub reads_more : (cs : List (List Literal)) (vars : ℕ) (steps : List Step) (values : List Bool) (i : ℕ) (s : Step)
@@ -32,7 +35,9 @@ reads_more cs vars steps values i s t at len h low = record {
       let p = literal_at steps (i + 1) m k in
       elim (cases_eq p.place i) [
         | inl e ↦ (
-            let same : p.step ≡ s = p.stands.is ∙ ap (λ (n : ℕ). get_or steps n p.step) e ∙ get_or_default steps i p.step s at.within ∙ sym at.is in
+            let same : p.step ≡ s =
+            p.stands.is ∙ ap (λ (n : ℕ). get_or steps n p.step) e ∙ get_or_default steps i p.step s at.within
+            ∙ sym at.is in
             let is : s.lit ≡ m = ap (λ (z : Step). z.lit) (sym same) ∙ p.is in
             let up : s.lit.var ≤ vars = step_up_to cs vars steps i s t at in
             subst (λ (z : Literal). get_or (set values (s.lit.var - 1) s.lit.positive) (z.var - 1) false ≡ z.positive)
@@ -40,10 +45,14 @@ reads_more cs vars steps values i s t at len h low = record {
             (get_or-set_same values (s.lit.var - 1) s.lit.positive false (omega arith)))
         | inr ne ↦ (
             let lt : p.place < i = (let b = p.before in omega arith) in
-            let there : has (lits (take i steps)) m ≡ true = subst (λ (z : Literal). has (lits (take i steps)) z ≡ true) p.is (has_at steps p.place i p.step p.stands lt) in
-            let far : m.var ≡ s.lit.var → ⊥ = absent_lits s.lit.var (take i steps) m (absent_before steps i s t.distinct at) there in
+            let there : has (lits (take i steps)) m ≡ true =
+            subst (λ (z : Literal). has (lits (take i steps)) z ≡ true) p.is
+            (has_at steps p.place i p.step p.stands lt) in
+            let far : m.var ≡ s.lit.var → ⊥ =
+            absent_lits s.lit.var (take i steps) m (absent_before steps i s t.distinct at) there in
             let one : 1 ≤ m.var = from_one steps p.place p.step m p.stands p.is t.from_one in
-            get_or-set_other values (s.lit.var - 1) (m.var - 1) s.lit.positive false (λ e. far (omega arith)) ∙ h.read m there)
+            get_or-set_other values (s.lit.var - 1) (m.var - 1) s.lit.positive false (λ e. far (omega arith))
+            ∙ h.read m there)
       ];
 }
   where

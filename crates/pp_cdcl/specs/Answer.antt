@@ -39,6 +39,7 @@ pub record Satisfies (cs : List (List Literal)) (assumed : List Literal) (values
   pub assumptions : list_all (lit_value (assigned values)) assumed ≡ true
 
 -- the log refutes the clauses under the assumptions, with at most so many lemmas
-pub record RefutesWithin (cs : List (List Literal)) (assumed : List Literal) (lemmas : ℕ) (log : List Lemma) : Type 0 where
-  pub few : length log ≤ lemmas
-  pub refutes : Refutes cs assumed log
+pub record RefutesWithin (cs : List (List Literal)) (assumed : List Literal) (lemmas : ℕ) (log : List Lemma) : Type 0
+  where
+    pub few : length log ≤ lemmas
+    pub refutes : Refutes cs assumed log

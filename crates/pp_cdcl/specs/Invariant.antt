@@ -7,7 +7,8 @@ use Rattle.pp_clause.specs.Log.{AllDerived, all_negated, lemma_clauses}
 use Rattle.pp_clause.specs.New.{IsClosed, AllNew}
 use Rattle.pp_clause.specs.declared.log.Lemma.{Lemma}
 use Rattle.pp_trail.specs.declared.step.Step.{Step}
-use Rattle.pp_trail.specs.Trail.{Trail, lits, IsUpTo, StandsAt}
+use Rattle.pp_clause.specs.Bound.{IsUpTo}
+use Rattle.pp_trail.specs.Trail.{Trail, lits, StandsAt}
 
 -- a decision stands at this place
 pub record IsDecision (steps : List Step) (place : ℕ) (step : Step) : Type 0 where
@@ -51,13 +52,15 @@ pub record IsLog (cs : List (List Literal)) (assumed : List Literal) (log : List
   pub none_refutes : All (λ m. all_negated assumed m.clause ≡ false) log
 
 -- the clauses of the watch are the given ones and then those of the lemmas, and some lemmas are left
-pub record Logged (cs : List (List Literal)) (assumed : List Literal) (lemmas : ℕ) (watch : Trail) (log : List Lemma) : Type 0 where
+pub record Logged (cs : List (List Literal)) (assumed : List Literal) (lemmas : ℕ) (watch : Trail) (log : List Lemma) :
+    Type 0 where
   pub clauses : watch.clauses ≡ cs ++ lemma_clauses log
   pub right : IsLog cs assumed log
   pub some_left : length log < lemmas
 
 -- the state of a solver over these clauses and assumptions
-pub record Invariant (cs : List (List Literal)) (assumed : List Literal) (lemmas : ℕ) (watch : Trail) (log : List Lemma) (base : Option ℕ) : Type 0 where
+pub record Invariant (cs : List (List Literal)) (assumed : List Literal) (lemmas : ℕ) (watch : Trail) (log : List Lemma)
+    (base : Option ℕ) : Type 0 where
   pub logged : Logged cs assumed lemmas watch log
   pub up_to : IsUpTo watch.vars assumed
   pub small : watch.vars ≤ 2 ^ 30

@@ -1,3 +1,5 @@
+//! The three answers of a solver.
+
 use pp_clause::{Assignment, Log};
 
 /// What a solver found.

@@ -21,6 +21,3 @@ mod solving;
 pub use answer::Answer;
 pub use solving::solve;
 pub use std::alloc::AllocError as NoMemory;
-
-#[cfg(test)]
-mod tests;

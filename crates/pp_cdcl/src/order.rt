@@ -1,6 +1,6 @@
-//! In which order variables are decided. The solver's answers are right in any order; this one is a guess at a good one:
-//! the variables that the last conflicts met come first, each with the sign that it had last. Of the heap only that its
-//! places are in range is proved.
+//! In which order variables are decided. The solver's answers are right in any order; this one is a guess at a good
+//! one: the variables that the last conflicts met come first, each with the sign that it had last. Of the heap only
+//! that its places are in range is proved.
 ghost use Rattle.std.specs.Prelude.{ℕ, ◌≡◌, ◌<◌, length, All, IfOk, OnOk};
 
 use crate::NoMemory;

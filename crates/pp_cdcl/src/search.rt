@@ -4,9 +4,8 @@ ghost use Rattle.pp_cdcl.specs.Invariant.{Invariant};
 
 use crate::NoMemory;
 use crate::order::Order;
-use pp_clause::{Clauses, Lit, Log};
+use pp_clause::{Clauses, Lit, Log, greatest_var, raised};
 use pp_learn::Analysis;
-use pp_trail::{greatest_var, raised};
 use pp_watch::Watch;
 use std::alloc::Global;
 use std::mem;

@@ -1,5 +1,6 @@
 -- A clause in ascending order of variable has no literal together with its negation.
-use Rattle.std.proofs.Common.{suc, ◌≡◌, ◌<◌, Bool, true, false, List, [], ◌∷◌, sym, refl, ap, ◌∙◌, inl, inr, arith, not, All}
+use Rattle.std.proofs.Common.{suc, ◌≡◌, ◌<◌, Bool, true, false, List, [], ◌∷◌, sym, refl, ap, ◌∙◌, inl, inr, arith, not}
+use Rattle.std.proofs.Common.{All}
 use Rattle.std.specs.Prelude.{AllPairs}
 use Rattle.pp_clause.specs.Literal.{Literal, opposite}
 use Rattle.pp_clause.specs.Clause.{has, HasBoth, SameLiterals, IsClause}
@@ -30,10 +31,12 @@ apart_of (y ∷ ys) h m k j =
     elim (has-cases y ys m k) [
       | inl e ↦ elim (has-cases y ys (opposite m) j) [
         | inl s ↦ not_itself m.positive (ap (λ (z : Literal). z.positive) (s ∙ sym e))
-        | inr b ↦ (let lt : y.var < m.var = has-All (λ l. y.var < l.var) ys (opposite m) (head_below y ys h) b in let same : m.var ≡ y.var = ap (λ (z : Literal). z.var) e in absurd (omega arith))
+        | inr b ↦ (let lt : y.var < m.var = has-All (λ l. y.var < l.var) ys (opposite m) (head_below y ys h) b in
+            let same : m.var ≡ y.var = ap (λ (z : Literal). z.var) e in absurd (omega arith))
       ]
       | inr a ↦ elim (has-cases y ys (opposite m) j) [
-        | inl s ↦ (let lt : y.var < m.var = has-All (λ l. y.var < l.var) ys m (head_below y ys h) a in let same : m.var ≡ y.var = ap (λ (z : Literal). z.var) s in absurd (omega arith))
+        | inl s ↦ (let lt : y.var < m.var = has-All (λ l. y.var < l.var) ys m (head_below y ys h) a in
+            let same : m.var ≡ y.var = ap (λ (z : Literal). z.var) s in absurd (omega arith))
         | inr b ↦ apart_of ys (tail_ascends y ys h) m a b
       ]
     ]
@@ -50,7 +53,8 @@ pub not_both_from : (c ls : List Literal) → SameLiterals c ls → IsClause c �
 not_both_from c ls e o h = (consistent_same c ls e (clause_consistent c o)).apart h.literal h.itself h.negation
 
 -- a clause is determined by its set
-head_same : (x y : Literal) (xs ys : List Literal) → Ascends (x ∷ xs) → Ascends (y ∷ ys) → SameLiterals (x ∷ xs) (y ∷ ys) → x ≡ y
+head_same : (x y : Literal) (xs ys : List Literal) → Ascends (x ∷ xs) → Ascends (y ∷ ys)
+    → SameLiterals (x ∷ xs) (y ∷ ys) → x ≡ y
 head_same x y xs ys h k e =
     elim (has-cases y ys x (sym (e.same x) ∙ has-here x xs)) [
       | inl s ↦ s
@@ -61,7 +65,8 @@ head_same x y xs ys h k e =
       ]
     ]
 
-tail_has : (x y : Literal) (xs ys : List Literal) → Ascends (x ∷ xs) → SameLiterals (x ∷ xs) (y ∷ ys) → x ≡ y → (m : Literal) → has xs m ≡ true → has ys m ≡ true
+tail_has : (x y : Literal) (xs ys : List Literal) → Ascends (x ∷ xs) → SameLiterals (x ∷ xs) (y ∷ ys) → x ≡ y
+    → (m : Literal) → has xs m ≡ true → has ys m ≡ true
 tail_has x y xs ys h e s m k =
     elim (has-cases y ys m (sym (e.same m) ∙ has-there x xs m k)) [
       | inr a ↦ a
@@ -77,7 +82,10 @@ ascending_unique (x ∷ xs) (y ∷ ys) h k e =
     let s : x ≡ y = head_same x y xs ys h k e in
     let back : SameLiterals (y ∷ ys) (x ∷ xs) = record { same = λ m. sym (e.same m) } in
     let rest : xs ≡ ys = ascending_unique xs ys (tail_ascends x xs h) (tail_ascends y ys k)
-    (record { same = λ m. same_bool (has xs m) (has ys m) (tail_has x y xs ys h e s m) (tail_has y x ys xs k back (sym s) m) }) in
+    (record {
+      same = λ m. same_bool (has xs m) (has ys m) (tail_has x y xs ys h e s m)
+          (tail_has y x ys xs k back (sym s) m);
+    }) in
     cc
 
 pub clause_unique : (c d : List Literal) → IsClause c → IsClause d → SameLiterals c d → c ≡ d

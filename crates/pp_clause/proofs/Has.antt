@@ -1,5 +1,6 @@
 -- Membership of a literal in a list, a step at a time.
-use Rattle.std.proofs.Common.{ℕ, ◌≡◌, Bool, true, false, cond, List, [], ◌∷◌, ◌++◌, sym, refl, ap, ◌∙◌, subst, inl, inr, ◌⊎◌, All, eqb, not}
+use Rattle.std.proofs.Common.{ℕ, ◌≡◌, Bool, true, false, cond, List, [], ◌∷◌, ◌++◌, sym, refl, ap, ◌∙◌, subst, inl, inr}
+use Rattle.std.proofs.Common.{◌⊎◌, All, eqb, not}
 use Rattle.std.specs.Prelude.{filter, ◌||◌}
 use Rattle.std.specs.Bool.{beq}
 use Rattle.std.proofs.lemmas.Bool.{eqb-true, eq-eqb, and_parts, and_from, or_cases, or_left, or_right}
@@ -26,7 +27,9 @@ same_bool true b f g = sym (f refl)
 same_bool false true f g = g refl
 same_bool false false f g = refl
 
-pub literal_of : (x y : ℕ) (s t : Bool) → x ≡ y → s ≡ t → (let l : Literal = record { var = x; positive = s } in let m : Literal = record { var = y; positive = t } in l ≡ m)
+pub literal_of : (x y : ℕ) (s t : Bool) → x ≡ y → s ≡ t
+    → (let l : Literal = record { var = x; positive = s } in let m : Literal = record { var = y; positive = t } in
+    l ≡ m)
 literal_of x y s t h k = cc
 
 pub literal_eq-true : (l m : Literal) → literal_eq l m ≡ true → l ≡ m
@@ -35,7 +38,8 @@ literal_eq-true l m h =
     literal_of l.var m.var l.positive m.positive (eqb-true l.var m.var p.0) (beq-true l.positive m.positive p.1)
 
 pub literal_eq-same : (l : Literal) → literal_eq l l ≡ true
-literal_eq-same l = and_from (eqb l.var l.var) (beq l.positive l.positive) (eq-eqb l.var l.var refl) (beq-same l.positive)
+literal_eq-same l = and_from (eqb l.var l.var) (beq l.positive l.positive) (eq-eqb l.var l.var refl)
+    (beq-same l.positive)
 
 pub not_twice : (b : Bool) → not (not b) ≡ b
 not_twice true = refl
@@ -63,7 +67,8 @@ has-there x xs m h = or_right (literal_eq m x) (has xs m) h
 pub has-append : (xs ys : List Literal) (m : Literal) → has (xs ++ ys) m ≡ (has xs m || has ys m)
 has-append xs ys m = list_any-append (literal_eq m) xs ys
 
-pub has-append_cases : (xs ys : List Literal) (m : Literal) → has (xs ++ ys) m ≡ true → (has xs m ≡ true) ⊎ (has ys m ≡ true)
+pub has-append_cases : (xs ys : List Literal) (m : Literal) → has (xs ++ ys) m ≡ true → (has xs m ≡ true)
+    ⊎ (has ys m ≡ true)
 has-append_cases xs ys m h = or_cases (has xs m) (has ys m) (sym (has-append xs ys m) ∙ h)
 
 pub has-append_left : (xs ys : List Literal) (m : Literal) → has xs m ≡ true → has (xs ++ ys) m ≡ true
@@ -95,7 +100,8 @@ pub All-from_has : (P : Literal → Type 0) (xs : List Literal) → ((m : Litera
 All-from_has P [] f = All-nil P
 All-from_has P (x ∷ xs) f = All-cons P x xs (f x (has-here x xs)) (All-from_has P xs (λ m h. f m (has-there x xs m h)))
 
-pub has-filter : (p : Literal → Bool) (xs : List Literal) (m : Literal) → has xs m ≡ true → p m ≡ true → has (filter p xs) m ≡ true
+pub has-filter : (p : Literal → Bool) (xs : List Literal) (m : Literal) → has xs m ≡ true → p m ≡ true
+    → has (filter p xs) m ≡ true
 has-filter p [] m h k = h
 has-filter p (x ∷ xs) m h k =
     elim (has-cases x xs m h) [
@@ -103,11 +109,14 @@ has-filter p (x ∷ xs) m h k =
           ap (λ (b : Bool). has (cond b (x ∷ filter p xs) (filter p xs)) m) here ∙ has-at_head x (filter p xs) m e)
       | inr j ↦ (let rest : has (filter p xs) m ≡ true = has-filter p xs m j k in
           let both : (b : Bool) → has (cond b (x ∷ filter p xs) (filter p xs)) m ≡ true =
-          (λ (b : Bool). elim b as (λ v. has (cond v (x ∷ filter p xs) (filter p xs)) m ≡ true) [ true ↦ has-there x (filter p xs) m rest | false ↦ rest ]) in
+          (λ (b : Bool). elim b as (λ v. has (cond v (x ∷ filter p xs) (filter p xs)) m ≡ true)
+          [ true ↦ has-there x (filter p xs) m rest | false ↦ rest ]) in
           both (p x))
     ]
 
-filter-has_cons : (p : Literal → Bool) (x : Literal) (xs : List Literal) (m : Literal) → (has (filter p xs) m ≡ true → (has xs m ≡ true) × (p m ≡ true)) → (b : Bool) → p x ≡ b → has (cond b (x ∷ filter p xs) (filter p xs)) m ≡ true → (has (x ∷ xs) m ≡ true) × (p m ≡ true)
+filter-has_cons : (p : Literal → Bool) (x : Literal) (xs : List Literal) (m : Literal)
+    → (has (filter p xs) m ≡ true → (has xs m ≡ true) × (p m ≡ true)) → (b : Bool) → p x ≡ b
+    → has (cond b (x ∷ filter p xs) (filter p xs)) m ≡ true → (has (x ∷ xs) m ≡ true) × (p m ≡ true)
 filter-has_cons p x xs m ih true e k =
     elim (has-cases x (filter p xs) m k) [
       | inl s ↦ (has-at_head x xs m s, ap p s ∙ e)
@@ -115,7 +124,8 @@ filter-has_cons p x xs m ih true e k =
     ]
 filter-has_cons p x xs m ih false e k = (has-there x xs m (ih k).0, (ih k).1)
 
-pub filter-has : (p : Literal → Bool) (xs : List Literal) (m : Literal) → has (filter p xs) m ≡ true → (has xs m ≡ true) × (p m ≡ true)
+pub filter-has : (p : Literal → Bool) (xs : List Literal) (m : Literal) → has (filter p xs) m ≡ true → (has xs m ≡ true)
+    × (p m ≡ true)
 filter-has p [] m h = absurd (has-nil m h)
 filter-has p (x ∷ xs) m h = filter-has_cons p x xs m (filter-has p xs m) (p x) refl h
 

@@ -8,3 +8,4 @@ pub mod Resolving
 pub mod Soundness
 pub mod Counting
 pub mod Climbing
+pub mod Bounds

@@ -13,4 +13,5 @@ written_back xs s e =
     take-append-le (length xs) s (drop (length s) xs) (omega arith) ∙ ap (λ (n : ℕ). take n s) (sym e) ∙ take-length s
 
 pub same_from_permutation : (xs ys zs : List Literal) → IsPermutation xs ys → xs ≡ zs → SameLiterals ys zs
-same_from_permutation xs ys zs p e = record { same = λ l. sym (list_any-IsPermutation (literal_eq l) xs ys p) ∙ ap (λ (q : List Literal). has q l) e }
+same_from_permutation xs ys zs p e =
+    record { same = λ l. sym (list_any-IsPermutation (literal_eq l) xs ys p) ∙ ap (λ (q : List Literal). has q l) e }

@@ -24,8 +24,8 @@ pub record HasBoth (ls : List Literal) : Type 0 where
   pub itself : has ls literal ≡ true
   pub negation : has ls (opposite literal) ≡ true
 
--- a clause, written in ascending order of variable: so no literal stands there twice,
--- and none together with its negation
+-- a clause, written in ascending order of variable: so no literal stands there twice, and none together with its
+-- negation
 pub record IsClause (ls : List Literal) : Type 0 where
   pub ascending : AllPairs (λ l m. l.var < m.var) ls
   pub in_range : All (λ l. IsVariable l.var) ls

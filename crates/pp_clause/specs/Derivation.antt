@@ -1,5 +1,6 @@
 -- What a chain of clause numbers derives, by resolution. (own; resolution as in propositional logic)
-use Rattle.std.specs.Prelude.{ℕ, zero, suc, ◌<◌, ◌≤◌, ◌^◌, ◌==◌, ◌≡◌, List, [], ◌∷◌, ◌++◌, Option, Some, None, not, filter, slice_get, length, All}
+use Rattle.std.specs.Prelude.{ℕ, zero, suc, ◌<◌, ◌≤◌, ◌^◌, ◌==◌, ◌≡◌, List, [], ◌∷◌, ◌++◌, Option, Some, None, not}
+use Rattle.std.specs.Prelude.{filter, slice_get, length, All}
 use Rattle.std.specs.Option.{option_and_then, option_map}
 use Rattle.pp_clause.specs.Literal.{Literal, opposite}
 use Rattle.pp_clause.specs.Clause.{has, SameLiterals}
@@ -32,7 +33,8 @@ resolvent reached clause = option_map (λ l. without l.var (reached ++ clause)) 
 unfoldable pub reached_by : List (List Literal) → List Literal → List ℕ → Option (List Literal)
 reached_by cs reached [] = Some reached
 reached_by cs reached (n ∷ ns) =
-    option_and_then (λ clause. option_and_then (λ next. reached_by cs next ns) (resolvent reached clause)) (numbered cs n)
+    option_and_then (λ clause. option_and_then (λ next. reached_by cs next ns) (resolvent reached clause))
+    (numbered cs n)
 
 -- what a chain derives: it starts with its first clause
 unfoldable pub derived_by : List (List Literal) → List ℕ → Option (List Literal)

@@ -1,5 +1,6 @@
 pub mod Literal
 pub mod Clause
+pub mod Bound
 pub mod Assignment
 pub mod Derivation
 pub mod Log

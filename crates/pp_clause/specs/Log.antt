@@ -6,8 +6,7 @@ use Rattle.pp_clause.specs.Clause.{has, IsClause}
 use Rattle.pp_clause.specs.Derivation.{Derives, IsChain}
 use Rattle.pp_clause.specs.declared.log.Lemma.{Lemma}
 
--- each lemma is derived by its chain from the given clauses and the lemmas before it,
--- which are numbered in this order
+-- each lemma is derived by its chain from the given clauses and the lemmas before it, which are numbered in this order
 abbrev pub AllDerived : List (List Literal) → List Lemma → Type 0
 AllDerived cs [] = ⊤
 AllDerived cs (m ∷ ms) = Derives cs m.chain m.clause × AllDerived (cs ++ m.clause ∷ []) ms

@@ -1,3 +1,5 @@
+//! Assignments: a truth value for each variable.
+
 ghost use Rattle.std.specs.Prelude.{◌≡◌, ◌≤◌, IfOk};
 ghost use Rattle.pp_clause.specs.Assignment.{assigned};
 

@@ -1,3 +1,5 @@
+//! Chains: the numbers of the clauses by which a lemma is derived.
+
 ghost use Rattle.std.specs.Prelude.{ℕ, ◌≡◌, [], IfOk, IfSome, IfNone, Any, ◌⊎◌};
 ghost use Rattle.pp_clause.specs.Derivation.{IsChain};
 

@@ -1,3 +1,5 @@
+//! Clauses: sets of literals, kept in ascending order.
+
 ghost use Rattle.std.specs.Prelude.{ℕ, ◌≡◌, ◌<◌, ◌≤◌, ◌↔◌, Bool, true, IsTrue, IfOk, IfNone, IfSome};
 ghost use Rattle.pp_clause.specs.Literal.{Literal};
 ghost use Rattle.pp_clause.specs.Clause.{HasBoth, SameLiterals, IsClause, clause_value, IsInOrder};

@@ -7,6 +7,7 @@
 #![tactic(auto)]
 
 pub mod assignment;
+pub mod bound;
 pub mod chain;
 pub mod clause;
 pub mod clauses;
@@ -17,6 +18,7 @@ pub mod log;
 pub mod spent;
 
 pub use assignment::Assignment;
+pub use bound::{greatest_var, raised};
 pub use chain::Chain;
 pub use clause::{Clause, is_ascending};
 pub use clauses::Clauses;
@@ -25,6 +27,3 @@ pub use lits::Lits;
 pub use log::{Lemma, Log};
 pub use spent::Spent;
 pub use std::alloc::AllocError as NoMemory;
-
-#[cfg(test)]
-mod tests;

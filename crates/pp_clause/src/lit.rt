@@ -1,3 +1,5 @@
+//! Literals: a variable or its negation, in one number.
+
 ghost use Rattle.std.specs.Prelude.{◌≡◌, ◌^◌, ◌≤◌, true};
 
 use std::marker::Model;

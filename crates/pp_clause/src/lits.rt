@@ -1,3 +1,5 @@
+//! Lists of literals, as of assumptions.
+
 ghost use Rattle.std.specs.Prelude.{◌≡◌, [], ◌∷◌, ◌++◌, OnOk, OnErr};
 
 use crate::NoMemory;

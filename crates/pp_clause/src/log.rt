@@ -1,3 +1,5 @@
+//! Lemmas and logs: what was derived, and how.
+
 ghost use Rattle.std.specs.Prelude.{◌≡◌, [], ◌∷◌, ◌++◌, OnOk, OnErr, All};
 ghost use Rattle.pp_clause.specs.Log.{IsLemma};
 

@@ -1,3 +1,5 @@
+//! What a solver hands out that has spent its lemmas.
+
 use crate::clauses::Clauses;
 use crate::lits::Lits;
 use crate::log::Log;

@@ -10,7 +10,8 @@ use Rattle.pp_trail.specs.declared.step.Step.{Step}
 use Rattle.pp_trail.specs.Trail.{lits, IsTrail, IsFalse}
 use Rattle.pp_trail.proofs.Places.{has_at}
 use Rattle.pp_trail.proofs.Negated.{negated_at, all_negated_from}
-use Rattle.pp_learn.specs.Marks.{is_marked, has_var, Fits, MarksAll, AreBlank, IsClear}
+use Rattle.pp_clause.specs.Bound.{Fits}
+use Rattle.pp_learn.specs.Marks.{is_marked, has_var, MarksAll, AreBlank, IsClear}
 use Rattle.pp_learn.specs.Reached.{IsTrailFor, Reached}
 use Rattle.pp_learn.proofs.Places.{literal_in, step_in_range, trail_consistent}
 use Rattle.pp_learn.proofs.Chains.{derived_one, numbered_within, numbered_is}
@@ -62,7 +63,8 @@ begins cs vars steps old new n c got chain trail f look same blank all is = reco
         (all.same m.var ∙ false_or (is_marked old m.var) (has_var c m.var) (blank.blank m.var) ∙ has_var_from c m h)
         (false_at cs (lits steps) n c got f look same m h))
         (λ h. let p = and_parts (is_marked new m.var) (has (lits steps) (opposite m)) h in
-        let b = bearer c m.var (sym (false_or (is_marked old m.var) (has_var c m.var) (blank.blank m.var)) ∙ sym (all.same m.var) ∙ p.0) in
+        let b = bearer c m.var (sym (false_or (is_marked old m.var) (has_var c m.var) (blank.blank m.var))
+        ∙ sym (all.same m.var) ∙ p.0) in
         elim (same_var_cases b.literal m b.is) [
           | inl e ↦ subst (λ (z : Literal). has c z ≡ true) e b.held
           | inr e ↦ absurd ((trail_consistent cs vars steps trail).apart m
@@ -82,7 +84,9 @@ begins_later cs steps old new n c got f look same blank all start clear = record
   is = f.is ∙ ap (λ (z : List Literal). Some z) (sym (conflict_clause cs (lits steps) n c got f look same));
   negated = all_negated_from (lits (take start steps)) c (λ m h.
       let p = literal_in steps (opposite m) (false_at cs (lits steps) n c got f look same m h) in
-      let marked : is_marked new p.step.lit.var ≡ true = ap (is_marked new) (ap (λ (z : Literal). z.var) p.is) ∙ all.same m.var ∙ false_or (is_marked old m.var) (has_var c m.var) (blank.blank m.var) ∙ has_var_from c m h in
+      let marked : is_marked new p.step.lit.var ≡ true =
+      ap (is_marked new) (ap (λ (z : Literal). z.var) p.is) ∙ all.same m.var
+      ∙ false_or (is_marked old m.var) (has_var c m.var) (blank.blank m.var) ∙ has_var_from c m h in
       elim (cases_lt p.place start) [
         | inl lt ↦ subst (λ (z : Literal). has (lits (take start steps)) z ≡ true) p.is
             (has_at steps p.place start p.step p.stands lt)

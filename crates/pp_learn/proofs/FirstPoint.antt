@@ -41,7 +41,9 @@ two_open cs steps marks chain start i j trail r a b low lt = record {
   other = opposite b.step.lit;
   one_held = step_shown steps marks r.found i a.step r.shown a.at a.marked;
   other_held = step_shown steps marks r.found j b.step r.shown b.at b.marked;
-  differ = λ e. (let same : i ≡ j = one_place cs (length marks - 1) steps i j a.step b.step trail a.at b.at (ap (λ (z : Literal). z.var) e) in absurd (omega arith));
+  differ = λ e. (let same : i ≡ j =
+      one_place cs (length marks - 1) steps i j a.step b.step trail a.at b.at (ap (λ (z : Literal). z.var) e) in
+      absurd (omega arith));
   one_open = open_before cs (length marks - 1) steps start i a.step trail a.at low;
   other_open = open_before cs (length marks - 1) steps start j b.step trail b.at (omega arith);
 }
@@ -60,7 +62,8 @@ before_more cs set old new n is b two = record {
       let front : take k new ≡ take k old = ap (take k) is ∙ take-append-le k old (n ∷ []) (omega arith) in
       elim (cases_lt k (length old)) [
         | inl in' ↦ subst (λ (z : List ℕ). LeavesTwoOpen cs set z) (sym front) (b.before k low in')
-        | inr ge ↦ (let whole : take k new ≡ old = ap (take k) is ∙ take_at old (n ∷ []) k (let e : length old ≡ k = omega arith in e) in
+        | inr ge ↦ (let whole : take k new ≡ old =
+            ap (take k) is ∙ take_at old (n ∷ []) k (let e : length old ≡ k = omega arith in e) in
             subst (λ (z : List ℕ). LeavesTwoOpen cs set z) (sym whole) two)
       ]);
 }
@@ -109,7 +112,8 @@ leaves_open cs steps marks chain start point s l trail r p at is = record {
       | inr high ↦ elim (cases_lt q.place point) [
         | inl lt ↦ absurd (false_not_true (sym (p.before.clear q.place q.step high lt q.at) ∙ q.marked))
         | inr up ↦ elim (cases_lt point q.place) [
-          | inl lt ↦ absurd (false_not_true (sym (p.after.clear q.place q.step (omega arith) q.at.within q.at) ∙ q.marked))
+          | inl lt ↦ absurd (false_not_true
+              (sym (p.after.clear q.place q.step (omega arith) q.at.within q.at) ∙ q.marked))
           | inr down ↦ (let same : q.step ≡ s = same_step steps q.place point q.step s q.at at (omega arith) in
               absurd (ne (sym (opposite_twice m) ∙ ap opposite (sym q.is ∙ ap (λ (z : Step). z.lit) same) ∙ sym is)))
         ]
@@ -136,7 +140,12 @@ pub seeks_on : (steps : List Step) (old new : List Bool) (start other below plac
 seeks_on steps old new start other below place next k b t n = record {
   low = b.low;
   le = n.low;
-  spare = record { step = b.marked.step; at = b.marked.at; marked = t.still below b.marked.step (λ e. (let h = b.high in omega arith)) b.marked.at b.marked.marked };
+  spare = record {
+    step = b.marked.step;
+    at = b.marked.at;
+    marked =
+        t.still below b.marked.step (λ e. (let h = b.high in omega arith)) b.marked.at b.marked.marked;
+  };
   here = n.marked;
   rest = record {
     clear = λ i s low high at. elim (cases_lt i place) [

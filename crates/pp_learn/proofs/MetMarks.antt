@@ -97,7 +97,8 @@ pub marks_already : (marks : List Bool) (l : Literal) (v : ℕ) → v ≡ l.var 
     → MarksAll marks marks (l ∷ [])
 marks_already marks l v is h = record {
   same = λ x. elim (cases_eq x v) [
-    | inl e ↦ (let here : is_marked marks x ≡ true = ap (is_marked marks) e ∙ h in here ∙ sym (or_left (is_marked marks x) (has_var (l ∷ []) x) here))
+    | inl e ↦ (let here : is_marked marks x ≡ true = ap (is_marked marks) e ∙ h in
+        here ∙ sym (or_left (is_marked marks x) (has_var (l ∷ []) x) here))
     | inr ne ↦ or_nothing (is_marked marks x) ∙ ap (λ (b : Bool). is_marked marks x || (b || false))
         (sym (ne_eqb l.var x (λ e. ne (sym e ∙ sym is))))
   ];
@@ -138,7 +139,8 @@ left_more marks xs i v lt is in' a = record {
   left = λ x h. elim (cases_eq x v) [
     | inl e ↦ absurd (false_not_true (sym (marked_same marks v x false in' e) ∙ h))
     | inr ne ↦ (let there : is_met (v ∷ drop (i + 1) xs) x ≡ true =
-        ap (λ (z : List ℕ). is_met z x) (sym (drop_more xs i v lt ∙ ap (λ (n : ℕ). n ∷ drop (i + 1) xs) (sym is))) ∙ a.left x (sym (marked_far marks v x false ne) ∙ h) in
+        ap (λ (z : List ℕ). is_met z x) (sym (drop_more xs i v lt ∙ ap (λ (n : ℕ). n ∷ drop (i + 1) xs) (sym is)))
+        ∙ a.left x (sym (marked_far marks v x false ne) ∙ h) in
         elim (or_cases (eqb v x) (is_met (drop (i + 1) xs) x) there)
         [ inl e ↦ absurd (ne (sym (eqb-true v x e))) | inr r ↦ r ])
   ];
@@ -215,7 +217,8 @@ gathers_skip steps marks xs i v found lt is un g = record {
       and_from (is_met (take (i + 1) xs) m.var) (is_marked marks m.var && has (lits steps) (opposite m))
       (subst (λ (z : List ℕ). is_met z m.var ≡ true) (sym (take_push xs i v lt is)) (met_left (take i xs) v m.var p.0))
       p.1)
-      (λ h. let p = and_parts (is_met (take (i + 1) xs) m.var) (is_marked marks m.var && has (lits steps) (opposite m)) h in
+      (λ h. let p = and_parts (is_met (take (i + 1) xs) m.var) (is_marked marks m.var && has (lits steps) (opposite m))
+      h in
       let q = and_parts (is_marked marks m.var) (has (lits steps) (opposite m)) p.1 in
       elim (met_cases (take i xs) v m.var (subst (λ (z : List ℕ). is_met z m.var ≡ true) (take_push xs i v lt is) p.0)) [
         | inl a ↦ and_from (is_met (take i xs) m.var) (is_marked marks m.var && has (lits steps) (opposite m)) a p.1
@@ -232,7 +235,8 @@ pub gathers_more : (cs : List (List Literal)) (vars : ℕ) (steps : List Step) (
 gathers_more cs vars steps marks xs i v place found s l trail lt is at stands neg g = record {
   same = λ m. same_bool _ _
       (λ h. elim (has-push_cases found l m h) [
-        | inl j ↦ (let p = and_parts (is_met (take i xs) m.var) (is_marked marks m.var && has (lits steps) (opposite m)) (sym (g.same m) ∙ j) in
+        | inl j ↦ (let p = and_parts (is_met (take i xs) m.var) (is_marked marks m.var && has (lits steps) (opposite m))
+            (sym (g.same m) ∙ j) in
             and_from (is_met (take (i + 1) xs) m.var) (is_marked marks m.var && has (lits steps) (opposite m))
             (later m.var p.0) p.1)
         | inr e ↦ (let var : m.var ≡ v = ap (λ (z : Literal). z.var) (e ∙ neg) ∙ here in
@@ -243,7 +247,8 @@ gathers_more cs vars steps marks xs i v place found s l trail lt is at stands ne
             (subst (λ (z : Literal). has (lits steps) z ≡ true) (sym (ap opposite (e ∙ neg) ∙ opposite_twice s.lit))
             (has_step steps place s stands))))
       ])
-      (λ h. let p = and_parts (is_met (take (i + 1) xs) m.var) (is_marked marks m.var && has (lits steps) (opposite m)) h in
+      (λ h. let p = and_parts (is_met (take (i + 1) xs) m.var) (is_marked marks m.var && has (lits steps) (opposite m))
+      h in
       let q = and_parts (is_marked marks m.var) (has (lits steps) (opposite m)) p.1 in
       elim (met_cases (take i xs) v m.var (subst (λ (z : List ℕ). is_met z m.var ≡ true) (take_push xs i v lt is) p.0)) [
         | inl a ↦ has-append_left found (l ∷ []) m (g.same m
@@ -310,7 +315,8 @@ follows_more cs vars steps marks end xs i v place back new trail lt is at le hig
   rest = λ k s stands low h met. elim (met_cases (take i xs) v s.lit.var
       (subst (λ (z : List ℕ). is_met z s.lit.var ≡ true) (take_push xs i v lt is) met)) [
         | inl a ↦ (let b = f.rest k s stands low h a in omega arith)
-        | inr e ↦ (let one : k ≡ place = one_place cs vars steps k place s at.step trail stands at.at (sym e ∙ sym at.is) in
+        | inr e ↦ (let one : k ≡ place =
+            one_place cs vars steps k place s at.step trail stands at.at (sym e ∙ sym at.is) in
             let b = own (omega arith) in omega arith)
       ];
   last = last;
@@ -335,7 +341,8 @@ follows_all steps marks end xs i back le a f = record {
   within = f.within;
   rest = record {
     clear = λ k s low high at. false_from_ne_true (is_marked marks s.lit.var) (λ h.
-        let b = f.rest k s at high h (subst (λ (z : List ℕ). is_met z s.lit.var ≡ true) (sym (take_all i xs le)) (a.all s.lit.var h)) in
+        let b = f.rest k s at high h
+        (subst (λ (z : List ℕ). is_met z s.lit.var ≡ true) (sym (take_all i xs le)) (a.all s.lit.var h)) in
         omega arith);
   };
   last = f.last;

@@ -81,5 +81,6 @@ step_in_range cs vars steps i s trail at = (
     within : (ss : List Step) (k : ℕ) → ((j : ℕ) (d : Literal) → j < length (lits ss)
         → (get_or (lits ss) j d).var ≤ vars) → StandsAt ss k s → s.lit.var ≤ vars
     within ss k h a =
-        let b : (get_or (lits ss) k s.lit).var ≤ vars = h k s.lit (omega (arith, a.within, length-map ss (λ (z : Step). z.lit))) in
+        let b : (get_or (lits ss) k s.lit).var ≤ vars =
+        h k s.lit (omega (arith, a.within, length-map ss (λ (z : Step). z.lit))) in
         subst (λ (z : Literal). z.var ≤ vars) (by_place ss k s ∙ ap (λ (z : Step). z.lit) (sym a.is)) b

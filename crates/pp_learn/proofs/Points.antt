@@ -18,7 +18,8 @@ use Rattle.pp_learn.specs.Conflict.{decisions, IsBack}
 use Rattle.pp_learn.proofs.Places.{literal_in, literal_place, has_step, one_place, same_step}
 
 -- where the analysis ends: one step alone is marked from `start` on
-pub record Ends (cs : List (List Literal)) (vars : ℕ) (steps : List Step) (marks : List Bool) (start point back : ℕ) (c : List Literal) : Type 0 where
+pub record Ends (cs : List (List Literal)) (vars : ℕ) (steps : List Step) (marks : List Bool) (start point back : ℕ)
+    (c : List Literal) : Type 0 where
   pub trail : IsTrail cs vars steps
   pub alone : IsPoint steps marks start point
   pub shown : Shows marks (lits steps) c
@@ -36,7 +37,10 @@ point_kept steps old new start point k p = record {
         ∙ p.marked.marked;
   };
   before = record { clear = λ i s low high at. k.same i s low at ∙ p.before.clear i s low high at };
-  after = record { clear = λ i s low high at. k.same i s (let h : start ≤ point = p.low in omega arith) at ∙ p.after.clear i s low high at };
+  after = record {
+    clear =
+        λ i s low high at. k.same i s (let h : start ≤ point = p.low in omega arith) at ∙ p.after.clear i s low high at;
+  };
 }
 
 -- a literal of the clause that is shown, as a step
@@ -52,7 +56,14 @@ pub shown_step : (steps : List Step) (marks : List Bool) (c : List Literal) (m :
 shown_step steps marks c m k h =
     let both = and_parts (is_marked marks m.var) (has (lits steps) (opposite m)) (sym (k.same m) ∙ h) in
     let p = literal_in steps (opposite m) both.1 in
-    record { place = p.place; step = p.step; at = p.stands; is = p.is; marked = ap (is_marked marks) (ap (λ (z : Literal). z.var) p.is) ∙ both.0 }
+    record {
+      place = p.place;
+      step = p.step;
+      at = p.stands;
+      is = p.is;
+      marked =
+          ap (is_marked marks) (ap (λ (z : Literal). z.var) p.is) ∙ both.0;
+    }
 
 pub step_shown : (steps : List Step) (marks : List Bool) (c : List Literal) (i : ℕ) (s : Step)
     → Shows marks (lits steps) c → StandsAt steps i s → is_marked marks s.lit.var ≡ true → has c (opposite s.lit) ≡ true
@@ -85,7 +96,8 @@ others_before cs vars steps marks start point back c s u m e at is h ne =
             | inr high ↦ elim (cases_lt p.place point) [
               | inl lt ↦ absurd (false_not_true (sym (e.alone.before.clear p.place p.step high lt p.at) ∙ p.marked))
               | inr up ↦ elim (cases_lt point p.place) [
-                | inl lt ↦ absurd (false_not_true (sym (e.alone.after.clear p.place p.step (omega arith) p.at.within p.at) ∙ p.marked))
+                | inl lt ↦ absurd (false_not_true
+                    (sym (e.alone.after.clear p.place p.step (omega arith) p.at.within p.at) ∙ p.marked))
                 | inr down ↦ (let same : p.step ≡ s = same_step steps p.place point p.step s p.at at (omega arith) in
                     absurd (ne (sym (opposite_twice m) ∙ ap opposite (sym p.is ∙ ap (λ (z : Step). z.lit) same)
                     ∙ sym is)))
@@ -111,14 +123,18 @@ ends_back cs vars steps marks start point back c s u e at is = record {
     by_back zero same n o = omega arith
     by_back (suc q) same n o =
         let last : MarkedAt steps marks q = e.follows.last q (omega arith) in
-        let held : has c (opposite last.step.lit) ≡ true = step_shown steps marks c q last.step e.shown last.at last.marked in
+        let held : has c (opposite last.step.lit) ≡ true =
+        step_shown steps marks c q last.step e.shown last.at last.marked in
         let apart : opposite last.step.lit ≢ u = λ k.
-        let one : q ≡ point = one_place cs vars steps q point last.step s e.trail last.at at (ap (λ (z : Literal). z.var) (k ∙ is)) in
+        let one : q ≡ point = one_place cs vars steps q point last.step s e.trail last.at at
+        (ap (λ (z : Literal). z.var) (k ∙ is)) in
         let within : back ≤ start = e.follows.within in
         let low : start ≤ point = e.alone.low in
         omega arith in
-        let p = literal_at steps n (opposite (opposite last.step.lit)) (o.negated (opposite last.step.lit) held apart) in
-        let one : p.place ≡ q = literal_place cs vars steps n q (opposite (opposite last.step.lit)) last.step e.trail p last.at refl in
+        let p = literal_at steps n (opposite (opposite last.step.lit))
+        (o.negated (opposite last.step.lit) held apart) in
+        let one : p.place ≡ q =
+        literal_place cs vars steps n q (opposite (opposite last.step.lit)) last.step e.trail p last.at refl in
         let before : p.place < n = p.before in
         omega arith
 
@@ -145,7 +161,8 @@ others_more steps n k c u le o = record {
   negated = λ m h ne.
       let p = literal_at steps n (opposite m) (o.negated m h ne) in
       let lt : p.place < n = p.before in
-      subst (λ (z : Literal). has (lits (take k steps)) z ≡ true) p.is (has_at steps p.place k p.step p.stands (omega arith));
+      subst (λ (z : Literal). has (lits (take k steps)) z ≡ true) p.is
+      (has_at steps p.place k p.step p.stands (omega arith));
 }
 
 -- so the clause is new
@@ -205,7 +222,9 @@ pub shown_decided : (steps : List Step) (marks : List Bool) (c : List Literal) �
     → AreDecisions steps marks 0 → all_negated (decisions steps) c ≡ true
 shown_decided steps marks c k d = all_negated_from (decisions steps) c (λ m h.
     let p = shown_step steps marks c m k h in
-    subst (λ (z : Literal). has (decisions steps) z ≡ true) p.is (decision_there steps p.place p.step p.at.within p.at.is (d.decided p.place p.step (omega arith) p.at p.marked)))
+    subst (λ (z : Literal). has (decisions steps) z ≡ true) p.is
+    (decision_there steps p.place p.step p.at.within p.at.is
+    (d.decided p.place p.step (omega arith) p.at p.marked)))
 
 pub refuted : (steps read : List Step) (marks : List Bool) (c : List Literal) → read ≡ steps → Shows marks (lits read) c
     → AreDecisions read marks 0 → all_negated (decisions steps) c ≡ true

@@ -9,7 +9,8 @@ use Rattle.pp_clause.proofs.Has.{All-from_has, literal_eq-true, literal_eq-same,
 use Rattle.pp_trail.specs.declared.step.Step.{Step}
 use Rattle.pp_trail.specs.Trail.{lits, IsReason, IsTrail}
 use Rattle.pp_trail.proofs.Places.{literal_at, distinct_apart}
-use Rattle.pp_learn.specs.Marks.{Fits, FitAll}
+use Rattle.pp_clause.specs.Bound.{Fits}
+use Rattle.pp_learn.specs.Marks.{FitAll}
 use Rattle.pp_learn.specs.Reached.{IsTrailFor, Reached, ReasonAt, Forces}
 use Rattle.pp_learn.proofs.Places.{step_in_range}
 use Rattle.pp_learn.proofs.Chains.{numbered_within, numbered_is, derived_some, derived_numbers}
@@ -56,7 +57,8 @@ reason_fits cs steps marks place n c trail f =
     All-from_has (λ l. l.var < length marks) c (λ m h.
     elim (same_or_not m f.step.lit) [
       | inl e ↦ (let r = step_in_range cs (length marks - 1) steps place f.step trail f.at in
-          let b : f.step.lit.var < length marks = omega (arith, r.0, r.1) in subst (λ (z : Literal). z.var < length marks) (sym e) b)
+          let b : f.step.lit.var < length marks = omega (arith, r.0, r.1) in
+          subst (λ (z : Literal). z.var < length marks) (sym e) b)
       | inr ne ↦ (let p = literal_at steps place (opposite m) (f.others.negated m h ne) in
           let r = step_in_range cs (length marks - 1) steps p.place p.step trail p.stands in
           let same : p.step.lit.var ≡ m.var = ap (λ (z : Literal). z.var) p.is in
@@ -74,7 +76,8 @@ trail_fits cs steps marks trail = record {
 pub fits_from : (cs : List (List Literal)) (vars n : ℕ) (steps read : List Step) → IsTrail cs vars steps → read ≡ steps
     → n ≡ vars + 1 → FitAll n read
 fits_from cs vars n steps read trail same every =
-    subst (λ (z : List Step). FitAll n z) (sym same) (record { fit = λ i s at. let r = step_in_range cs vars steps i s trail at in omega (arith, r.1, every) })
+    subst (λ (z : List Step). FitAll n z) (sym same)
+    (record { fit = λ i s at. let r = step_in_range cs vars steps i s trail at in omega (arith, r.1, every) })
 
 pub apart_from : (cs : List (List Literal)) (vars : ℕ) (steps read : List Step) → IsTrail cs vars steps → read ≡ steps
     → HasBoth (lits read) → ⊥

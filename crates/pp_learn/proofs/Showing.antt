@@ -54,7 +54,8 @@ pub shows_add : (marks : List Bool) (steps : List Step) (i : ℕ) (s : Step) (fo
 shows_add marks steps i s found lt is h k = record {
   same = λ m. same_bool _ _
       (λ t. elim (has-push_cases found (opposite s.lit) m t) [
-        | inl j ↦ (let p = and_parts (is_marked marks m.var) (has (lits (take i steps)) (opposite m)) (sym (k.same m) ∙ j) in
+        | inl j ↦ (let p = and_parts (is_marked marks m.var) (has (lits (take i steps)) (opposite m))
+            (sym (k.same m) ∙ j) in
             and_from (is_marked marks m.var) (has (lits (take (i + 1) steps)) (opposite m)) p.0
             (subst (λ (z : List Literal). has z (opposite m) ≡ true) (sym (lits_more steps i s lt is))
             (has-append_left (lits (take i steps)) (s.lit ∷ []) (opposite m) p.1)))

@@ -32,7 +32,8 @@ bearer [] x h = absurd (false_not_true h)
 bearer (l ∷ ls) x h =
     elim (or_cases (eqb l.var x) (has_var ls x) h) [
       | inl e ↦ record { literal = l; held = has-here l ls; is = eqb-true l.var x e }
-      | inr k ↦ (let b = bearer ls x k in record { literal = b.literal; held = has-there l ls b.literal b.held; is = b.is })
+      | inr k ↦ (let b = bearer ls x k in
+          record { literal = b.literal; held = has-there l ls b.literal b.held; is = b.is })
     ]
 
 pub has_var_from : (c : List Literal) (m : Literal) → has c m ≡ true → has_var c m.var ≡ true
@@ -91,7 +92,8 @@ one_clash : (cs : List (List Literal)) (vars : ℕ) (steps : List Step) (marks :
     → is_marked marks f.step.lit.var ≡ true → clashes found c ≡ f.step.lit ∷ []
 one_clash cs vars steps marks place n c found f trail shown marked =
     let x : Literal = f.step.lit in
-    let twice : (m : Literal) → has (lits steps) m ≡ true → has (lits steps) (opposite (opposite m)) ≡ true = λ m h. subst (λ (z : Literal). has (lits steps) z ≡ true) (sym (opposite_twice m)) h in
+    let twice : (m : Literal) → has (lits steps) m ≡ true → has (lits steps) (opposite (opposite m)) ≡ true =
+    λ m h. subst (λ (z : Literal). has (lits steps) z ≡ true) (sym (opposite_twice m)) h in
     filter_alone (λ l. has found (opposite l)) c f.step.lit f.order.ascending f.held
     (shown.same (opposite f.step.lit) ∙ and_from (is_marked marks f.step.lit.var)
     (has (lits steps) (opposite (opposite f.step.lit))) marked
@@ -181,10 +183,12 @@ pub keeps_turn : (cs : List (List Literal)) (vars : ℕ) (steps : List Step) (ma
     → KeepsFrom steps (place + 1) marks (set mid f.step.lit.var false)
 keeps_turn cs vars steps marks mid place n c f trail all = record {
   same = λ i s le at.
-      let apart : s.lit.var ≢ f.step.lit.var = λ e. let k : i ≡ place = one_place cs vars steps i place s f.step trail at f.at e in omega arith in
+      let apart : s.lit.var ≢ f.step.lit.var = λ e. let k : i ≡ place =
+      one_place cs vars steps i place s f.step trail at f.at e in omega arith in
       let none : has_var c s.lit.var ≡ false = false_from_ne_true (has_var c s.lit.var) (λ h.
       let b = bearer c s.lit.var h in
-      let p = literal_at steps place (opposite b.literal) (f.others.negated b.literal b.held (λ e. apart (sym b.is ∙ ap (λ (z : Literal). z.var) e))) in
+      let p = literal_at steps place (opposite b.literal)
+      (f.others.negated b.literal b.held (λ e. apart (sym b.is ∙ ap (λ (z : Literal). z.var) e))) in
       let k : p.place ≡ i = literal_place cs vars steps place i (opposite b.literal) s trail p at b.is in
       let before : p.place < place = p.before in
       omega arith) in
@@ -212,10 +216,14 @@ pub resolved_reaches : (cs : List (List Literal)) (steps : List Step) (marks mid
     → StandsAt steps place s → x ≡ s.lit.var → x < length marks → pushed ≡ chain ++ n ∷ []
     → Reached cs steps (set mid x false) pushed
 resolved_reaches cs steps marks mid chain pushed place n x c s f trail r k all len at is lt push =
-    let var : x ≡ f.step.lit.var = is ∙ ap (λ (z : Step). z.lit.var) (same_step steps place place s f.step at f.at refl) in
-    let here : is_marked marks f.step.lit.var ≡ true = ap (λ (z : Step). is_marked marks z.lit.var) (same_step steps place place f.step k.step f.at k.at refl) ∙ k.marked in
+    let var : x ≡ f.step.lit.var =
+    is ∙ ap (λ (z : Step). z.lit.var) (same_step steps place place s f.step at f.at refl) in
+    let here : is_marked marks f.step.lit.var ≡ true =
+    ap (λ (z : Step). is_marked marks z.lit.var) (same_step steps place place f.step k.step f.at k.at refl)
+    ∙ k.marked in
     let fits : f.step.lit.var < length mid = omega arith in
-    let done : Reached cs steps (set mid f.step.lit.var false) (chain ++ n ∷ []) = reached_turn cs (length marks - 1) steps marks mid chain place n c f trail r here all fits in
+    let done : Reached cs steps (set mid f.step.lit.var false) (chain ++ n ∷ []) =
+    reached_turn cs (length marks - 1) steps marks mid chain place n c f trail r here all fits in
     subst (λ (z : ℕ). Reached cs steps (set mid z false) pushed) (sym var)
     (subst (λ (z : List ℕ). Reached cs steps (set mid f.step.lit.var false) z) (sym push) done)
 
@@ -224,7 +232,8 @@ pub resolved_turns : (cs : List (List Literal)) (steps : List Step) (marks mid :
     → length mid ≡ length marks → StandsAt steps place s → x ≡ s.lit.var → x < length marks
     → Turns steps place marks (set mid x false)
 resolved_turns cs steps marks mid place n x c s f trail all len at is lt =
-    let var : x ≡ f.step.lit.var = is ∙ ap (λ (z : Step). z.lit.var) (same_step steps place place s f.step at f.at refl) in
+    let var : x ≡ f.step.lit.var =
+    is ∙ ap (λ (z : Step). z.lit.var) (same_step steps place place s f.step at f.at refl) in
     let fits : f.step.lit.var < length mid = omega arith in
     subst (λ (z : ℕ). Turns steps place marks (set mid z false)) (sym var)
     (turn_done cs (length marks - 1) steps marks mid place n c f trail all fits)

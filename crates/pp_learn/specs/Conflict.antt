@@ -42,12 +42,13 @@ pub record AreBeforePoint (cs : List (List Literal)) (set : List Literal) (chain
 
 -- the first part of the chain, up to the first unique implication point, leaves this literal open, and no earlier part
 -- leaves but one
-pub record ReachesFirstPoint (cs : List (List Literal)) (set : List Literal) (l : Literal) (chain : List ℕ) : Type 0 where
-  pub part : List ℕ
-  pub rest : List ℕ
-  pub is : chain ≡ part ++ rest
-  pub before : AreBeforePoint cs set part
-  pub leaves : LeavesOpen cs set l part
+pub record ReachesFirstPoint (cs : List (List Literal)) (set : List Literal) (l : Literal) (chain : List ℕ) : Type 0
+  where
+    pub part : List ℕ
+    pub rest : List ℕ
+    pub is : chain ≡ part ++ rest
+    pub before : AreBeforePoint cs set part
+    pub leaves : LeavesOpen cs set l part
 
 -- the new chain begins with the old one
 pub record GoesOnFrom (old new : List ℕ) : Type 0 where

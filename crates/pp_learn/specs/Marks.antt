@@ -23,10 +23,6 @@ pub record Shows (marks : List Bool) (ls found : List Literal) : Type 0 where
 pub record MarksAll (old new : List Bool) (clause : List Literal) : Type 0 where
   pub same : (x : ℕ) → is_marked new x ≡ (is_marked old x || has_var clause x)
 
--- each variable of the clause has a place in marks of this length
-abbrev pub Fits : ℕ → List Literal → Type 0
-Fits bound clause = All (λ l. l.var < bound) clause
-
 -- whether the variable is one of these
 abbrev pub is_met : List ℕ → ℕ → Bool
 is_met xs x = list_any (λ y. y == x) xs

@@ -44,9 +44,9 @@ impl Analysis {
         Ok(Analysis { work })
     }
 
-    /// Learns a lemma from the clause with the number `conflict`, which the trail makes false. Of its literals one alone
-    /// was made false by the steps from `start` on, the last decision, after which each step has a reason: the lemma is
-    /// new where the steps before are closed.
+    /// Learns a lemma from the clause with the number `conflict`, which the trail makes false. Of its literals one
+    /// alone was made false by the steps from `start` on, the last decision, after which each step has a reason: the
+    /// lemma is new where the steps before are closed.
     pub fn learn(
         &mut self,
         alloc: Global,

@@ -1,7 +1,8 @@
 //! Marks by variable.
 ghost use Rattle.std.specs.Prelude.{◌≡◌, ◌+◌, ◌<◌, ◌≤◌, ◌∷◌, [], length, OnOk, IfSome, IfNone};
 ghost use Rattle.pp_trail.specs.Marks.{ArePlaces};
-ghost use Rattle.pp_learn.specs.Marks.{Fits, MarksAll, AreMet, AreBlank, IsClear, IsLastMarked, FitAll};
+ghost use Rattle.pp_clause.specs.Bound.{Fits};
+ghost use Rattle.pp_learn.specs.Marks.{MarksAll, AreMet, AreBlank, IsClear, IsLastMarked, FitAll};
 ghost use Rattle.pp_learn.specs.Marks.{IsMarkedPlace, IsUnmarked};
 
 use crate::NoMemory;

@@ -1,7 +1,8 @@
 //! Steps of resolution with the reasons of a trail.
 ghost use Rattle.std.specs.Prelude.{ℕ, ◌≡◌, ◌<◌, ◌∷◌, ◌++◌, [], length, take, OnOk};
 ghost use Rattle.pp_trail.specs.Trail.{lits, IsFalse};
-ghost use Rattle.pp_learn.specs.Marks.{Fits, AreMet, AreBlank, IsClear, MarkedAt, Turns};
+ghost use Rattle.pp_clause.specs.Bound.{Fits};
+ghost use Rattle.pp_learn.specs.Marks.{AreMet, AreBlank, IsClear, MarkedAt, Turns};
 ghost use Rattle.pp_learn.specs.Reached.{IsTrailFor, Reached, ReasonAt, Forces};
 
 use crate::NoMemory;

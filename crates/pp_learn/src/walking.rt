@@ -13,7 +13,7 @@ use pp_trail::Step;
 
 /// Resolves until one step alone of those from `start` on is marked, and answers its place: the first unique
 /// implication point.
-pub fn first_point(
+pub fn first_uip(
     clauses: &Clauses,
     trail: &[Step],
     start: usize,

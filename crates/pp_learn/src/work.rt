@@ -17,7 +17,7 @@ use crate::marks::{blank, blank_all};
 use crate::minimizing::minimize_before;
 use crate::redundant::Plan;
 use crate::resolving::begin;
-use crate::walking::{first_point, to_decisions};
+use crate::walking::{first_uip, to_decisions};
 use pp_clause::{Clauses, Lemma, Lit};
 use pp_trail::{Mark, Step};
 use std::alloc::Global;
@@ -92,7 +92,7 @@ impl Work {
         let met = &mut self.met;
         let chain = &mut self.chain;
         begin(clauses, trail, conflict, marks, met, chain)?;
-        let point = first_point(clauses, trail, first, marks, met, chain)?;
+        let point = first_uip(clauses, trail, first, marks, met, chain)?;
         self.resolved = met.len();
         self.plan.make(clauses, trail, places, marks, met)?;
         let order = self.plan.order();

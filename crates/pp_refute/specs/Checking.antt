@@ -6,7 +6,8 @@ use Rattle.pp_clause.specs.Clause.{literal_eq, has}
 use Rattle.pp_clause.specs.Derivation.{numbered, derived_by}
 use Rattle.pp_clause.specs.Log.{lemma_clauses}
 use Rattle.pp_clause.specs.declared.log.Lemma.{Lemma}
-use Rattle.pp_refute.specs.Table.{marked, Agrees, Fits}
+use Rattle.pp_clause.specs.Bound.{Fits}
+use Rattle.pp_refute.specs.Table.{marked, Agrees}
 
 -- the clauses that a lemma may use: the given ones, then those of the lemmas before it
 abbrev pub clauses_before : List (List Literal) → List Lemma → List (List Literal)

@@ -1,5 +1,6 @@
 -- What a reader of a line has after each byte. (own)
-use Rattle.std.specs.Prelude.{ℕ, ◌+◌, ◌-◌, ◌*◌, ◌^◌, ◌==◌, ◌&&◌, Bool, true, false, not, List, [], ◌∷◌, ◌++◌, Option, Some, None, nat_lt, nat_le, fold, if◌then◌else◌}
+use Rattle.std.specs.Prelude.{ℕ, ◌+◌, ◌-◌, ◌*◌, ◌^◌, ◌==◌, ◌&&◌, Bool, true, false, not, List, [], ◌∷◌, ◌++◌, Option}
+use Rattle.std.specs.Prelude.{Some, None, nat_lt, nat_le, fold, if◌then◌else◌}
 use Rattle.pp_clause.specs.Literal.{Literal}
 
 -- the literals and chain numbers that are read, whether the arrow was met, and what is known of the word
@@ -21,7 +22,8 @@ with_digit (Some n) d = if nat_lt n (2 ^ 32) then n * 10 + d else n
 
 abbrev pub lits_of : Option ℕ → Bool → List Literal
 lits_of None negative = []
-lits_of (Some n) negative = if nat_le 1 n && nat_le n (2 ^ 30) then record { var = n; positive = not negative } ∷ [] else []
+lits_of (Some n) negative =
+    if nat_le 1 n && nat_le n (2 ^ 30) then record { var = n; positive = not negative } ∷ [] else []
 
 abbrev pub numbers_of : Option ℕ → List ℕ
 numbers_of None = []

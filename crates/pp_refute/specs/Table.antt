@@ -1,6 +1,7 @@
 -- A set of literals as a table by variable, which has for each variable the one of its two literals that is in
 -- the set. (own)
-use Rattle.std.specs.Prelude.{ℕ, ◌≡◌, ◌<◌, Bool, false, List, Option, Some, None, slice_index_or, slice_set, All, filter, fold}
+use Rattle.std.specs.Prelude.{ℕ, ◌≡◌, ◌<◌, Bool, false, List, Option, Some, None, slice_index_or, slice_set, All}
+use Rattle.std.specs.Prelude.{filter, fold}
 use Rattle.std.specs.Bool.{beq}
 use Rattle.pp_clause.specs.Literal.{Literal, opposite}
 use Rattle.pp_clause.specs.Clause.{has}
@@ -18,10 +19,6 @@ marked table l = is_sign (slice_index_or table l.var None) l.positive
 pub record Agrees (table : List (Option Bool)) (ls : List Literal) : Type 0 where
   pub same : (m : Literal) → marked table m ≡ has ls m
 
--- each variable of the clause has a place in a table of this length
-abbrev pub Fits : ℕ → List Literal → Type 0
-Fits bound clause = All (λ l. l.var < bound) clause
-
 -- the table after the literal is put into it
 abbrev pub put : List (Option Bool) → Literal → List (Option Bool)
 put table l = slice_set table l.var (Some l.positive)
@@ -36,7 +33,8 @@ clash_of table clause = only_item (filter (λ l. marked table (opposite l)) clau
 
 -- the old table has what was reached, and the new one has its resolvent with the clause
 pub record Steps (old new : List (Option Bool)) (clause : List Literal) : Type 0 where
-  pub next : (reached : List Literal) → Agrees old reached → (zs : List Literal) × (resolvent reached clause ≡ Some zs) × Agrees new zs
+  pub next : (reached : List Literal) → Agrees old reached → (zs : List Literal) × (resolvent reached clause ≡ Some zs)
+      × Agrees new zs
 
 -- what the table has and the clause have no resolvent
 pub record IsStuck (table : List (Option Bool)) (clause : List Literal) : Type 0 where

@@ -2,7 +2,8 @@
 ghost use Rattle.std.specs.Prelude.{◌≡◌, ◌↔◌, false, length, [], All, IsTrue, IfOk};
 ghost use Rattle.pp_clause.specs.Clause.{IsClause, IsUnsatisfiable};
 ghost use Rattle.pp_clause.specs.Log.{all_negated, Refutes};
-ghost use Rattle.pp_refute.specs.Table.{Agrees, Fits};
+ghost use Rattle.pp_clause.specs.Bound.{Fits};
+ghost use Rattle.pp_refute.specs.Table.{Agrees};
 ghost use Rattle.pp_refute.specs.Checking.{AllFit, IsStruck};
 
 use crate::NoMemory;

@@ -1,3 +1,5 @@
+//! Why a text is no log.
+
 use crate::NoMemory;
 use thiserror::Error;
 

@@ -19,7 +19,8 @@ use std::alloc::Global;
 /// `Syntax` comes exactly where the bytes are no log text, with the first line that is wrong, from 1.
 pub fn read_log(alloc: Global, bytes: &[u8]) -> Result<Log, LogFault>
     ensures text { IfOk result (λ log. text_of_log log ≡ bytes.now) }
-    ensures only { IfOk result (λ log. (other : List Lemma) → All IsLemma other → text_of_log other ≡ bytes.now → other ≡ log) }
+    ensures only { IfOk result
+        (λ log. (other : List Lemma) → All IsLemma other → text_of_log other ≡ bytes.now → other ≡ log) }
     ensures cause { IfErr result (IsCause bytes.now) }
 {
     let mut log = Log::new(alloc);

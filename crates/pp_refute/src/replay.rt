@@ -3,8 +3,10 @@ ghost use Rattle.std.specs.Prelude.{◌≡◌, true, false, length, [], None, Is
 ghost use Rattle.std.specs.Option.{option_copied};
 ghost use Rattle.pp_clause.specs.Clause.{IsClause};
 ghost use Rattle.pp_clause.specs.Derivation.{numbered, derived_by, Derives};
-ghost use Rattle.pp_refute.specs.Table.{Agrees, Fits};
-ghost use Rattle.pp_refute.specs.Checking.{clauses_before, AllFit, HasDerived, TakesOut, Lacks, is_clear_of, IsClearOfAll, HasSome};
+ghost use Rattle.pp_clause.specs.Bound.{Fits};
+ghost use Rattle.pp_refute.specs.Table.{Agrees};
+ghost use Rattle.pp_refute.specs.Checking.{clauses_before, AllFit, HasDerived, TakesOut, Lacks, is_clear_of};
+ghost use Rattle.pp_refute.specs.Checking.{IsClearOfAll, HasSome};
 
 use crate::table::{is_marked, mark_all, resolve};
 use pp_clause::{Clauses, Lemma, Lit};

@@ -25,7 +25,14 @@ impl Model for Reader {
 
     ghost Value = { Scan };
 
-    ghost view = { λ r. record { lits = r.lits.items; numbers = r.numbers.items; arrow = r.arrow; negative = r.negative; pending = r.pending } };
+    ghost view = { λ r. record {
+      lits = r.lits.items;
+      numbers = r.numbers.items;
+      arrow = r.arrow;
+      negative =
+          r.negative;
+      pending = r.pending;
+    } };
 }
 
 impl Reader {
@@ -84,7 +91,8 @@ impl Reader {
     /// The lemma of the literals and numbers that are read. There is none where a literal and its negation both
     /// stand there, or the numbers are no chain.
     pub fn lemma(&self, alloc: Global) -> Result<Option<Lemma>, NoMemory>
-        ensures none { IfOk result (λ o. IfNone o (HasBoth self.now.lits ⊎ ((self.now.numbers ≡ []) ⊎ Any (λ n. n ≡ 0) self.now.numbers))) }
+        ensures none { IfOk result
+            (λ o. IfNone o (HasBoth self.now.lits ⊎ ((self.now.numbers ≡ []) ⊎ Any (λ n. n ≡ 0) self.now.numbers))) }
         ensures clause { IfOk result (λ o. IfSome o (λ m. SameLiterals m.clause self.now.lits)) }
         ensures chain { IfOk result (λ o. IfSome o (λ m. m.chain ≡ self.now.numbers)) }
         ensures lemma { IfOk result (λ o. IfSome o IsLemma) }

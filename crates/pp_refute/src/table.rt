@@ -1,7 +1,8 @@
 //! Sets of literals as tables by variable, and the step of resolution on them.
 ghost use Rattle.std.specs.Prelude.{◌≡◌, ◌<◌, length, IfSome, Some, slice_set, IsTrue, false};
 ghost use Rattle.pp_clause.specs.Clause.{IsClause};
-ghost use Rattle.pp_refute.specs.Table.{marked, Fits, put_all, clash_of, Steps, IsStuck};
+ghost use Rattle.pp_clause.specs.Bound.{Fits};
+ghost use Rattle.pp_refute.specs.Table.{marked, put_all, clash_of, Steps, IsStuck};
 
 use pp_clause::Lit;
 

@@ -47,7 +47,7 @@ pub fn read_clauses(alloc: Global, field: &str) -> Result<Clauses> {
 }
 
 /// The literals of a field.
-fn lits(alloc: Global, field: &str) -> Result<Vec<Lit>> {
+pub fn lits(alloc: Global, field: &str) -> Result<Vec<Lit>> {
     let mut lits = Vec::new(alloc);
     for word in field.split_whitespace() {
         lits.push(lit(word)?)?;

@@ -1,9 +1,9 @@
 //! Clauses, chains and assignments.
 
-use crate::case::{Case, numbers, read_clauses};
+use crate::case::{Case, MOST, lits, numbers, read_clauses};
 use crate::tries::{push_lits, word};
-use anyhow::Result;
-use pp_clause::{Assignment, Chain, Clause};
+use anyhow::{Result, ensure};
+use pp_clause::{Assignment, Chain, Clause, Clauses, Lit, is_ascending, laws};
 use std::alloc::Global;
 
 /// The clause of the literals that a line has in the place of assumptions.
@@ -31,11 +31,80 @@ pub fn chain(alloc: Global, rest: &str) -> Result<String> {
 /// Whether the assignment makes the clauses true. Its values stand before the clauses.
 pub fn holds(alloc: Global, rest: &str) -> Result<String> {
     let (values, clauses) = rest.split_once(':').unwrap_or((rest, ""));
+    let yes = read_clauses(alloc, clauses)?.holds(&assignment(alloc, values)?);
+    Ok(format!(in alloc; "{yes}")?)
+}
+
+/// The assignment of these values, 1 and 0.
+fn assignment(alloc: Global, values: &str) -> Result<Assignment> {
     let mut given = Vec::new(alloc);
     for number in &numbers(alloc, values)? {
         given.push(*number != 0)?;
     }
-    let clauses = read_clauses(alloc, clauses)?;
-    let yes = clauses.holds(&Assignment::of(alloc, &given)?);
+    Ok(Assignment::of(alloc, &given)?)
+}
+
+/// The value of the variable behind the colon. The values of the first variables stand before it.
+pub fn value(alloc: Global, rest: &str) -> Result<String> {
+    let (values, var) = rest.split_once(':').unwrap_or((rest, ""));
+    let a = assignment(alloc, values)?;
+    let var = numbers(alloc, var)?.first().copied().unwrap_or(0);
+    ensure!(1 <= var, "no variable");
+    let yes = a.value(var);
     Ok(format!(in alloc; "{yes}")?)
+}
+
+/// The first literal and its negation, and `default` where there is none: variable, sign and index of each.
+pub fn literal(alloc: Global, rest: &str) -> Result<String> {
+    let lit = lits(alloc, rest)?
+        .first()
+        .copied()
+        .unwrap_or(Lit::default());
+    let mut line = word(alloc, "lit")?;
+    push_parts(&mut line, lit)?;
+    push_parts(&mut line, lit.negated())?;
+    Ok(line)
+}
+
+fn push_parts(line: &mut String, lit: Lit) -> Result<()> {
+    let (var, positive, index) = (lit.var(), lit.is_positive(), lit.index());
+    write!(line, " {var} {positive} {index}")?;
+    Ok(())
+}
+
+/// The clause of the literals, where they are in order.
+pub fn ascending(alloc: Global, rest: &str) -> Result<String> {
+    let lits = lits(alloc, rest)?;
+    if !is_ascending(&lits) {
+        return word(alloc, "no");
+    }
+    let mut line = word(alloc, "ascending")?;
+    push_lits(&mut line, Clause::of_ascending(alloc, &lits)?.lits())?;
+    Ok(line)
+}
+
+/// Copies of the clauses, and whether there are none.
+pub fn copies(alloc: Global, clauses: &Clauses) -> Result<String> {
+    let mut copies = Clauses::with_capacity(alloc, clauses.len())?;
+    for place in 0..clauses.len() {
+        let copy = clauses.get(place as u32 + 1).copy(alloc)?;
+        ensure!((copies.len() as u64) < MOST, "too many clauses");
+        copies.add(copy)?;
+    }
+    let mut line = word(alloc, if copies.is_empty() { "none" } else { "copies" })?;
+    for place in 0..copies.len() {
+        push_lits(&mut line, copies.get(place as u32 + 1).lits())?;
+        line.push_str(" ;")?;
+    }
+    Ok(line)
+}
+
+/// Calls the functions that only state theorems.
+pub fn state_laws(alloc: Global) -> Result<String> {
+    laws::derived_is_true();
+    laws::refuted_is_unsatisfiable();
+    laws::new_differs();
+    laws::clauses_are_few();
+    laws::new_are_few();
+    word(alloc, "laws")
 }

@@ -1,11 +1,12 @@
 //! What each task answers.
 
 use crate::case::{Case, MOST, text};
-use crate::lists;
+use crate::orders::{Shown, order};
 use crate::three::decided_lists;
+use crate::{learning, lists};
 use anyhow::{Result, bail, ensure};
 use pp_cdcl::{Answer, solve};
-use pp_clause::{Clause, Lit, Log};
+use pp_clause::{Clause, Lit, Lits, Log, Spent};
 use pp_refute::{LogFault, accepts, log_text, read_log};
 use std::alloc::Global;
 
@@ -22,6 +23,16 @@ pub fn answer(alloc: Global, line: &str) -> Result<String> {
         "clause" => lists::clause(alloc, rest),
         "chain" => lists::chain(alloc, rest),
         "holds" => lists::holds(alloc, rest),
+        "value" => lists::value(alloc, rest),
+        "lit" => lists::literal(alloc, rest),
+        "ascending" => lists::ascending(alloc, rest),
+        "copies" => lists::copies(alloc, &Case::read(alloc, rest)?.clauses),
+        "laws" => lists::state_laws(alloc),
+        "evidence" => evidence(alloc, Case::read(alloc, rest)?),
+        "learn" => learning::learn(alloc, &Case::read(alloc, rest)?),
+        "refute" => learning::refute(alloc, &Case::read(alloc, rest)?),
+        "values" => order(alloc, rest, field, Shown::Values),
+        "steps" => order(alloc, rest, field, Shown::Steps),
         "three" => Ok(format!(in alloc;
             "{} right",
             decided_lists(alloc, &Case::read(alloc, rest)?)?
@@ -109,6 +120,27 @@ fn last_clause(alloc: Global, log: &Log) -> Result<String> {
     if let Some(last) = log.as_slice().last() {
         push_lits(&mut line, last.clause.lits())?;
     }
+    Ok(line)
+}
+
+/// The assumptions and the number of lemmas of the evidence that a problem's lemmas are spent.
+fn evidence(alloc: Global, case: Case) -> Result<String> {
+    let Answer::Spent(log) = solved(alloc, &case)? else {
+        bail!("lemmas are left");
+    };
+    let mut assumptions = Lits::new(alloc);
+    for lit in &case.assumptions {
+        assumptions.push(*lit)?;
+    }
+    let spent = Spent {
+        clauses: case.clauses,
+        assumptions,
+        log,
+    };
+    let mut line = word(alloc, "assuming")?;
+    push_lits(&mut line, spent.assumptions.as_slice())?;
+    let (lemmas, clauses) = (spent.log.as_slice().len(), spent.clauses.len());
+    write!(line, ", {lemmas} lemmas over {clauses}")?;
     Ok(line)
 }
 

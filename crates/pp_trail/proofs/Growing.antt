@@ -16,7 +16,8 @@ use Rattle.pp_clause.specs.Derivation.{numbered}
 use Rattle.pp_clause.proofs.Has.{false_not_true}
 use Rattle.pp_trail.specs.declared.step.Step.{Step}
 use Rattle.pp_trail.specs.declared.marks.Mark.{Mark}
-use Rattle.pp_trail.specs.Trail.{lits, IsUpTo, StandsAt, IsReason, IsTrail, Extends}
+use Rattle.pp_clause.specs.Bound.{IsUpTo}
+use Rattle.pp_trail.specs.Trail.{lits, StandsAt, IsReason, IsTrail, Extends}
 use Rattle.pp_trail.specs.Marks.{mark_from, ArePlaces}
 use Rattle.pp_trail.proofs.Places.{AreDistinct, IsAbsent, distinct_tail, distinct_head}
 use Rattle.pp_trail.proofs.Marking.{mark_absent}
@@ -51,7 +52,8 @@ unfolding vars_of
 up_to_each vars [] h q k = absurd (false_not_true k)
 up_to_each vars (s ∷ ss) h q k =
     elim (or_cases (eqb q s.lit.var) (list_any (eqb q) (vars_of ss)) k) [
-      | inl e ↦ (let f = eqb-true q s.lit.var e in let b : s.lit.var ≤ vars = All-head (λ l. l.var ≤ vars) s.lit (lits ss) h in omega arith)
+      | inl e ↦ (let f = eqb-true q s.lit.var e in let b : s.lit.var ≤ vars =
+          All-head (λ l. l.var ≤ vars) s.lit (lits ss) h in omega arith)
       | inr j ↦ up_to_each vars ss (All-tail (λ l. l.var ≤ vars) s.lit (lits ss) h) q j
     ]
 
@@ -61,13 +63,15 @@ from_one_absent ss h = λ k d lt e. (let b = h k d lt in absurd (omega arith))
 pub few_steps : (cs : List (List Literal)) (vars : ℕ) (ss : List Step) → IsTrail cs vars ss → length ss ≤ vars
 unfolding IsDistinct
 few_steps cs vars ss t =
-    let distinct : IsDistinct eqb (0 ∷ vars_of ss) = (apart_by 0 ss (from_one_absent ss t.from_one), distinct_vars ss t.distinct) in
+    let distinct : IsDistinct eqb (0 ∷ vars_of ss) =
+    (apart_by 0 ss (from_one_absent ss t.from_one), distinct_vars ss t.distinct) in
     let below : (q : ℕ) → list_any (eqb q) (0 ∷ vars_of ss) ≡ true → q < vars + 1 = λ q k.
     elim (or_cases (eqb q 0) (list_any (eqb q) (vars_of ss)) k) [
       | inl e ↦ (let f = eqb-true q 0 e in omega arith)
       | inr j ↦ (let b = up_to_each vars ss t.up_to q j in omega arith)
     ] in
-    let b : length (0 ∷ vars_of ss) ≤ vars + 1 = length-le_from_distinct_below (0 ∷ vars_of ss) (vars + 1) distinct below in
+    let b : length (0 ∷ vars_of ss) ≤ vars + 1 =
+    length-le_from_distinct_below (0 ∷ vars_of ss) (vars + 1) distinct below in
     omega (arith, b, length_vars ss)
 
 -- and shorter, where a variable is absent
@@ -75,7 +79,10 @@ pub room_for : (cs : List (List Literal)) (vars : ℕ) (ss : List Step) (x : ℕ
     → IsAbsent x ss → length ss < vars
 unfolding IsDistinct
 room_for cs vars ss x t low high a =
-    let distinct : IsDistinct eqb (0 ∷ (x ∷ vars_of ss)) = ((ne_eqb 0 x (λ e. omega arith), apart_by 0 ss (from_one_absent ss t.from_one)), (apart_by x ss a, distinct_vars ss t.distinct)) in
+    let distinct : IsDistinct eqb (0 ∷ (x ∷ vars_of ss)) = (
+      (ne_eqb 0 x (λ e. omega arith), apart_by 0 ss (from_one_absent ss t.from_one)),
+      (apart_by x ss a, distinct_vars ss t.distinct),
+    ) in
     let below : (q : ℕ) → list_any (eqb q) (0 ∷ (x ∷ vars_of ss)) ≡ true → q < vars + 1 = λ q k.
     elim (or_cases (eqb q 0) (list_any (eqb q) (x ∷ vars_of ss)) k) [
       | inl e ↦ (let f = eqb-true q 0 e in omega arith)
@@ -84,7 +91,8 @@ room_for cs vars ss x t low high a =
         | inr j ↦ (let b = up_to_each vars ss t.up_to q j in omega arith)
       ]
     ] in
-    let b : length (0 ∷ (x ∷ vars_of ss)) ≤ vars + 1 = length-le_from_distinct_below (0 ∷ (x ∷ vars_of ss)) (vars + 1) distinct below in
+    let b : length (0 ∷ (x ∷ vars_of ss)) ≤ vars + 1 =
+    length-le_from_distinct_below (0 ∷ (x ∷ vars_of ss)) (vars + 1) distinct below in
     omega (arith, b, length_vars ss)
 
 -- one step more
@@ -108,7 +116,8 @@ reasons_push : (cs : List (List Literal)) (vars : ℕ) (ss : List Step) (s : Ste
 reasons_push cs vars ss s t r place step at n e =
     elim (stands_push ss s place step at) [
       | inl old ↦ (
-          let before : take place (ss ++ s ∷ []) ≡ take place ss = take-append-le place ss (s ∷ []) (let w = old.within in omega arith) in
+          let before : take place (ss ++ s ∷ []) ≡ take place ss =
+          take-append-le place ss (s ∷ []) (let w = old.within in omega arith) in
           subst (λ (z : List Step). IsReason cs (lits z) step.lit n) (sym before) (t.reasons place step old n e))
       | inr p ↦ (
           let before : take place (ss ++ s ∷ []) ≡ ss = take_at ss (s ∷ []) place (sym p.0) in
@@ -138,12 +147,14 @@ mark_push_same : (from : ℕ) (ss : List Step) (s : Step) → IsAbsent s.lit.var
     → mark_from from (ss ++ s ∷ []) s.lit.var ≡ Some (record { positive = s.lit.positive; place = from + length ss })
 mark_push_same from [] s a =
     cond-true (eqb s.lit.var s.lit.var) _ None (eq-eqb s.lit.var s.lit.var refl)
-    ∙ ap (λ (n : ℕ). Some (record { positive = s.lit.positive; place = n })) (let e : from ≡ from + 0 = omega arith in e)
+    ∙ ap (λ (n : ℕ). Some (record { positive = s.lit.positive; place = n }))
+    (let e : from ≡ from + 0 = omega arith in e)
 mark_push_same from (t ∷ ss) s a =
     cond-false (eqb t.lit.var s.lit.var) _ (mark_from (suc from) (ss ++ s ∷ []) s.lit.var)
     (ne_eqb t.lit.var s.lit.var (All-head (λ u. u.lit.var ≢ s.lit.var) t ss a))
     ∙ mark_push_same (suc from) ss s (All-tail (λ u. u.lit.var ≢ s.lit.var) t ss a)
-    ∙ ap (λ (n : ℕ). Some (record { positive = s.lit.positive; place = n })) (let e : suc from + length ss ≡ from + suc (length ss) = omega arith in e)
+    ∙ ap (λ (n : ℕ). Some (record { positive = s.lit.positive; place = n }))
+    (let e : suc from + length ss ≡ from + suc (length ss) = omega arith in e)
 
 pub shows_push : (marks : List (Option Mark)) (ss : List Step) (s : Step) (place : ℕ) → ArePlaces marks ss
     → s.lit.var < length marks → IsAbsent s.lit.var ss → place ≡ length ss →
@@ -151,12 +162,14 @@ pub shows_push : (marks : List (Option Mark)) (ss : List Step) (s : Step) (place
 shows_push marks ss s place h lt a p = record {
   shown = λ x in'. elim (cases_eq x s.lit.var) [
     | inr ne ↦ get_or-set_other marks s.lit.var x (Some (record { positive = s.lit.positive; place = place })) None ne
-        ∙ h.shown x (let e = length-set marks s.lit.var (Some (record { positive = s.lit.positive; place = place })) in omega arith)
+        ∙ h.shown x (let e = length-set marks s.lit.var (Some (record { positive = s.lit.positive; place = place })) in
+        omega arith)
         ∙ sym (mark_push_other 0 ss s x (λ e. ne (sym e)))
     | inl e ↦ ap (λ (n : ℕ). get_or (set marks s.lit.var (Some (record { positive = s.lit.positive; place = place }))) n
         None) e
         ∙ get_or-set_same marks s.lit.var (Some (record { positive = s.lit.positive; place = place })) None lt
-        ∙ ap (λ (n : ℕ). Some (record { positive = s.lit.positive; place = n })) (let f : place ≡ 0 + length ss = omega arith in f)
+        ∙ ap (λ (n : ℕ). Some (record { positive = s.lit.positive; place = n }))
+        (let f : place ≡ 0 + length ss = omega arith in f)
         ∙ sym (mark_push_same 0 ss s a)
         ∙ ap (mark_from 0 (ss ++ s ∷ [])) (sym e)
   ];
@@ -201,7 +214,8 @@ shows_pop marks front s h lt a = record {
 
 pub absent_in_front : (front : List Step) (s : Step) → AreDistinct (front ++ s ∷ []) → IsAbsent s.lit.var front
 absent_in_front front s d = λ k e lt. (
-    let far : (get_or (front ++ s ∷ []) k e).lit.var ≢ (get_or (front ++ s ∷ []) (length front) e).lit.var = d k (length front) e lt (let b = length_push front s in omega arith) in
+    let far : (get_or (front ++ s ∷ []) k e).lit.var ≢ (get_or (front ++ s ∷ []) (length front) e).lit.var =
+    d k (length front) e lt (let b = length_push front s in omega arith) in
     let a : get_or (front ++ s ∷ []) k e ≡ get_or front k e = get_or_append_left front (s ∷ []) e k lt in
     let b : get_or (front ++ s ∷ []) (length front) e ≡ s = get_or_push front s e (length front) refl in
     λ same. far (ap (λ (z : Step). z.lit.var) a ∙ same ∙ ap (λ (z : Step). z.lit.var) (sym b)))

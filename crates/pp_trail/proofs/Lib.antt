@@ -3,4 +3,3 @@ pub mod Marking
 pub mod Negated
 pub mod Growing
 pub mod Sound
-pub mod Bounds

@@ -26,7 +26,9 @@ pub absent_from_mark : (from : ℕ) (ss : List Step) (x : ℕ) → mark_from fro
 absent_from_mark from [] x h = All-nil (λ t. t.lit.var ≢ x)
 absent_from_mark from (s ∷ ss) x h =
     elim (eqb_tells s.lit.var x) [
-      | inl p ↦ absurd (let e : Some (record { positive = s.lit.positive; place = from }) ≡ None = sym (cond-true (eqb s.lit.var x) (Some (record { positive = s.lit.positive; place = from })) (mark_from (suc from) ss x) p.0) ∙ h in cc)
+      | inl p ↦ absurd (let e : Some (record { positive = s.lit.positive; place = from }) ≡ None =
+          sym (cond-true (eqb s.lit.var x) (Some (record { positive = s.lit.positive; place = from }))
+          (mark_from (suc from) ss x) p.0) ∙ h in cc)
       | inr p ↦ All-cons (λ t. t.lit.var ≢ x) s ss p.1 (absent_from_mark (suc from) ss x
           (sym (cond-false (eqb s.lit.var x) _ (mark_from (suc from) ss x) p.0) ∙ h))
     ]
@@ -44,14 +46,31 @@ mark_found from [] x m h = absurd (let e : None ≡ Some m = h in cc)
 mark_found from (s ∷ ss) x m h =
     elim (eqb_tells s.lit.var x) [
       | inl p ↦ (
-          let e : Some (record { positive = s.lit.positive; place = from }) ≡ Some m = sym (cond-true (eqb s.lit.var x) (Some (record { positive = s.lit.positive; place = from })) (mark_from (suc from) ss x) p.0) ∙ h in
+          let e : Some (record { positive = s.lit.positive; place = from }) ≡ Some m =
+          sym (cond-true (eqb s.lit.var x) (Some (record { positive = s.lit.positive; place = from }))
+          (mark_from (suc from) ss x) p.0) ∙ h in
           let f : from ≡ m.place = cc in
-          record { index = 0; step = s; stands = record { within = omega arith; is = refl }; place = omega arith; var = p.1 })
+          record {
+            index = 0;
+            step = s;
+            stands = record { within = omega arith; is = refl };
+            place = omega arith;
+            var =
+                p.1;
+          })
       | inr p ↦ (
-          let q : Found (suc from) ss x m = mark_found (suc from) ss x m (sym (cond-false (eqb s.lit.var x) _ (mark_from (suc from) ss x) p.0) ∙ h) in
+          let q : Found (suc from) ss x m =
+          mark_found (suc from) ss x m (sym (cond-false (eqb s.lit.var x) _ (mark_from (suc from) ss x) p.0) ∙ h) in
           let w = q.stands.within in
           let k = q.place in
-          record { index = suc q.index; step = q.step; stands = record { within = omega arith; is = q.stands.is }; place = omega arith; var = q.var })
+          record {
+            index = suc q.index;
+            step = q.step;
+            stands =
+                record { within = omega arith; is = q.stands.is };
+            place = omega arith;
+            var = q.var;
+          })
     ]
 
 -- a literal of another variable says nothing
@@ -83,7 +102,8 @@ value_shown from [] l d = refl
 value_shown from (s ∷ ss) l d =
     elim (eqb_tells s.lit.var l.var) [
       | inr p ↦ (
-          let mark : mark_from from (s ∷ ss) l.var ≡ mark_from (suc from) ss l.var = cond-false (eqb s.lit.var l.var) _ (mark_from (suc from) ss l.var) p.0 in
+          let mark : mark_from from (s ∷ ss) l.var ≡ mark_from (suc from) ss l.var =
+          cond-false (eqb s.lit.var l.var) _ (mark_from (suc from) ss l.var) p.0 in
           ap (λ (b : Bool). cond b (Some true) (cond (has (lits (s ∷ ss)) (opposite l)) (Some false) None))
           (has_skip s.lit (lits ss) l p.1)
           ∙ ap (λ (b : Bool). cond (has (lits ss) l) (Some true) (cond b (Some false) None))
@@ -91,16 +111,21 @@ value_shown from (s ∷ ss) l d =
           ∙ value_shown (suc from) ss l (distinct_tail s ss d)
           ∙ ap (λ (o : Option Mark). mark_value o l.positive) (sym mark))
       | inl p ↦ (
-          let mark : mark_from from (s ∷ ss) l.var ≡ Some (record { positive = s.lit.positive; place = from }) = cond-true (eqb s.lit.var l.var) _ (mark_from (suc from) ss l.var) p.0 in
-          let by_mark : Some (beq s.lit.positive l.positive) ≡ mark_value (mark_from from (s ∷ ss) l.var) l.positive = ap (λ (o : Option Mark). mark_value o l.positive) (sym mark) in
+          let mark : mark_from from (s ∷ ss) l.var ≡ Some (record { positive = s.lit.positive; place = from }) =
+          cond-true (eqb s.lit.var l.var) _ (mark_from (suc from) ss l.var) p.0 in
+          let by_mark : Some (beq s.lit.positive l.positive) ≡ mark_value (mark_from from (s ∷ ss) l.var) l.positive =
+          ap (λ (o : Option Mark). mark_value o l.positive) (sym mark) in
           elim (same_var_cases s.lit l p.1) [
             | inl e ↦ (
-                let sign : true ≡ beq s.lit.positive l.positive = sym (ap (λ (z : Literal). beq z.positive l.positive) e ∙ beq-same l.positive) in
+                let sign : true ≡ beq s.lit.positive l.positive =
+                sym (ap (λ (z : Literal). beq z.positive l.positive) e ∙ beq-same l.positive) in
                 value_true (lits (s ∷ ss)) l (has-at_head s.lit (lits ss) l (sym e)) ∙ ap (λ (b : Bool). Some b) sign
                 ∙ by_mark)
             | inr e ↦ (
-                let sign : false ≡ beq s.lit.positive l.positive = sym (ap (λ (z : Literal). beq z.positive l.positive) e ∙ beq_opposite l.positive) in
-                let free : has (lits (s ∷ ss)) l ≡ false = not_there (has (lits (s ∷ ss)) l) (λ h. elim (has-cases s.lit (lits ss) l h) [
+                let sign : false ≡ beq s.lit.positive l.positive =
+                sym (ap (λ (z : Literal). beq z.positive l.positive) e ∙ beq_opposite l.positive) in
+                let free : has (lits (s ∷ ss)) l ≡ false =
+                not_there (has (lits (s ∷ ss)) l) (λ h. elim (has-cases s.lit (lits ss) l h) [
                   | inl f ↦ false_not_true (sign ∙ ap (λ (z : Literal). beq z.positive l.positive) (sym f)
                       ∙ beq-same l.positive)
                   | inr k ↦ absent_lits s.lit.var ss l (distinct_head s ss d) k (sym p.1)

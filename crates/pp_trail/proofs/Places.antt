@@ -78,9 +78,24 @@ literal_at [] (suc k) m h = absurd (has-nil m h)
 literal_at (s ∷ ss) zero m h = absurd (has-nil m h)
 literal_at (s ∷ ss) (suc k) m h =
     elim (has-cases s.lit (lits (take k ss)) m h) [
-      | inl e ↦ record { place = 0; step = s; stands = record { within = omega arith; is = refl }; before = omega arith; is = sym e }
+      | inl e ↦ record {
+        place = 0;
+        step = s;
+        stands = record { within = omega arith; is = refl };
+        before =
+            omega arith;
+        is = sym e;
+      }
       | inr j ↦ (let p = literal_at ss k m j in
-          record { place = suc p.place; step = p.step; stands = record { within = (let w = p.stands.within in omega arith); is = p.stands.is }; before = (let b = p.before in omega arith); is = p.is })
+          record {
+            place = suc p.place;
+            step = p.step;
+            stands =
+                record { within = (let w = p.stands.within in omega arith); is = p.stands.is };
+            before =
+                (let b = p.before in omega arith);
+            is = p.is;
+          })
     ]
 
 pub has_at : (steps : List Step) (place end : ℕ) (s : Step) → StandsAt steps place s → place < end
@@ -89,14 +104,16 @@ has_at [] place end s at lt = absurd (let w = at.within in omega arith)
 has_at (x ∷ xs) place zero s at lt = absurd (omega arith)
 has_at (x ∷ xs) zero (suc k) s at lt = has-at_head x.lit (lits (take k xs)) s.lit (ap (λ (z : Step). z.lit) at.is)
 has_at (x ∷ xs) (suc p) (suc k) s at lt =
-    has-there x.lit (lits (take k xs)) s.lit (has_at xs p k s (record { within = (let w = at.within in omega arith); is = at.is }) (omega arith))
+    has-there x.lit (lits (take k xs)) s.lit
+    (has_at xs p k s (record { within = (let w = at.within in omega arith); is = at.is }) (omega arith))
 
 -- the variable of a step doesn't stand before it
 pub absent_before : (steps : List Step) (place : ℕ) (s : Step) → AreDistinct steps → StandsAt steps place s
     → IsAbsent s.lit.var (take place steps)
 absent_before steps place s d at = absent_from_lits s.lit.var (take place steps) (λ m h e.
     let p = literal_at steps place m h in
-    let far : (get_or steps p.place s).lit.var ≢ (get_or steps place s).lit.var = d p.place place s p.before at.within in
+    let far : (get_or steps p.place s).lit.var ≢ (get_or steps place s).lit.var =
+    d p.place place s p.before at.within in
     let here : p.step ≡ get_or steps p.place s = p.stands.is ∙ get_or_default steps p.place p.step s p.stands.within in
     far (ap (λ (z : Step). z.lit.var) (sym here) ∙ ap (λ (z : Literal). z.var) p.is ∙ e
     ∙ ap (λ (z : Step). z.lit.var) at.is))

@@ -7,7 +7,8 @@ use Rattle.std.proofs.lemmas.List.Elements.{All-push, All-tail}
 use Rattle.pp_clause.specs.Literal.{Literal}
 use Rattle.pp_trail.specs.declared.step.Step.{Step}
 use Rattle.pp_trail.specs.declared.marks.Mark.{Mark}
-use Rattle.pp_trail.specs.Trail.{lits, IsUpTo, IsReason, IsTrail}
+use Rattle.pp_clause.specs.Bound.{IsUpTo}
+use Rattle.pp_trail.specs.Trail.{lits, IsReason, IsTrail}
 use Rattle.pp_trail.specs.Marks.{ArePlaces, IsSound}
 use Rattle.pp_trail.proofs.Places.{IsAbsent}
 use Rattle.pp_trail.proofs.Growing.{trail_push, shows_push, trail_take, shows_pop, absent_in_front, trail_append}
@@ -25,7 +26,8 @@ sound_add cs ss marks vars cap c s u = record {
 reason_at : (cs : List (List Literal)) (before : List Literal) (l : Literal) (o : Option ℕ)
     → IfSome o (IsReason cs before l) → (n : ℕ) → o ≡ Some n → IsReason cs before l n
 reason_at cs before l None h n e = absurd (let f : None ≡ Some n = e in cc)
-reason_at cs before l (Some m) h n e = let f : Some m ≡ Some n = e in let g : m ≡ n = cc in subst (λ (k : ℕ). IsReason cs before l k) g h
+reason_at cs before l (Some m) h n e = let f : Some m ≡ Some n = e in let g : m ≡ n = cc in
+    subst (λ (k : ℕ). IsReason cs before l k) g h
 
 pub sound_push : (cs : List (List Literal)) (ss : List Step) (marks : List (Option Mark)) (vars cap new : ℕ) (s : Step)
     (place : ℕ) → IsSound cs ss marks vars cap → cap ≤ new →
@@ -50,7 +52,8 @@ sound_pop cs ss front marks vars cap new s h e same high =
     let cut : take (length front) (front ++ s ∷ []) ≡ front = take_at front (s ∷ []) (length front) refl in
     record {
       clauses = h.clauses;
-      trail = subst (λ (z : List Step). IsTrail cs vars z) cut (trail_take cs vars (front ++ s ∷ []) (length front) (let k = length_push front s in omega arith) t);
+      trail = subst (λ (z : List Step). IsTrail cs vars z) cut
+          (trail_take cs vars (front ++ s ∷ []) (length front) (let k = length_push front s in omega arith) t);
       shows = shows_pop marks front s w (let k = h.every in omega arith) (absent_in_front front s t.distinct);
       every = length-set marks s.lit.var None ∙ h.every;
       room = (let r = h.room in omega arith);

@@ -4,7 +4,8 @@ use Rattle.std.specs.Prelude.{slice_index_or, if◌then◌else◌}
 use Rattle.std.specs.Bool.{beq}
 use Rattle.std.specs.Option.{option_map}
 use Rattle.pp_clause.specs.Literal.{Literal}
-use Rattle.pp_trail.specs.Trail.{IsUpTo, IsTrail}
+use Rattle.pp_clause.specs.Bound.{IsUpTo}
+use Rattle.pp_trail.specs.Trail.{IsTrail}
 use Rattle.pp_trail.specs.declared.step.Step.{Step}
 use Rattle.pp_trail.specs.declared.marks.Mark.{Mark}
 
@@ -24,7 +25,8 @@ mark_value o positive = option_map (λ m. beq m.positive positive) o
 
 -- what holds of the parts of a trail: no variable of the clauses is above `vars`, the steps are a trail over them,
 -- the marks show it, and there is room for a step for each variable
-pub record IsSound (cs : List (List Literal)) (steps : List Step) (marks : List (Option Mark)) (vars capacity : ℕ) : Type 0 where
+pub record IsSound (cs : List (List Literal)) (steps : List Step) (marks : List (Option Mark)) (vars capacity : ℕ) :
+    Type 0 where
   pub clauses : All (IsUpTo vars) cs
   pub trail : IsTrail cs vars steps
   pub shows : ArePlaces marks steps

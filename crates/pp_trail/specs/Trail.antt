@@ -4,6 +4,7 @@ use Rattle.std.specs.Prelude.{ℕ, ◌≡◌, ◌≢◌, ◌<◌, ◌≤◌, ◌
 use Rattle.std.specs.Prelude.{AllPairs, length, take, map, slice_index_or, if◌then◌else◌}
 use Rattle.pp_clause.specs.Literal.{Literal, opposite}
 use Rattle.pp_clause.specs.Clause.{has}
+use Rattle.pp_clause.specs.Bound.{IsUpTo}
 use Rattle.pp_clause.specs.Derivation.{numbered}
 use Rattle.pp_clause.specs.Log.{all_negated}
 use Rattle.pp_clause.specs.New.{OthersNegated}
@@ -12,10 +13,6 @@ use Rattle.pp_trail.specs.declared.step.Step.{Step}
 -- the literals of the steps
 abbrev pub lits : List Step → List Literal
 lits steps = map (λ s. s.lit) steps
-
--- no variable of the literals is above this one
-abbrev pub IsUpTo : ℕ → List Literal → Type 0
-IsUpTo vars ls = All (λ l. l.var ≤ vars) ls
 
 -- this step stands at this place of the trail; the first place is 0
 pub record StandsAt (steps : List Step) (place : ℕ) (step : Step) : Type 0 where

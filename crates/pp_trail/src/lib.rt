@@ -2,20 +2,15 @@
 //!
 //! A `Trail` has clauses and steps, each a literal that is made true. A step is a decision, or it names the clause that
 //! leaves no other choice. `specs/Trail` has what a trail is; contracts see a `Trail` as its clauses, its steps and the
-//! greatest variable. Who finds the steps that have reasons isn't said here (`pp_watch` does). That places are looked up
-//! by variable may be changed.
+//! greatest variable. Who finds the steps that have reasons isn't said here (`pp_watch` does). That places are looked
+//! up by variable may be changed.
 #![tactic(auto)]
 
-pub mod bound;
 pub mod marks;
 pub mod step;
 pub mod trail;
 
-pub use bound::{greatest_var, raised};
 pub use marks::Mark;
 pub use std::alloc::AllocError as NoMemory;
 pub use step::Step;
 pub use trail::Trail;
-
-#[cfg(test)]
-mod tests;

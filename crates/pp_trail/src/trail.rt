@@ -2,7 +2,8 @@
 ghost use Rattle.std.specs.Prelude.{ℕ, ◌≡◌, ◌≢◌, ◌+◌, ◌-◌, ◌^◌, ◌<◌, ◌≤◌, [], ◌∷◌, ◌++◌, None};
 ghost use Rattle.std.specs.Prelude.{length, take, All, IfSome, IfNone, IfOk, OnOk, OnErr};
 ghost use Rattle.pp_trail.specs.Marks.{mark_from, ArePlaces};
-ghost use Rattle.pp_trail.specs.Trail.{lits, IsUpTo, IsReason, IsTrail, value_in, IsPlaceOf};
+ghost use Rattle.pp_clause.specs.Bound.{IsUpTo};
+ghost use Rattle.pp_trail.specs.Trail.{lits, IsReason, IsTrail, value_in, IsPlaceOf};
 
 use crate::NoMemory;
 use crate::marks::Mark;

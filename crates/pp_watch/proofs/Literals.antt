@@ -1,21 +1,24 @@
 -- What looks at the literals of a clause find, a literal at a time.
 use Rattle.std.proofs.Common.{ℕ, ◌+◌, ◌≡◌, ◌≢◌, ◌<◌, ◌≤◌, true, List, [], ◌∷◌, ◌++◌, sym}
-use Rattle.std.proofs.Common.{ap, ◌∙◌, subst, inl, inr, arith, length, get_or, take}
-use Rattle.std.proofs.lemmas.List.{take_more, take_all, get_or_default}
+use Rattle.std.proofs.Common.{ap, ◌∙◌, subst, inl, inr, arith, length, get_or, take, drop, Option, Some, None}
+use Rattle.std.specs.Prelude.{IfNone}
+use Rattle.std.proofs.lemmas.List.{take_more, take_all, get_or_default, take-append-drop, length-drop}
 use Rattle.std.proofs.lemmas.Bool.{false_from_ne_true}
 use Rattle.pp_clause.specs.Literal.{Literal, opposite}
 use Rattle.std.proofs.lemmas.List.Folds.{list_any_at}
 use Rattle.pp_clause.specs.Clause.{has, literal_eq}
 use Rattle.pp_clause.specs.Log.{all_negated}
 use Rattle.pp_clause.specs.New.{OthersNegated}
-use Rattle.pp_clause.proofs.Has.{has-nil, has-push_cases, literal_eq-same}
+use Rattle.pp_clause.proofs.Has.{has-nil, has-push_cases, has-append_left, has-append_right}
+use Rattle.pp_clause.proofs.Has.{has-append_cases, literal_eq-same}
 use Rattle.pp_trail.specs.declared.step.Step.{Step}
 use Rattle.pp_trail.specs.Trail.{lits, IsTrail, IsPlaceOf}
 use Rattle.pp_trail.proofs.Places.{AreDistinct, literal_at}
 use Rattle.pp_trail.proofs.Negated.{all_negated_from, negated_at}
+use Rattle.pp_watch.specs.declared.finding.Found.{Found}
 use Rattle.pp_watch.specs.declared.head.Head.{Head}
 use Rattle.pp_watch.specs.Lists.{code}
-use Rattle.pp_watch.specs.Looking.{IsBound}
+use Rattle.pp_watch.specs.Looking.{IsBound, IsOther}
 
 take_next : (ls : List Literal) (i : ℕ) (l : Literal) → i < length ls → l ≡ get_or ls i l → take (i + 1) ls
     ≡ take i ls ++ l ∷ []
@@ -53,6 +56,45 @@ others_more set ls i l x lt is h k = record {
 pub others_all : (set ls : List Literal) (i : ℕ) (x : Literal) → length ls ≤ i → OthersNegated set (take i ls) x →
     OthersNegated set ls x
 others_all set ls i x le h = subst (λ (z : List Literal). OthersNegated set z x) (take_all i ls le) h
+
+-- what holds of the literals before a place and of those from it on
+pub other_before : (set c : List Literal) (i : ℕ) (x m : Literal) → IsOther set (take i c) x m → IsOther set c x m
+other_before set c i x m h = record {
+  held = ap (λ (z : List Literal). has z m) (sym (take-append-drop i c)) ∙ has-append_left (take i c) (drop i c) m
+      h.held;
+  not_false = h.not_false;
+  differs = h.differs;
+}
+
+pub other_from : (set c : List Literal) (i n : ℕ) (x m : Literal) → IsOther set (take n (drop i c)) x m →
+    IsOther set c x m
+other_from set c i n x m h =
+    let part : IsOther set (drop i c) x m = other_before set (drop i c) n x m h in
+    record {
+      held = ap (λ (z : List Literal). has z m) (sym (take-append-drop i c)) ∙ has-append_right (take i c) (drop i c) m
+          part.held;
+      not_false = part.not_false;
+      differs = part.differs;
+    }
+
+others_both : (set c : List Literal) (i n : ℕ) (x : Literal) → length c ≤ i + n → OthersNegated set (take i c) x →
+    OthersNegated set (take n (drop i c)) x → OthersNegated set c x
+others_both set c i n x le before from =
+    let rest : OthersNegated set (drop i c) x = others_all set (drop i c) n x (omega (arith, length-drop i c)) from in
+    record {
+      negated = λ m h ne. elim (has-append_cases (take i c) (drop i c) m
+          (ap (λ (z : List Literal). has z m) (take-append-drop i c) ∙ h)) [
+            | inl j ↦ before.negated m j ne
+            | inr j ↦ rest.negated m j ne
+          ];
+    }
+
+-- and where the first look of two found none, and the second one answers whether there is one
+pub others_none_both : (set c : List Literal) (i n : ℕ) (x : Literal) (r : Option Found) → length c ≤ i + n →
+    IfNone r (OthersNegated set (take i c) x) → OthersNegated set (take n (drop i c)) x →
+    IfNone r (OthersNegated set c x)
+others_none_both set c i n x None le before from = others_both set c i n x le before from
+others_none_both set c i n x (Some f) le before from = tt
 
 -- before its place a literal isn't false
 before_place : (steps : List Step) (place n : ℕ) (l : Literal) → AreDistinct steps → IsPlaceOf steps l.var place →

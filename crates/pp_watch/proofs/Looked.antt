@@ -197,20 +197,20 @@ drop_watcher s t l place w h looked lt in' is far trail heads levels visited lis
     }
 
 -- the clause watches a literal that isn't false in place of the false one
-pub move_watcher : (s t : State) (l : Literal) (place number : ℕ) (other new : Literal) (mid : List (List Watcher))
-    (w : Watcher) → IsSound s → AreLookedAt s l (place + 1) → IsBeside s l place number other →
-    has (lits s.trail.steps) (opposite l) ≡ true → code other ≢ code l → IsOther (lits s.trail.steps)
-    (clause_at s.trail.clauses (number - 1)) other new → code l < length s.lists → code new < length s.lists →
-    t.trail ≡ s.trail → t.levels ≡ s.levels → t.visited ≡ s.visited → t.heads.items ≡ set s.heads.items (number - 1)
-    (record { first = new; second = other }) →
+pub move_watcher : (s t : State) (l : Literal) (place number : ℕ) (other new : Literal) (look : ℕ)
+    (mid : List (List Watcher)) (w : Watcher) → IsSound s → AreLookedAt s l (place + 1) →
+    IsBeside s l place number other → has (lits s.trail.steps) (opposite l) ≡ true → code other ≢ code l →
+    IsOther (lits s.trail.steps) (clause_at s.trail.clauses (number - 1)) other new → code l < length s.lists →
+    code new < length s.lists → t.trail ≡ s.trail → t.levels ≡ s.levels → t.visited ≡ s.visited →
+    t.heads.items ≡ set s.heads.items (number - 1) (record { first = new; second = other; look = look }) →
     mid ≡ with_watchers s.lists new (watchers_of s.lists new ++ record { number = number; blocker = other } ∷ []) →
     w ≡ get_or (watchers_of mid l) place w →
     t.lists ≡ with_watchers mid l (swap_remove (watchers_of mid l) place w) → IsDropped s l place t
-move_watcher s t l place number other new mid w h looked b neg ne o in1 in2 trail levels visited heads first is
+move_watcher s t l place number other new look mid w h looked b neg ne o in1 in2 trail levels visited heads first is
     second =
     let k : number - 1 < length s.heads.items = (let x = b.low in let y = b.high in omega arith) in
     let v : Watcher = record { number = number; blocker = other } in
-    let g : Head = record { first = new; second = other } in
+    let g : Head = record { first = new; second = other; look = look } in
     let back : number - 1 + 1 ≡ number = (let x = b.low in omega arith) in
     let far : code l ≢ code new = λ e. false_not_true
     (sym o.not_false ∙ ap (λ (z : Literal). has (lits s.trail.steps) (opposite z)) (sym (same_code l new e))

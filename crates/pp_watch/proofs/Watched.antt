@@ -17,7 +17,11 @@ use Rattle.pp_watch.proofs.Listed.{watchers_same, watchers_other, among_push, am
 use Rattle.pp_watch.proofs.Listed.{All_removed}
 
 abbrev pub no_head : Head
-no_head = record { first = record { var = 0; positive = true }; second = record { var = 0; positive = true } }
+no_head = record {
+  first = record { var = 0; positive = true };
+  second = record { var = 0; positive = true };
+  look = 0;
+}
 
 pub same_or_not : (a b : ℕ) → (a ≡ b) ⊎ (a ≢ b)
 same_or_not a b = elim (cases_eq a b) [ inl e ↦ inl e | inr n ↦ inr n ]

@@ -5,7 +5,8 @@ use Rattle.pp_clause.specs.Literal.{Literal, opposite}
 use Rattle.pp_clause.specs.Clause.{has}
 use Rattle.pp_clause.specs.Derivation.{numbered}
 use Rattle.pp_clause.specs.New.{OthersNegated}
-use Rattle.pp_trail.specs.Trail.{lits, IsUpTo}
+use Rattle.pp_clause.specs.Bound.{IsUpTo}
+use Rattle.pp_trail.specs.Trail.{lits}
 use Rattle.pp_trail.specs.declared.step.Step.{Step}
 use Rattle.pp_watch.specs.Lists.{code, watchers_of, is_among}
 use Rattle.pp_watch.specs.Watching.{HasTrue, clause_at, head_at, IsSound, Grows}
@@ -88,3 +89,7 @@ pub record IsBeside (s : State) (l : Literal) (place number : ℕ) (other : Lite
 abbrev pub AreOthersFalse : State → ℕ → Literal → Type 0
 AreOthersFalse s number other =
     OthersNegated (lits s.trail.steps) (clause_at s.trail.clauses (number - 1)) other
+
+-- the clause with this number has a literal besides this one that isn't false
+abbrev pub HasOther : State → ℕ → Literal → Literal → Type 0
+HasOther s number other l = IsOther (lits s.trail.steps) (clause_at s.trail.clauses (number - 1)) other l

@@ -19,8 +19,8 @@ abbrev pub head_at : List Head → ℕ → Head
 head_at heads k =
     slice_index_or heads k (record {
       first = record { var = 0; positive = true };
-      second =
-          record { var = 0; positive = true };
+      second = record { var = 0; positive = true };
+      look = 0;
     })
 
 -- some literal of the clause is true

@@ -102,6 +102,7 @@ impl State {
         self.heads.push(Head {
             first: head.first,
             second: head.second,
+            look: head.look,
         })?;
         Ok(())
     }

@@ -12,6 +12,15 @@ use crate::head::Head;
 use pp_clause::Lit;
 use pp_trail::Trail;
 
+/// A literal of a clause, and its place there.
+#[derive(Clone, Copy)]
+pub struct Found {
+    /// The literal.
+    pub lit: Lit,
+    /// Its place.
+    pub place: usize,
+}
+
 /// Whether the literal is true.
 pub fn is_true(trail: &Trail, lit: Lit) -> bool
     ensures { result ≡ has (lits trail.now.steps) lit }
@@ -51,15 +60,31 @@ pub fn not_false(trail: &Trail, clause: &[Lit]) -> Option<Lit>
     None
 }
 
-/// A literal besides this one that isn't false.
-pub fn other_not_false(trail: &Trail, clause: &[Lit], lit: Lit) -> Option<Lit>
-    ensures some { IfSome result (IsOther (lits trail.now.steps) clause.now lit) }
+/// A literal besides this one that isn't false. The look begins at the place `from`, and goes round.
+pub fn other_not_false(trail: &Trail, clause: &[Lit], lit: Lit, from: usize) -> Option<Found>
+    ensures some { IfSome result (λ f. IsOther (lits trail.now.steps) clause.now lit f.lit) }
     ensures none { IfNone result (OthersNegated (lits trail.now.steps) clause.now lit) }
 {
+    let start = from.min(clause.len());
+    match first_other(trail, &clause[start..], lit) {
+        Some(found) => Some(Found {
+            lit: found.lit,
+            place: start + found.place,
+        }),
+        None => first_other(trail, &clause[..start], lit),
+    }
+}
+
+/// The first literal of a part of a clause, besides this one, that isn't false.
+fn first_other(trail: &Trail, part: &[Lit], lit: Lit) -> Option<Found>
+    ensures some { IfSome result (λ f. IsOther (lits trail.now.steps) part.now lit f.lit) }
+    ensures within { IfSome result (λ f. f.place < length part.now) }
+    ensures none { IfNone result (OthersNegated (lits trail.now.steps) part.now lit) }
+{
     let index = lit.index();
-    for other in clause {
+    for (place, other) in part.iter().enumerate() {
         if other.index() != index && !is_false(trail, *other) {
-            return Some(*other);
+            return Some(Found { lit: *other, place });
         }
     }
     None
@@ -91,11 +116,15 @@ pub fn choose(trail: &Trail, clause: &[Lit]) -> Option<Head>
     ensures none { IfNone result (all_negated (lits trail.now.steps) clause.now ≡ true) }
 {
     let first = not_false(trail, clause)?;
-    let second = match other_not_false(trail, clause, first) {
-        Some(other) => other,
+    let second = match other_not_false(trail, clause, first, 0) {
+        Some(other) => other.lit,
         None => latest_other(trail, clause, first),
     };
-    Some(Head { first, second })
+    Some(Head {
+        first,
+        second,
+        look: 0,
+    })
 }
 
 /// The length before which levels stay, where a clause watches these literals from now on. `None` where they are two

@@ -8,4 +8,6 @@ pub struct Head {
     pub first: Lit,
     /// The other literal.
     pub second: Lit,
+    /// Where in the clause the next look for another literal begins. It may be any number.
+    pub look: usize,
 }

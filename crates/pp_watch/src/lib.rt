@@ -19,6 +19,3 @@ mod watcher;
 
 pub use std::alloc::AllocError as NoMemory;
 pub use watch::Watch;
-
-#[cfg(test)]
-mod tests;

@@ -5,10 +5,10 @@ ghost use Rattle.pp_clause.specs.Clause.{has};
 ghost use Rattle.pp_trail.specs.Trail.{lits, IsFalse};
 ghost use Rattle.pp_watch.specs.Watching.{IsSound, IsSized, Grows, clause_at};
 ghost use Rattle.pp_watch.specs.Lists.{code, watchers_of};
-ghost use Rattle.pp_watch.specs.Looking.{AreLookedAt, AreOthersFalse, Advances, IsBeside, IsOther};
+ghost use Rattle.pp_watch.specs.Looking.{AreLookedAt, AreOthersFalse, Advances, HasOther, IsBeside};
 
 use crate::NoMemory;
-use crate::finding::{is_false, is_true, lits_of, other_not_false};
+use crate::finding::{Found, is_false, is_true, lits_of, other_not_false};
 use crate::head::Head;
 use crate::state::State;
 use crate::watcher::Watcher;
@@ -75,22 +75,23 @@ impl State {
         }
         let head = self.heads[watcher.number as usize - 1];
         if head.first.index() == lit.index() {
-            self.look_beside(lit, place, watcher.number, head.second)
+            self.look_beside(lit, place, watcher.number, head.second, head.look)
         } else if head.second.index() == lit.index() {
-            self.look_beside(lit, place, watcher.number, head.first)
+            self.look_beside(lit, place, watcher.number, head.first, head.look)
         } else {
             self.lists.remove(lit, place);
             Ok(None)
         }
     }
 
-    /// Looks at a clause that watches a false literal and this other one.
+    /// Looks at a clause that watches a false literal and this other one, at its literals from the place `from` on.
     fn look_beside(
         &mut self,
         lit: Lit,
         place: usize,
         number: u32,
         other: Lit,
+        from: usize,
     ) -> Result<Option<u32>, NoMemory>
         requires sound { IsSound self.old }
         requires negated { has (lits self.old.trail.steps) (opposite lit) ≡ true }
@@ -109,10 +110,10 @@ impl State {
             self.block(lit, place, number, other, other);
             return Ok(None);
         }
-        match other_not_false(&self.trail, lits_of(&self.trail, number), other) {
+        match other_not_false(&self.trail, lits_of(&self.trail, number), other, from) {
             Some(new) => {
-                if is_true(&self.trail, new) {
-                    self.block(lit, place, number, other, new);
+                if is_true(&self.trail, new.lit) {
+                    self.block(lit, place, number, other, new.lit);
                     return Ok(None);
                 }
                 self.rewatch(lit, place, number, other, new)?;
@@ -143,14 +144,14 @@ impl State {
         place: usize,
         number: u32,
         other: Lit,
-        new: Lit,
+        new: Found,
     ) -> Result<(), NoMemory>
         requires sound { IsSound self.old }
         requires negated { has (lits self.old.trail.steps) (opposite lit) ≡ true }
         requires looked { AreLookedAt self.old lit (place + 1) }
         requires beside { IsBeside self.old lit place number other }
         requires apart { code other ≢ code lit }
-        requires new { IsOther (lits self.old.trail.steps) (clause_at self.old.trail.clauses (number - 1)) other new }
+        requires new { HasOther self.old number other new.lit }
         ensures advances { IfOk result (λ _. Advances self.old self.new) }
         ensures looked { IfOk result (λ _. AreLookedAt self.new lit place) }
         ensures within { IfOk result (λ _. place ≤ length (watchers_of self.new.lists lit)) }
@@ -158,15 +159,16 @@ impl State {
     {
         let _lits = lits_of(&self.trail, number);
         self.lists.push(
-            new,
+            new.lit,
             Watcher {
                 number,
                 blocker: other,
             },
         )?;
         self.heads[number as usize - 1] = Head {
-            first: new,
+            first: new.lit,
             second: other,
+            look: new.place,
         };
         self.lists.remove(lit, place);
         Ok(())

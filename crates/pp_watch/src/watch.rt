@@ -3,7 +3,8 @@ ghost use Rattle.std.specs.Prelude.{ℕ, ◌≡◌, ◌≢◌, ◌+◌, ◌-◌,
 ghost use Rattle.std.specs.Prelude.{length, take, All, IfSome, IfNone, IfOk, OnOk, OnErr};
 ghost use Rattle.pp_clause.specs.New.{IsClosed};
 ghost use Rattle.pp_trail.specs.Marks.{ArePlaces};
-ghost use Rattle.pp_trail.specs.Trail.{lits, IsUpTo, IsTrail, IsFalse, value_in, IsPlaceOf};
+ghost use Rattle.pp_clause.specs.Bound.{IsUpTo};
+ghost use Rattle.pp_trail.specs.Trail.{lits, IsTrail, IsFalse, value_in, IsPlaceOf};
 ghost use Rattle.pp_watch.specs.Watching.{Grows};
 
 use crate::NoMemory;
@@ -82,8 +83,8 @@ impl Watch {
 
     /// Makes literals true that clauses leave no other choice for, as long as there are such. The clauses and the steps
     /// stay, and each new step has a reason. `None` says that then no clause is false, and none has only false literals
-    /// but for an open one; otherwise the answer is the number of a false clause. On `NoMemory` steps may have been made,
-    /// but nothing is said of them.
+    /// but for an open one; otherwise the answer is the number of a false clause. On `NoMemory` steps may have been
+    /// made, but nothing is said of them.
     pub fn propagate(&mut self) -> Result<Option<u32>, NoMemory>
         ensures grows { OnOk result (Grows self.old self.new) }
         ensures closed { IfOk result (λ o. IfNone o (IsClosed self.new.clauses (lits self.new.steps))) }

@@ -1,7 +1,8 @@
 use Rattle.std.proofs.Common.{◌≡◌, List, sym, subst, ap, ◌∙◌, arith, length}
 use Rattle.pp_clause.specs.declared.log.Lemma.{Lemma}
 use Rattle.pp_trail.specs.declared.step.Step.{Step}
-use Rattle.pp_trail.specs.Trail.{Trail, IsUpTo}
+use Rattle.pp_clause.specs.Bound.{IsUpTo}
+use Rattle.pp_trail.specs.Trail.{Trail}
 use Rattle.pp_cdcl.specs.Invariant.{NoDecision}
 use Rattle.pp_cdcl.proofs.Learning.{learnt_up_to}
 use Rattle.pp_cdcl.proofs.Moves.{spends_all, goes_learnt, cut_and_added}
@@ -18,8 +19,10 @@ returns-then-lemmas-problem c =
 
 pub add-requires-clause-up_to : goal.add-requires-clause-up_to
 add-requires-clause-up_to c =
-    let vars : c.backjump.new.search.watch.vars ≡ c.args.search.now.watch.vars = ap (λ (t : Trail). t.vars) c.in_ok-backjump.ensures.watch in
-    let up : IsUpTo c.args.search.now.watch.vars c.args.lemma.clause = learnt_up_to _ _ _ c.args.lemma.clause c.trail.ensures.trail c.requires.lemma.learnt.negated in
+    let vars : c.backjump.new.search.watch.vars ≡ c.args.search.now.watch.vars =
+    ap (λ (t : Trail). t.vars) c.in_ok-backjump.ensures.watch in
+    let up : IsUpTo c.args.search.now.watch.vars c.args.lemma.clause =
+    learnt_up_to _ _ _ c.args.lemma.clause c.trail.ensures.trail c.requires.lemma.learnt.negated in
     rw (c.in_ok-clause.ensures, vars) up
 
 pub returns : goal.returns

@@ -13,7 +13,8 @@ decide-requires-clause-absent c = rw c.undo.ensures (place_absent _ _ _ _ c.args
 pub refute-requires-clause-assumed : goal.refute-requires-clause-assumed
 refute-requires-clause-assumed c =
     let w = c.requires.place.stands.within in
-    rw (c.decide.ensures, c.undo.ensures) (assumed_decided _ _ c.args.place c.args.lit c.requires.assumed (omega arith) c.requires.missing.held)
+    rw (c.decide.ensures, c.undo.ensures)
+    (assumed_decided _ _ c.args.place c.args.lit c.requires.assumed (omega arith) c.requires.missing.held)
 
 pub refute-requires-clause-conflict : goal.refute-requires-clause-conflict
 refute-requires-clause-conflict c =

@@ -20,8 +20,10 @@ loop-var-preserved c =
       | in-Some+then-place-end+then-back-place w ↦ rw w.back-is
           (follows_more _ _ steps c.args.marks.now c.args.end xs i v w.in-Some.place c.loop-var.back
           (w.in-Some.place + 1)
-          c.requires.trail c.loop-var-test.true is w.in-Some.ensures.some (omega (arith, w.if-back-place.true)) (omega (arith, w.if-place-end.true))
-          (λ lt. omega arith) (λ n e. marked_at steps c.args.marks.now v w.in-Some.place n w.in-Some.ensures.some (omega arith)) c.loop-var.invariant)
+          c.requires.trail c.loop-var-test.true is w.in-Some.ensures.some (omega (arith, w.if-back-place.true))
+          (omega (arith, w.if-place-end.true))
+          (λ lt. omega arith) (λ n e. marked_at steps c.args.marks.now v w.in-Some.place n w.in-Some.ensures.some
+          (omega arith)) c.loop-var.invariant)
       | in-Some+else-place-end w ↦ rw w.back-is
           (follows_more _ _ steps c.args.marks.now c.args.end xs i v w.in-Some.place c.loop-var.back c.loop-var.back
           c.requires.trail c.loop-var-test.true is w.in-Some.ensures.some (omega arith) c.loop-var.invariant.within

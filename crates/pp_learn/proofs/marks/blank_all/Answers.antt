@@ -8,8 +8,10 @@ loop-var-init c = record { end = omega arith; gone = gone_none c.args.marks.now 
 pub loop-var-preserved : goal.loop-var-preserved
 loop-var-preserved c = record {
   end = c.loop-var.invariant.end;
-  gone = gone_more c.loop-var.marks c.loop-var.var (omega (arith, c.loop-var.invariant.end, c.loop-var.auto.marks)) c.loop-var.invariant.gone;
+  gone = gone_more c.loop-var.marks c.loop-var.var (omega (arith, c.loop-var.invariant.end, c.loop-var.auto.marks))
+      c.loop-var.invariant.gone;
 }
 
 pub returns : goal.returns
-returns c = gone_all c.loop-var.marks c.loop-var.var (omega (arith, c.loop-var.invariant.end, c.loop-var.auto.marks)) c.loop-var.invariant.gone
+returns c = gone_all c.loop-var.marks c.loop-var.var (omega (arith, c.loop-var.invariant.end, c.loop-var.auto.marks))
+    c.loop-var.invariant.gone

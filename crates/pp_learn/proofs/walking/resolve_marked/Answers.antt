@@ -5,6 +5,8 @@ use Rattle.pp_learn.proofs.walking.resolve_marked.Goals as goal
 
 pub bounds-marks-var : goal.bounds-marks-var
 bounds-marks-var c =
-    let at = read_at c.args.trail.now c.args.place c.index-trail-place.result c.requires.within c.index-trail-place.is in
-    let fit = (trail_fits c.args.clauses.now c.args.trail.now c.args.marks.now c.requires.trail).fit c.args.place c.index-trail-place.result at in
+    let at = read_at c.args.trail.now c.args.place c.index-trail-place.result c.requires.within
+    c.index-trail-place.is in
+    let fit = (trail_fits c.args.clauses.now c.args.trail.now c.args.marks.now c.requires.trail).fit c.args.place
+    c.index-trail-place.result at in
     omega arith

@@ -8,4 +8,5 @@ returns-in_default-clause-no c = λ _. stuck c.args.table.now c.args.clause.now 
 pub returns-clause-yes : goal.returns-clause-yes
 returns-clause-yes c = λ _.
     rw (c.mark_all.ensures, c.var.ensures.value)
-    (stepped c.args.table.now c.args.clause.now c.in-Some.clash c.requires.fits c.requires.order (sym c.in-Some.ensures.value) c.in-Some.ensures.within)
+    (stepped c.args.table.now c.args.clause.now c.in-Some.clash c.requires.fits c.requires.order
+    (sym c.in-Some.ensures.value) c.in-Some.ensures.within)

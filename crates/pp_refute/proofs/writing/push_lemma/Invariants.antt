@@ -7,4 +7,5 @@ abbrev pub invariant-loop-lit : goal.invariant-loop-lit
 invariant-loop-lit l = l.text.items ≡ l.initial.text.items ++ flat_map text_of_lit (take l.lit-index l.lit-items)
 
 abbrev pub invariant-loop-number : goal.invariant-loop-number
-invariant-loop-number l = l.text.items ≡ l.initial.text.items ++ flat_map text_of_number (take l.number-index l.number-items)
+invariant-loop-number l =
+    l.text.items ≡ l.initial.text.items ++ flat_map text_of_number (take l.number-index l.number-items)

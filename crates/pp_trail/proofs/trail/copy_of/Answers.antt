@@ -18,5 +18,7 @@ loop-place-preserved c =
     let end = c.loop-place.invariant.end in
     record {
       end = end;
-      made = rw c.in_ok-add.ensures.ok (copied c.args.clauses.now c.loop-place.copy c.loop-place.place c.get.result.now c.in_ok-clause.clause c.loop-place.invariant.made (omega arith) c.get.ensures c.in_ok-clause.ensures);
+      made = rw c.in_ok-add.ensures.ok
+          (copied c.args.clauses.now c.loop-place.copy c.loop-place.place c.get.result.now c.in_ok-clause.clause
+          c.loop-place.invariant.made (omega arith) c.get.ensures c.in_ok-clause.ensures);
     }

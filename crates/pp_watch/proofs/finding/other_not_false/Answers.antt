@@ -1,25 +1,18 @@
-use Rattle.std.proofs.Common.{sym, ◌∙◌}
+use Rattle.std.proofs.Common.{◌-◌, arith, length}
+use Rattle.std.proofs.lemmas.Option.{IfSome_then}
 use Rattle.pp_trail.specs.Trail.{lits}
-use Rattle.pp_watch.proofs.Listed.{same_code}
-use Rattle.pp_watch.proofs.Literals.{others_none, others_more, others_all}
+use Rattle.pp_watch.proofs.Literals.{other_before, other_from, others_none_both}
 use Rattle.pp_watch.proofs.finding.other_not_false.Goals as goal
-use Rattle.pp_watch.proofs.finding.other_not_false.Goals.{else-index-via-then-index+else-not-is_false}
-use Rattle.pp_watch.proofs.finding.other_not_false.Goals.{else-index-via-else-index}
 
-pub loop-other-init : goal.loop-other-init
-loop-other-init c = others_none (lits c.args.trail.now.steps) c.args.lit c.args.clause.now
+pub returns-in-Some-clause-some : goal.returns-in-Some-clause-some
+returns-in-Some-clause-some c = other_from (lits c.args.trail.now.steps) c.args.clause.now c.min-start.result _
+    c.args.lit c.in-Some.found.lit c.in-Some.ensures.some
 
-pub loop-other-preserved : goal.loop-other-preserved
-loop-other-preserved c = others_more
-    (lits c.args.trail.now.steps) c.args.clause.now c.loop-other.other-index c.other-item.result c.args.lit
-    c.loop-other-test.true c.other-item.is c.loop-other.invariant
-    (elim c.else-index.branch [
-      | else-index-via-then-index+else-not-is_false w ↦ λ ne. sym w.is_false.ensures ∙ w.if-not-is_false.false
-      | else-index-via-else-index w ↦ λ ne. absurd
-          (ne (same_code c.other-item.result c.args.lit
-          (sym c.index.ensures ∙ w.if-index.false ∙ c.index-index.ensures)))
-    ])
+pub returns-in-None-clause-some : goal.returns-in-None-clause-some
+returns-in-None-clause-some c = IfSome_then c.first_other-in-None.result c.first_other-in-None.ensures.some
+    (λ f h. other_before (lits c.args.trail.now.steps) c.args.clause.now c.min-start.result c.args.lit f.lit h)
 
-pub returns-clause-none : goal.returns-clause-none
-returns-clause-none c = others_all (lits c.args.trail.now.steps) c.args.clause.now c.loop-other.other-index
-    c.args.lit c.loop-other-test.false c.loop-other.invariant
+pub returns-in-None-clause-none : goal.returns-in-None-clause-none
+returns-in-None-clause-none c = others_none_both (lits c.args.trail.now.steps) c.args.clause.now c.min-start.result
+    (length c.args.clause.now - c.min-start.result) c.args.lit c.first_other-in-None.result (omega arith)
+    c.first_other-in-None.ensures.none c.in-None.ensures.none

@@ -22,14 +22,17 @@ returns-clause-always c =
 pub returns-clause-apart : goal.returns-clause-apart
 returns-clause-apart c =
     let s = sorted_same _ _ c.args.lits.now c.as_slice.ensures c.in_ok-sorted.ensures.same in
-    some_weaker c.merged.result _ _ (λ o. HasBoth c.args.lits.now → ⊥) (λ l e o. not_both_from l _ (same_along _ _ _ e s) o) c.merged.ensures.same c.merged.ensures.order
+    some_weaker c.merged.result _ _ (λ o. HasBoth c.args.lits.now → ⊥)
+    (λ l e o. not_both_from l _ (same_along _ _ _ e s) o) c.merged.ensures.same c.merged.ensures.order
 
 pub returns-clause-same : goal.returns-clause-same
 returns-clause-same c =
     let s = sorted_same _ _ c.args.lits.now c.as_slice.ensures c.in_ok-sorted.ensures.same in
-    some_weaker c.merged.result _ _ (λ l. SameLiterals l c.args.lits.now) (λ l e o. same_along _ _ _ e s) c.merged.ensures.same c.merged.ensures.order
+    some_weaker c.merged.result _ _ (λ l. SameLiterals l c.args.lits.now) (λ l e o. same_along _ _ _ e s)
+    c.merged.ensures.same c.merged.ensures.order
 
 pub returns-clause-value : goal.returns-clause-value
 returns-clause-value c =
     let s = sorted_same _ _ c.args.lits.now c.as_slice.ensures c.in_ok-sorted.ensures.same in
-    some_weaker c.merged.result _ _ (λ l. (a : ℕ → Bool) → clause_value a l ≡ clause_value a c.args.lits.now) (λ l e o. clause_value_same _ _ (same_along _ _ _ e s)) c.merged.ensures.same c.merged.ensures.order
+    some_weaker c.merged.result _ _ (λ l. (a : ℕ → Bool) → clause_value a l ≡ clause_value a c.args.lits.now)
+    (λ l e o. clause_value_same _ _ (same_along _ _ _ e s)) c.merged.ensures.same c.merged.ensures.order

@@ -8,4 +8,5 @@ invariant_of-self c = All-same IsLemma _ _ c.in_err-push.ensures.items c.self.in
 pub invariant_of-self-2 : goal.invariant_of-self-2
 invariant_of-self-2 c =
     All-same IsLemma _ _ c.in_ok-push.ensures.items
-    (All-push IsLemma _ _ c.self.invariant (record { clause = c.lits-lits.ensures.order; chain = c.numbers-numbers.ensures.chain }))
+    (All-push IsLemma _ _ c.self.invariant
+    (record { clause = c.lits-lits.ensures.order; chain = c.numbers-numbers.ensures.chain }))

@@ -1,5 +1,6 @@
 use Rattle.std.proofs.Common.{ap}
-use Rattle.pp_trail.specs.Trail.{Trail, IsUpTo}
+use Rattle.pp_clause.specs.Bound.{IsUpTo}
+use Rattle.pp_trail.specs.Trail.{Trail}
 use Rattle.pp_trail.proofs.Sound.{sound_add}
 use Rattle.pp_trail.proofs.trail.Trail.add.Goals as goal
 

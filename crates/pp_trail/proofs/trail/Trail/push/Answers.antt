@@ -19,7 +19,8 @@ prove-unreachable-requires c =
     let vars = ap (λ (t : Trail). t.vars) c.self.view_is in
     let absent : IsAbsent c.args.step.lit.var c.self.inside.steps.items = rw same c.requires.absent in
     let high : c.args.step.lit.var ≤ c.self.inside.vars = rw vars c.requires.up_to in
-    let b = room_for _ _ _ c.args.step.lit.var c.self.invariant.trail (omega (arith, c.var-var.ensures.low, c.var-var.ensures.value)) high absent in
+    let b = room_for _ _ _ c.args.step.lit.var c.self.invariant.trail
+    (omega (arith, c.var-var.ensures.low, c.var-var.ensures.value)) high absent in
     let ok = c.push-pushed.ensures.succeeds (omega (arith, c.self.inside.steps.ok.0, c.self.invariant.room)) in
     grind (arith, common_steps, ok)
 
@@ -27,11 +28,14 @@ pub invariant_of-self : goal.invariant_of-self
 invariant_of-self c =
     let step : Step = c.args.step in
     let old = c.self.inside.steps.items in
-    let pushed : c.push-pushed.new.self.items ≡ old ++ step ∷ [] = grind (arith, common_steps, c.push-pushed.ensures.items, c.is_ok.ensures.value, c.if-prove.false) in
+    let pushed : c.push-pushed.new.self.items ≡ old ++ step ∷ [] =
+    grind (arith, common_steps, c.push-pushed.ensures.items, c.is_ok.ensures.value, c.if-prove.false) in
     let same = ap (λ (t : Trail). t.steps) c.self.view_is in
     let clauses = ap (λ (t : Trail). t.clauses) c.self.view_is in
     let vars = ap (λ (t : Trail). t.vars) c.self.view_is in
     let absent : IsAbsent step.lit.var old = rw same c.requires.absent in
     let high : step.lit.var ≤ c.self.inside.vars = rw vars c.requires.up_to in
     rw (pushed, c.is_positive.ensures, c.var-var.ensures.value)
-    (sound_push _ _ _ _ _ _ step c.len.result c.self.invariant c.push-pushed.ensures.capacity (omega (arith, c.var-var.ensures.low, c.var-var.ensures.value)) high absent (rw (clauses, same) c.requires.reason) (omega (arith, c.self.inside.steps.ok.0)))
+    (sound_push _ _ _ _ _ _ step c.len.result c.self.invariant c.push-pushed.ensures.capacity
+    (omega (arith, c.var-var.ensures.low, c.var-var.ensures.value)) high absent
+    (rw (clauses, same) c.requires.reason) (omega (arith, c.self.inside.steps.ok.0)))

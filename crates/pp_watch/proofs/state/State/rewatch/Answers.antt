@@ -7,24 +7,25 @@ use Rattle.pp_watch.proofs.state.State.rewatch.Goals as goal
 pub push-requires : goal.push-requires
 push-requires c =
     let low = c.requires.beside.low in
-    code_of_clause _ _ c.args.number (c.args.number - 1) _ c.args.new _ _ c.lits_of-lits.ensures
+    code_of_clause _ _ c.args.number (c.args.number - 1) _ c.args.new.lit _ _ c.lits_of-lits.ensures
     (omega arith) c.requires.new.held c.requires.sound.watching
 
 -- the state after the watcher has moved
 moved : (c : goal.After-remove) → IsDropped c.args.self.now c.args.lit c.args.place (record {
   trail = c.args.self.now.trail;
-  heads = with_item c.args.self.now.heads (c.args.number - 1) (record { first = c.args.new; second = c.args.other });
+  heads = with_item c.args.self.now.heads (c.args.number - 1)
+      (record { first = c.args.new.lit; second = c.args.other; look = c.args.new.place });
   lists = c.remove.new.self;
   levels = c.args.self.now.levels;
   visited = c.args.self.now.visited;
 })
 moved c =
     let low = c.requires.beside.low in
-    move_watcher c.args.self.now _ c.args.lit c.args.place c.args.number c.args.other c.args.new c.push.new.self
-    c.remove.result
+    move_watcher c.args.self.now _ c.args.lit c.args.place c.args.number c.args.other c.args.new.lit
+    c.args.new.place c.push.new.self c.remove.result
     c.requires.sound c.requires.looked c.requires.beside c.requires.negated c.requires.apart c.requires.new
     (code_from_watcher c.args.self.now.lists c.args.lit c.args.place c.requires.beside.within)
-    (code_of_clause _ _ c.args.number (c.args.number - 1) _ c.args.new _ _ c.lits_of-lits.ensures
+    (code_of_clause _ _ c.args.number (c.args.number - 1) _ c.args.new.lit _ _ c.lits_of-lits.ensures
     (omega arith) c.requires.new.held c.requires.sound.watching)
     refl refl refl refl c.in_ok-push.ensures.ok c.remove.ensures.value c.remove.ensures.lists
 

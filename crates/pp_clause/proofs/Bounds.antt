@@ -6,7 +6,7 @@ use Rattle.std.proofs.lemmas.Option.{get_or_from_slice_get}
 use Rattle.std.proofs.lemmas.List.{take_all}
 use Rattle.std.proofs.lemmas.List.Elements.{All-more, All-weaker}
 use Rattle.pp_clause.specs.Literal.{Literal}
-use Rattle.pp_trail.specs.Trail.{IsUpTo}
+use Rattle.pp_clause.specs.Bound.{IsUpTo}
 
 pub up_to_higher : (a b : ℕ) (ls : List Literal) → a ≤ b → IsUpTo a ls → IsUpTo b ls
 up_to_higher a b ls le h = All-weaker (λ l. l.var ≤ a) (λ l. l.var ≤ b) (λ l k. omega arith) ls h
@@ -24,7 +24,8 @@ bound_more bound ls i greatest next l h lt is low e =
     let here : (get_or ls i l).var ≤ next = subst (λ (z : Literal). z.var ≤ next) is (omega arith) in
     record {
       kept = (let k = h.kept in omega arith);
-      up_to = All-more (λ m. m.var ≤ next) ls i l lt (up_to_higher greatest next (take i ls) (omega arith) h.up_to) here;
+      up_to = All-more (λ m. m.var ≤ next) ls i l lt (up_to_higher greatest next (take i ls) (omega arith) h.up_to)
+          here;
       least = λ vars le up. (
           let a = h.least vars le up in
           let b : l.var ≤ vars = subst (λ (z : Literal). z.var ≤ vars) (sym is) (up i l lt) in

@@ -3,7 +3,7 @@ use Rattle.pp_learn.specs.Marks.{FitAll}
 use Rattle.pp_learn.proofs.Reasons.{trail_fits}
 use Rattle.pp_learn.specs.Reached.{IsTrailFor}
 use Rattle.pp_learn.proofs.FirstPoint.{two_open, before_more, seeks_on}
-use Rattle.pp_learn.proofs.walking.first_point.Goals as goal
+use Rattle.pp_learn.proofs.walking.first_uip.Goals as goal
 
 pub last_marked-requires-clause-fits : goal.last_marked-requires-clause-fits
 last_marked-requires-clause-fits c = trail_fits c.args.clauses.now c.args.trail.now c.args.marks.now c.requires.trail
@@ -16,7 +16,8 @@ marked_before-requires-clause-fits c =
 
 pub last_marked-requires-in-Some-clause-fits : goal.last_marked-requires-in-Some-clause-fits
 last_marked-requires-in-Some-clause-fits c =
-    let same : length c.args.marks.now ≡ length c.resolve.new.marks = omega (arith, c.loop-below.auto.marks, c.resolve.auto.marks) in
+    let same : length c.args.marks.now ≡ length c.resolve.new.marks =
+    omega (arith, c.loop-below.auto.marks, c.resolve.auto.marks) in
     subst (λ (n : ℕ). FitAll n c.args.trail.now) same (trail_fits c.args.clauses.now c.args.trail.now c.args.marks.now
     c.requires.trail)
 

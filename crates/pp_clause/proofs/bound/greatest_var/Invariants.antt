@@ -1,6 +1,6 @@
 use Rattle.std.proofs.Common.{◌≡◌, length}
-use Rattle.pp_trail.proofs.Bounds.{IsGreatest}
-use Rattle.pp_trail.proofs.bound.greatest_var.Given as goal
+use Rattle.pp_clause.proofs.Bounds.{IsGreatest}
+use Rattle.pp_clause.proofs.bound.greatest_var.Given as goal
 
 abbrev pub invariant-loop-place : goal.invariant-loop-place
 invariant-loop-place l = record {

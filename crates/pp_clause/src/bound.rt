@@ -1,8 +1,9 @@
 //! The greatest variable of clauses and literals.
 ghost use Rattle.std.specs.Prelude.{ℕ, ◌≤◌, ◌^◌, All};
-ghost use Rattle.pp_trail.specs.Trail.{IsUpTo};
+ghost use Rattle.pp_clause.specs.Bound.{IsUpTo};
 
-use pp_clause::{Clauses, Lit};
+use crate::clauses::Clauses;
+use crate::lit::Lit;
 
 /// The greatest variable of the clauses, or 0 where they have none.
 pub fn greatest_var(clauses: &Clauses) -> u32
