@@ -45,10 +45,13 @@ bitwise_turn s op xs ys out new i x y l hx hy ex ey len is f e =
     let p = 2 ^ i in
     let m = nat_of s (take i xs) in
     let n = nat_of s (take i ys) in
-    let left : nat_of s (take (i + 1) xs) ≡ lit_bit s x * p + m = nat_of_next s xs i x hx ex ∙ swapped m p (lit_bit s x) in
-    let right : nat_of s (take (i + 1) ys) ≡ lit_bit s y * p + n = nat_of_next s ys i y hy ey ∙ swapped n p (lit_bit s y) in
+    let left : nat_of s (take (i + 1) xs) ≡ lit_bit s x * p + m =
+    nat_of_next s xs i x hx ex ∙ swapped m p (lit_bit s x) in
+    let right : nat_of s (take (i + 1) ys) ≡ lit_bit s y * p + n =
+    nat_of_next s ys i y hy ey ∙ swapped n p (lit_bit s y) in
     nat_of_pushed s out new i l len is
     ∙ (λ j. e j + p * (ap bit f ∙ sym (bits_by_bit op (lit_value s x) (lit_value s y))) j)
     ∙ swapped (bits_by op m n) p (bits_by op (lit_bit s x) (lit_bit s y))
-    ∙ sym (bits_by_block op i (lit_bit s x) (lit_bit s y) m n (nat_of_first s xs i (omega arith)) (nat_of_first s ys i (omega arith)))
+    ∙ sym (bits_by_block op i (lit_bit s x) (lit_bit s y) m n (nat_of_first s xs i (omega arith))
+    (nat_of_first s ys i (omega arith)))
     ∙ sym (λ j. bits_by op (left j) (right j))

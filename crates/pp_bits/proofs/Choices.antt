@@ -24,7 +24,13 @@ pub invert_turn : (s : ℕ → Bool) (xs out new : List Literal) (i : ℕ) (x l 
     → nat_of s new + nat_of s (take (i + 1) xs) + 1 ≡ 2 ^ (i + 1)
 invert_turn s xs out new i x l h ex len is f e =
     let one : lit_bit s l + lit_bit s x ≡ 1 = ap (λ (b : Bool). bit b + lit_bit s x) f ∙ bit_not (lit_value s x) in
-    omega (arith, nat_of_pushed s out new i l len is, nat_of_next s xs i x h ex, ap (λ (k : ℕ). 2 ^ i * k) one, power_next i)
+    omega (
+      arith,
+      nat_of_pushed s out new i l len is,
+      nat_of_next s xs i x h ex,
+      ap (λ (k : ℕ). 2 ^ i * k) one,
+      power_next i,
+    )
 
 -- the digits of a number are its remainders by 2, one quotient after another
 pub constant_turn : (s : ℕ → Bool) (out new : List Literal) (i rest v : ℕ) (l : Literal)
@@ -33,7 +39,13 @@ pub constant_turn : (s : ℕ → Bool) (out new : List Literal) (i rest v : ℕ)
     → nat_of s new + 2 ^ (i + 1) * (rest / 2) ≡ v
 constant_turn s out new i rest v l len is f e =
     let digit : lit_bit s l + 2 * (rest / 2) ≡ rest = ap (λ (b : Bool). bit b + 2 * (rest / 2)) f ∙ halves rest in
-    omega (arith, nat_of_pushed s out new i l len is, ap (λ (k : ℕ). 2 ^ i * k) digit, ap (λ (k : ℕ). k * (rest / 2)) (power_next i), e)
+    omega (
+      arith,
+      nat_of_pushed s out new i l len is,
+      ap (λ (k : ℕ). 2 ^ i * k) digit,
+      ap (λ (k : ℕ). k * (rest / 2)) (power_next i),
+      e,
+    )
   where
     halves : (n : ℕ) → bit (n % 2 == 1) + 2 * (n / 2) ≡ n
     halves n = grind (arith, nat_tests)

@@ -27,7 +27,15 @@ nat_of_agree gs s t (l ∷ ls) of a =
     nat_of_cons s l ls ∙ (λ i. bit (here i) + 2 * rest i) ∙ sym (nat_of_cons t l ls)
 
 pub inputs_none : (gs : List Gate) (ls : List Literal) → ls ≡ [] → AreInputs gs gs 0 ls
-inputs_none gs ls e = subst (AreInputs gs gs 0) (sym e) (record { len = refl; count = omega arith; of = All-nil (IsOf gs); inputs = All-nil (λ l. IsInput gs l.var); fresh = All-nil (λ l. length gs < l.var) })
+inputs_none gs ls e = subst (AreInputs gs gs 0) (sym e)
+    (record {
+      len = refl;
+      count = omega arith;
+      of = All-nil (IsOf gs);
+      inputs = All-nil (λ l. IsInput gs l.var);
+      fresh =
+          All-nil (λ l. length gs < l.var);
+    })
 
 pub inputs_push : (old mid new : List Gate) (i : ℕ) (ls all : List Literal) (l : Literal) → Grows old mid i
     → Grows mid new 1 → all ≡ ls ++ l ∷ []
@@ -64,9 +72,12 @@ chosen_turn old mid new i ls all l before grows is e input var positive are chos
     with_digit : (b : Bool) (rest : ℕ) → rest < 2 ^ i → rest + 2 ^ i * bit b ≡ v → ChosenNumber old new s all v
     with_digit b rest small whole =
         let lower : ChosenNumber old mid s ls rest = chosen s gives rest small in
-        let next : Extended mid new lower.assignment (λ x. b) = growth_extends mid new 1 grows is lower.assignment (λ x. b) lower.gives in
+        let next : Extended mid new lower.assignment (λ x. b) =
+        growth_extends mid new 1 grows is lower.assignment (λ x. b) lower.gives in
         let t = next.assignment in
-        let digit : lit_value t l ≡ b = ap (λ (p : Bool). if p then t l.var else not (t l.var)) positive ∙ sym (next.inputs l.var (omega arith) input) in
+        let digit : lit_value t l ≡ b =
+        ap (λ (p : Bool). if p then t l.var else not (t l.var)) positive
+        ∙ sym (next.inputs l.var (omega arith) input) in
         let same : nat_of t ls ≡ rest = sym (nat_of_agree mid lower.assignment t ls are.of next.keeps) ∙ lower.number in
         record {
           assignment = t;

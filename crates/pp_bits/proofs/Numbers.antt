@@ -41,9 +41,6 @@ nat_of_below s (l ∷ ls) = rw (pow-succ' 2 (length ls)) (omega (arith, nat_of_b
 pub nat_of_within : (s : ℕ → Bool) (ls : List Literal) (n : ℕ) → length ls ≡ n → nat_of s ls < 2 ^ n
 nat_of_within s ls n len = subst (λ (k : ℕ). nat_of s ls < 2 ^ k) len (nat_of_below s ls)
 
-pub nat_of_most : (s : ℕ → Bool) (ls : List Literal) (n : ℕ) → length ls ≡ n → nat_of s ls ≤ 2 ^ n
-nat_of_most s ls n len = omega (arith, nat_of_within s ls n len)
-
 -- the first digits of a number, and one more
 pub nat_of_at : (s : ℕ → Bool) (xs : List Literal) (i : ℕ) (d : Literal) → i < length xs
     → nat_of s (take (i + 1) xs) ≡ nat_of s (take i xs) + 2 ^ i * lit_bit s (get_or xs i d)
@@ -62,8 +59,11 @@ pub nat_of_split : (s : ℕ → Bool) (xs : List Literal) (n : ℕ) → length x
     × (nat_of s xs ≡ nat_of s (take n xs) + 2 ^ n * bit t)
 nat_of_split s [] n len = absurd (omega arith)
 nat_of_split s (x ∷ xs) n len =
-    let all = x ∷ xs in
-    (lit_value s (get_or all n x), ap (nat_of s) (sym (take_all (n + 1) all (omega arith))) ∙ nat_of_at s all n x (omega arith))
+    let all = x ∷ xs in (
+      lit_value s (get_or all n x),
+      ap (nat_of s) (sym (take_all (n + 1) all (omega arith)))
+          ∙ nat_of_at s all n x (omega arith),
+    )
 
 -- a number is its lowest digit and the others
 pub nat_of_uncons : (s : ℕ → Bool) (xs : List Literal) (x : Literal) → 0 < length xs → x ≡ get_or xs 0 x

@@ -22,7 +22,8 @@ pub equal_turn : (s : ℕ → Bool) (xs ys : List Literal) (i : ℕ) (x y both n
     → lit_value s next ≡ (nat_of s (take (i + 1) xs) == nat_of s (take (i + 1) ys))
 equal_turn s xs ys i x y both next hx hy ex ey f e =
     f ∙ ap (λ (b : Bool). b && not (xor_of (lit_value s x) (lit_value s y))) e
-    ∙ digits_equal (2 ^ i) (nat_of s (take i xs)) (nat_of s (take i ys)) (lit_value s x) (lit_value s y) (nat_of_first s xs i (omega arith)) (nat_of_first s ys i (omega arith))
+    ∙ digits_equal (2 ^ i) (nat_of s (take i xs)) (nat_of s (take i ys)) (lit_value s x) (lit_value s y)
+    (nat_of_first s xs i (omega arith)) (nat_of_first s ys i (omega arith))
     ∙ sym (λ j. nat_of_next s xs i x hx ex j == nat_of_next s ys i y hy ey j)
 
 pub less_none : (s : ℕ → Bool) → false ≡ nat_lt (nat_of s []) (nat_of s [])
@@ -40,5 +41,6 @@ pub less_turn : (s : ℕ → Bool) (xs ys : List Literal) (i : ℕ) (x y lower n
     → lit_value s next ≡ nat_lt (nat_of s (take (i + 1) xs)) (nat_of s (take (i + 1) ys))
 less_turn s xs ys i x y lower next hx hy ex ey f e =
     f ∙ ap (majority_of (not (lit_value s x)) (lit_value s y)) e
-    ∙ digits_less (2 ^ i) (nat_of s (take i xs)) (nat_of s (take i ys)) (lit_value s x) (lit_value s y) (nat_of_first s xs i (omega arith)) (nat_of_first s ys i (omega arith))
+    ∙ digits_less (2 ^ i) (nat_of s (take i xs)) (nat_of s (take i ys)) (lit_value s x) (lit_value s y)
+    (nat_of_first s xs i (omega arith)) (nat_of_first s ys i (omega arith))
     ∙ sym (λ j. nat_lt (nat_of_next s xs i x hx ex j) (nat_of_next s ys i y hy ey j))

@@ -31,28 +31,36 @@ abbrev signed_at : ℕ → ℕ → ℕ → ℤ
 signed_at p q v = if nat_lt v p then pos v else neg_ℤ (pos (q - v))
 
 signed_low : (p q v m : ℕ) → m < p → v ≡ m → signed_at p q v ≡ pos m
-signed_low p q v m h e = ap (λ (b : Bool). if b then pos v else neg_ℤ (pos (q - v))) (test_true v p (omega arith)) ∙ ap pos e
+signed_low p q v m h e =
+    ap (λ (b : Bool). if b then pos v else neg_ℤ (pos (q - v))) (test_true v p (omega arith)) ∙ ap pos e
 
 signed_high : (p q v m : ℕ) → q ≡ 2 * p → m < p → v ≡ m + p → signed_at p q v ≡ negsuc (p - m - 1)
 signed_high p q v m twice h e =
-    ap (λ (b : Bool). if b then pos v else neg_ℤ (pos (q - v))) (test_false v p (omega arith)) ∙ negative (q - v) (p - m - 1) (omega arith)
+    ap (λ (b : Bool). if b then pos v else neg_ℤ (pos (q - v))) (test_false v p (omega arith))
+    ∙ negative (q - v) (p - m - 1) (omega arith)
 
 -- the order of two signed numbers, from that of their lower digits and their signs
 signs_less : (p q a b : ℕ) (x y : Bool) → q ≡ 2 * p → a < p → b < p
     → majority_of (not y) x (nat_lt a b) ≡ int_lt (signed_at p q (a + p * bit x)) (signed_at p q (b + p * bit y))
 signs_less p q a b true true twice ha hb =
-    test_swapped p a b ha hb ∙ sym (λ j. int_lt (signed_high p q (a + p * 1) a twice ha (omega arith) j) (signed_high p q (b + p * 1) b twice hb (omega arith) j))
+    test_swapped p a b ha hb
+    ∙ sym (λ j. int_lt (signed_high p q (a + p * 1) a twice ha (omega arith) j)
+    (signed_high p q (b + p * 1) b twice hb (omega arith) j))
 signs_less p q a b true false twice ha hb =
-    sym (λ j. int_lt (signed_high p q (a + p * 1) a twice ha (omega arith) j) (signed_low p q (b + p * 0) b hb (omega arith) j))
+    sym (λ j. int_lt (signed_high p q (a + p * 1) a twice ha (omega arith) j)
+    (signed_low p q (b + p * 0) b hb (omega arith) j))
 signs_less p q a b false true twice ha hb =
-    sym (λ j. int_lt (signed_low p q (a + p * 0) a ha (omega arith) j) (signed_high p q (b + p * 1) b twice hb (omega arith) j))
+    sym (λ j. int_lt (signed_low p q (a + p * 0) a ha (omega arith) j)
+    (signed_high p q (b + p * 1) b twice hb (omega arith) j))
 signs_less p q a b false false twice ha hb =
-    sym (λ j. int_lt (signed_low p q (a + p * 0) a ha (omega arith) j) (signed_low p q (b + p * 0) b hb (omega arith) j))
+    sym (λ j. int_lt (signed_low p q (a + p * 0) a ha (omega arith) j)
+    (signed_low p q (b + p * 0) b hb (omega arith) j))
 
 -- a number from its lower digits and its highest
 pub nat_of_top : (s : ℕ → Bool) (ls : List Literal) (top : ℕ) (x : Literal) → top + 1 ≡ length ls → x ≡ get_or ls top x
     → nat_of s ls ≡ nat_of s (take top ls) + 2 ^ top * lit_bit s x
-nat_of_top s ls top x len e = ap (nat_of s) (sym (take_all (top + 1) ls (omega arith))) ∙ nat_of_next s ls top x (omega arith) e
+nat_of_top s ls top x len e =
+    ap (nat_of s) (sym (take_all (top + 1) ls (omega arith))) ∙ nat_of_next s ls top x (omega arith) e
 
 pub less_signed_turn : (s : ℕ → Bool) (us vs : List Literal) (n top : ℕ) (x y lower next : Literal)
     → length us ≡ n → length vs ≡ n → top + 1 ≡ n → top ≡ n - 1 → x ≡ get_or us top x → y ≡ get_or vs top y
@@ -64,7 +72,8 @@ less_signed_turn s us vs n top x y lower next lu lv next_top is ex ey f e =
     let low_b = nat_of s (take top vs) in
     let twice : 2 ^ n ≡ 2 * 2 ^ top = ap (λ (k : ℕ). 2 ^ k) (sym next_top) ∙ power_next top in
     e ∙ ap (majority_of (not (lit_value s y)) (lit_value s x)) f
-    ∙ signs_less (2 ^ top) (2 ^ n) low_a low_b (lit_value s x) (lit_value s y) twice (nat_of_first s us top (omega arith)) (nat_of_first s vs top (omega arith))
+    ∙ signs_less (2 ^ top) (2 ^ n) low_a low_b (lit_value s x) (lit_value s y) twice
+    (nat_of_first s us top (omega arith)) (nat_of_first s vs top (omega arith))
     ∙ sym (λ j. int_lt (signed_at (2 ^ sym is j) (2 ^ n) (nat_of_top s us top x (next_top ∙ sym lu) ex j))
     (signed_at (2 ^ sym is j) (2 ^ n) (nat_of_top s vs top y (next_top ∙ sym lv) ey j)))
 

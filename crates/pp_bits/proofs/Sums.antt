@@ -2,7 +2,6 @@
 use Rattle.std.proofs.Common.{◌≡◌, ℕ, ◌+◌, ◌-◌, ◌*◌, ◌^◌, ◌<◌, ◌%◌, Bool, List, [], ◌∷◌, ◌++◌, length, length-append}
 use Rattle.std.proofs.Common.{take, get_or, sym, ap, ◌∙◌, arith}
 use Rattle.std.proofs.lemmas.Bool.Decides.{nat_tests}
-use Rattle.std.proofs.lemmas.Nat.{pow_pos}
 use Rattle.pp_clause.specs.Literal.{Literal, opposite, lit_value}
 use Rattle.pp_gate.specs.Gate.{xor_of, majority_of}
 use Rattle.pp_bits.specs.Number.{bit, lit_bit, nat_of}
@@ -25,7 +24,15 @@ pub add_turn : (s : ℕ → Bool) (xs ys out new : List Literal) (i : ℕ) (x y 
     → nat_of s new + 2 ^ (i + 1) * lit_bit s next ≡ nat_of s (take (i + 1) xs) + nat_of s (take (i + 1) ys) + lit_bit s
     first
 add_turn s xs ys out new i x y carry first l next hx hy ex ey len is f e =
-    omega (arith, nat_of_pushed s out new i l len is, nat_of_next s xs i x hx ex, nat_of_next s ys i y hy ey, ap (λ (k : ℕ). 2 ^ i * k) f, ap (λ (k : ℕ). k * lit_bit s next) (power_next i), e)
+    omega (
+      arith,
+      nat_of_pushed s out new i l len is,
+      nat_of_next s xs i x hx ex,
+      nat_of_next s ys i y hy ey,
+      ap (λ (k : ℕ). 2 ^ i * k) f,
+      ap (λ (k : ℕ). k * lit_bit s next) (power_next i),
+      e,
+    )
 
 pub wrapping_length : (xs low new : List Literal) (digit : Literal) → 0 < length xs
     → length low ≡ length (take (length xs - 1) xs) → new ≡ low ++ digit ∷ [] → length new ≡ length xs
@@ -53,7 +60,14 @@ wrapping_turn s xs ys low new x y first next digit some same ex ey len is e f =
     let lower : nat_of s low + p * lit_bit s next ≡ nat_of s (take top xs) + nat_of s (take top ys) + lit_bit s first =
     ap (λ (k : ℕ). nat_of s low + 2 ^ k * lit_bit s next) (sym short) ∙ e in
     let whole : nat_of s new + (2 * p) * bit carried ≡ nat_of s xs + nat_of s ys + lit_bit s first =
-    omega (arith, made, lower, nat_of_top s xs top x (omega arith) ex, nat_of_top s ys top y (omega arith) ey, ap (λ (k : ℕ). p * k) digits) in
+    omega (
+      arith,
+      made,
+      lower,
+      nat_of_top s xs top x (omega arith) ex,
+      nat_of_top s ys top y (omega arith) ey,
+      ap (λ (k : ℕ). p * k) digits,
+    ) in
     let wide : length new ≡ length xs = wrapping_length xs low new digit some len is in
     let below : nat_of s new < 2 * p = omega (arith, nat_of_within s new (length xs) wide, twice) in
     remainder_is (2 * p) (nat_of s new) (bit carried) (nat_of s xs + nat_of s ys + lit_bit s first) below whole
@@ -64,22 +78,10 @@ pub difference_turn : (s : ℕ → Bool) (p r a b v one : ℕ) (carry borrow : L
     → one ≡ 1 → borrow ≡ opposite carry → b < p → v ≡ p - 1 - b → r + p * lit_bit s carry ≡ a + v + one
     → r + b ≡ a + p * lit_bit s borrow
 difference_turn s p r a b v one carry borrow o e h i f =
-    let both : lit_bit s borrow + lit_bit s carry ≡ 1 = ap (λ (x : Bool). bit x + lit_bit s carry) (lit_value_negated s borrow carry e) ∙ bit_not (lit_value s carry) in
+    let both : lit_bit s borrow + lit_bit s carry ≡ 1 =
+    ap (λ (x : Bool). bit x + lit_bit s carry) (lit_value_negated s borrow carry e) ∙ bit_not (lit_value s carry) in
     omega (arith, ap (λ (k : ℕ). p * k) both)
 
 -- a difference, without the borrow
 pub difference_value : (p a b v one : ℕ) → b < p → v ≡ p - 1 - b → one ≡ 1 → (a + v + one) % p ≡ (a + (p - b)) % p
 difference_value p a b v one h e o = ap (λ (k : ℕ). k % p) (omega arith)
-
--- a difference from 0
-pub negated_value : (p z r a : ℕ) → 0 < p → z ≡ 0 % p → r ≡ (z + (p - a)) % p → r ≡ (p - a) % p
-negated_value p z r a h e f =
-    let none : z ≡ 0 = e ∙ sym (remainder_is p 0 0 0 h (omega arith)) in
-    f ∙ ap (λ (k : ℕ). k % p) (omega arith)
-
-pub negated_turn : (s : ℕ → Bool) (zero out xs : List Literal) (n : ℕ) → length zero ≡ n → nat_of s zero ≡ 0 % 2 ^ n
-    → nat_of s out ≡ (nat_of s zero + (2 ^ length zero - nat_of s xs)) % 2 ^ length zero
-    → nat_of s out ≡ (2 ^ n - nat_of s xs) % 2 ^ n
-negated_turn s zero out xs n len e f =
-    negated_value (2 ^ n) (nat_of s zero) (nat_of s out) (nat_of s xs) (pow_pos n) e
-    (f ∙ ap (λ (k : ℕ). (nat_of s zero + (2 ^ k - nat_of s xs)) % 2 ^ k) len)

@@ -14,7 +14,8 @@ pub record AreInputs (old new : List Gate) (n : ℕ) (ls : List Literal) : Type 
   pub inputs : All (λ l. IsInput new l.var) ls
   pub fresh : All (λ l. length old < l.var) ls
 
--- an assignment that agrees with `s` on the old variables and gives each gate its value, under which the literals stand for v
+-- an assignment that agrees with `s` on the old variables and gives each gate its value, under which the literals stand
+-- for v
 pub record ChosenNumber (old new : List Gate) (s : ℕ → Bool) (ls : List Literal) (v : ℕ) : Type 0 where
   pub assignment : ℕ → Bool
   pub gives : Gives assignment new

@@ -1,4 +1,5 @@
-//! What holds of the numbers that lists of literals stand for. These functions do nothing; their contracts are the laws.
+//! What holds of the numbers that lists of literals stand for. These functions do nothing; their contracts are the
+//! laws.
 
 ghost use Rattle.pp_bits.specs.Laws.{DigitsBound, SignedByCast};
 

@@ -2,9 +2,9 @@
 //!
 //! Under an assignment that gives each gate its value a list stands for the natural number of which its literals are
 //! the binary digits (`nat_of` in `specs/`). Each contract says what the answer stands for, how many gates come after
-//! the old ones at most, also where memory ends (`NoMemory`), and that no input comes in. The gates of the last column
-//! are counted by tests and by the program `pp_wordgate_tables`, which shows that a second call on the same operands
-//! adds none.
+//! the old ones at most, also where memory ends (`NoMemory`), and that no input comes in. The gates of the last
+//! column are counted by the program `pp_bits_tables`, which makes each call; `pp_wordgate_tables` shows that a
+//! second call on the same operands adds none.
 //!
 //! | Call | For a and b of n digits | Gates at most | Over 32 fresh inputs each |
 //! |---|---|---|---|
@@ -36,6 +36,3 @@ pub use fresh::{inputs, number};
 pub use order::{equal, less, less_signed};
 pub use pp_clause::NoMemory;
 pub use sum::{add, add_carry, neg, sub, sub_borrow};
-
-#[cfg(test)]
-mod tests;

@@ -74,7 +74,8 @@ pub fn add_carry(
     Ok((digits, next))
 }
 
-/// The sum of two numbers and a carry, as many digits of it as `a` has: nothing is made of what the highest one carries.
+/// The sum of two numbers and a carry, as many digits of it as `a` has: nothing is made of what the highest one
+/// carries.
 fn wrapping_sum(
     circuit: &mut Circuit,
     a: &[Lit],

@@ -92,7 +92,8 @@ gives_agree gs s t fit a gives = record {
       let fits = fit.fits k g at in
       let before : AgreeUpTo k s t = agree_fewer k (length gs) s t (omega arith) a in
       sym (a.agree (k + 1) (omega arith) (omega arith)) ∙ gives.gives k g at
-      ∙ gate_agree k s t g fits before (λ x e. let own : x ≡ k + 1 = input_variable k x g fits e in a.agree x (omega arith) (omega arith));
+      ∙ gate_agree k s t g fits before
+      (λ x e. let own : x ≡ k + 1 = input_variable k x g fits e in a.agree x (omega arith) (omega arith));
 }
 
 pub gives_by_variables : GivesByVariables
@@ -125,7 +126,8 @@ agree_on gs is P closed s t part all inputs x low high on = at_variable x x low 
         let on_gate : P (x - 1 + 1) = subst P (sym back) on in
         let same : gate_value s g ≡ gate_value t g = gate_same_value s t g
         (λ l at. let of = operand_within (x - 1) g l fits at in
-        at_variable n l.var of.least (omega (arith, of.most)) (omega (arith, of.most)) (closed (x - 1) g l on_gate here.1 at))
+        at_variable n l.var of.least (omega (arith, of.most)) (omega (arith, of.most))
+        (closed (x - 1) g l on_gate here.1 at))
         (λ y e. let own : y ≡ x - 1 + 1 = input_variable (x - 1) y g fits e in
         inputs.agree y (record { stands = ap (slice_get gs) (omega (arith, own)) ∙ here.1 ∙ ap Some e })) in
         subst (λ y. s y ≡ t y) back (part (x - 1) g here.1 on_gate ∙ same ∙ sym (all.gives (x - 1) g here.1))

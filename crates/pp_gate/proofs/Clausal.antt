@@ -38,7 +38,8 @@ within_pushed n old new c ls is same order few of olds = rw is (record {
     these = All-from_has (IsWithin n) c (λ m h. has-All (IsWithin n) ls m of (sym (same.same m) ∙ h))
 
     this_few : length c ≤ 4
-    this_few = let le : length c ≤ length ls = no_longer c ls order.ascending (λ m h. sym (same.same m) ∙ h) in omega arith
+    this_few = let le : length c ≤ length ls = no_longer c ls order.ascending (λ m h. sym (same.same m) ∙ h) in
+        omega arith
 
 -- the clause came in
 pub adds_clause : (old new : List (List Literal)) (c ls : List Literal) → new ≡ old ++ c ∷ []

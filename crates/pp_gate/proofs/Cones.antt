@@ -55,7 +55,8 @@ cone_skip gs asked i next marks e off c = record {
   asked_marked = c.asked_marked;
   closed = λ k g l above at marked o. elim (cases_lt i k) [
     | inl later ↦ c.closed k g l (omega arith) at marked o
-    | inr here ↦ (let same : k ≡ i = omega arith in absurd (false≢true (sym off ∙ ap (λ (n : ℕ). assigned marks (n + 1)) (sym same) ∙ marked)))
+    | inr here ↦ (let same : k ≡ i = omega arith in
+        absurd (false≢true (sym off ∙ ap (λ (n : ℕ). assigned marks (n + 1)) (sym same) ∙ marked)))
   ];
   only = c.only;
 }
@@ -78,7 +79,8 @@ cone_turn gs asked i next g old marks is e at on m c = record {
     was : (k : ℕ) → i ≤ k → assigned marks (k + 1) ≡ true → assigned old (k + 1) ≡ true
     was k above h = elim (m.only (k + 1) (omega arith) h) [
       | inl before ↦ before
-      | inr here ↦ (let low = operand_within i g here.0 (is.fits i g at) here.1 in absurd (omega (arith, low.most, here.2)))
+      | inr here ↦ (let low = operand_within i g here.0 (is.fits i g at) here.1 in
+          absurd (omega (arith, low.most, here.2)))
     ]
 
     closed : (k : ℕ) (h : Gate) (l : Literal) → i ≤ k → slice_get gs k ≡ Some h → assigned marks (k + 1) ≡ true
@@ -101,14 +103,17 @@ pub cone_next : (gs : List Gate) (asked : List Literal) (done : ℕ) (g : Gate) 
     → (assigned old (length gs - 1 - done + 1) ≡ true → Marks old marks (operands g))
     → (assigned old (length gs - 1 - done + 1) ≡ false → marks ≡ old)
     → IsConeFrom gs asked (length gs - done) old → IsConeFrom gs asked (length gs - (done + 1)) marks
-cone_next gs asked done g old marks is lt e on off c = subst (λ (n : ℕ). IsConeFrom gs asked n marks) (omega arith) (by (assigned old (i + 1)) refl)
+cone_next gs asked done g old marks is lt e on off c =
+    subst (λ (n : ℕ). IsConeFrom gs asked n marks) (omega arith) (by (assigned old (i + 1)) refl)
   where
     i : ℕ
     i = length gs - 1 - done
 
     by : (b : Bool) → assigned old (i + 1) ≡ b → IsConeFrom gs asked i marks
-    by true h = cone_turn gs asked i (length gs - done) g old marks is (omega arith) (at_read gs i g (omega arith) e) h (on h) c
-    by false h = subst (IsConeFrom gs asked i) (sym (off h)) (cone_skip gs asked i (length gs - done) old (omega arith) h c)
+    by true h = cone_turn gs asked i (length gs - done) g old marks is (omega arith) (at_read gs i g (omega arith) e) h
+        (on h) c
+    by false h = subst (IsConeFrom gs asked i) (sym (off h))
+        (cone_skip gs asked i (length gs - done) old (omega arith) h c)
 
 pub cone_end : (gs hs : List Gate) (asked : List Literal) (n : ℕ) (marks : List Bool) → hs ≡ gs → n ≡ 0
     → IsConeFrom hs asked n marks → IsCone gs asked marks
@@ -120,10 +125,6 @@ cone_end gs hs asked n marks same e c = subst (λ (l : List Gate). IsCone l aske
 pub asked_by_marks : (s : ℕ → Bool) (gs : List Gate) (asked : List Literal) (marks : List Bool) → IsCone gs asked marks
     → GivesMarked s gs marks → GivesAsked s gs asked
 asked_by_marks s gs asked marks c m = record { gives = λ k g at on. m.gives k g at (c.every (k + 1) on) }
-
-pub marks_by_asked : (s : ℕ → Bool) (gs : List Gate) (asked : List Literal) (marks : List Bool) → IsCone gs asked marks
-    → GivesAsked s gs asked → GivesMarked s gs marks
-marks_by_asked s gs asked marks c m = record { gives = λ k g at on. m.gives k g at (c.only (k + 1) (omega arith) on) }
 
 pub marks_by_all : (s : ℕ → Bool) (gs : List Gate) (marks : List Bool) → Gives s gs → GivesMarked s gs marks
 marks_by_all s gs marks m = record { gives = λ k g at on. m.gives k g at }
@@ -139,7 +140,8 @@ asked_given s gs asked all = record { gives = λ k g at on. all.gives k g at }
 
 stood_within : (gs : List Gate) → IsCircuit gs → (asked : List Literal) → All (IsOf gs) asked → (x : ℕ)
     → StandsOn gs asked x → IsWithin (length gs) (record { var = x; positive = true })
-stood_within gs is asked of x (asked_for l at) = let low = element (length gs) asked l of at in record { least = low.least; most = low.most }
+stood_within gs is asked of x (asked_for l at) = let low = element (length gs) asked l of at in
+    record { least = low.least; most = low.most }
 stood_within gs is asked of x (operand k g l on at o) =
     let low = operand_within k g l (is.fits k g at) o in
     let within : k < length gs = slice_get_within gs k g at in

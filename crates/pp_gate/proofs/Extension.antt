@@ -24,7 +24,10 @@ with_same s n v = rw (eq-eqb n n refl)
 
 with_agree : (s : ℕ → Bool) (n : ℕ) (v : Bool) → AgreeUpTo n s (with s (n + 1) v)
 unfolding with
-with_agree s n v = record { agree = λ x low high. let e : nat_eq x (n + 1) ≡ false = ne_eqb x (n + 1) (λ q. omega arith) in rw e }
+with_agree s n v = record {
+  agree = λ x low high. let e : nat_eq x (n + 1) ≡ false =
+      ne_eqb x (n + 1) (λ q. omega arith) in rw e;
+}
 
 -- an assignment that agrees with `s` and has the next value gives the next gate its value
 pub next_is : (n : ℕ) (s t values : ℕ → Bool) (g : Gate) → FitsAfter n g → AgreeUpTo n s t
@@ -66,7 +69,8 @@ gives_next gs g s values fit fits gives = record {
 place_of_next : (gs rest : List Gate) (g : Gate) (x : ℕ) → IsInput (gs ++ g ∷ rest) x → x ≡ length gs + 1 → g ≡ Input x
 place_of_next gs rest g x is e =
     let place : x - 1 ≡ length gs = omega arith in
-    let there : slice_get (gs ++ g ∷ rest) (length gs) ≡ Some (Input x) = subst (λ (k : ℕ). slice_get (gs ++ g ∷ rest) k ≡ Some (Input x)) place is.stands in
+    let there : slice_get (gs ++ g ∷ rest) (length gs) ≡ Some (Input x) =
+    subst (λ (k : ℕ). slice_get (gs ++ g ∷ rest) k ≡ Some (Input x)) place is.stands in
     let same : Some g ≡ Some (Input x) = sym (at_next gs rest g) ∙ there in
     cc
 
@@ -77,7 +81,8 @@ extended gs [] fit s values gives = record {
   gives = rw append-nil gives;
   keeps = record { agree = λ x low high. refl };
   inputs = λ x above is.
-      let stands : slice_get gs (x - 1) ≡ Some (Input x) = subst (λ (l : List Gate). slice_get l (x - 1) ≡ Some (Input x)) (append-nil gs) is.stands in
+      let stands : slice_get gs (x - 1) ≡ Some (Input x) =
+      subst (λ (l : List Gate). slice_get l (x - 1) ≡ Some (Input x)) (append-nil gs) is.stands in
       let within : x - 1 < length gs = slice_get_within gs (x - 1) (Input x) stands in
       absurd (omega arith);
 }
@@ -85,12 +90,15 @@ extended gs (g ∷ rest) fit s values gives =
     let e : (gs ++ g ∷ []) ++ rest ≡ gs ++ g ∷ rest = append_assoc gs (g ∷ []) rest in
     let longer : length (gs ++ g ∷ []) ≡ length gs + 1 = length-append gs (g ∷ []) in
     let v = next_value s values g in
-    let next : Gives (with s (length gs + 1) v) (gs ++ g ∷ []) = gives_next gs g s values (fit_left gs (g ∷ rest) fit) (fit.fits (length gs) g (at_next gs rest g)) gives in
-    let more : Extended (gs ++ g ∷ []) ((gs ++ g ∷ []) ++ rest) (with s (length gs + 1) v) values = extended (gs ++ g ∷ []) rest (subst AllFit (sym e) fit) (with s (length gs + 1) v) values next in
+    let next : Gives (with s (length gs + 1) v) (gs ++ g ∷ []) =
+    gives_next gs g s values (fit_left gs (g ∷ rest) fit) (fit.fits (length gs) g (at_next gs rest g)) gives in
+    let more : Extended (gs ++ g ∷ []) ((gs ++ g ∷ []) ++ rest) (with s (length gs + 1) v) values =
+    extended (gs ++ g ∷ []) rest (subst AllFit (sym e) fit) (with s (length gs + 1) v) values next in
     record {
       assignment = more.assignment;
       gives = subst (Gives more.assignment) e more.gives;
-      keeps = agree_along (length gs) (length (gs ++ g ∷ [])) s (with s (length gs + 1) v) more.assignment (omega arith) (with_agree s (length gs) v) more.keeps;
+      keeps = agree_along (length gs) (length (gs ++ g ∷ [])) s (with s (length gs + 1) v) more.assignment (omega arith)
+          (with_agree s (length gs) v) more.keeps;
       inputs = λ x above is.
           elim (cases_lt (length gs + 1) x) [
             | inl later ↦ more.inputs x (omega arith) (subst (λ (l : List Gate). IsInput l x) (sym e) is)

@@ -4,10 +4,10 @@ use Rattle.std.proofs.Common.{sym, ap, ◌∙◌, append_assoc, length-append, a
 use Rattle.std.proofs.lemmas.List.{append-nil}
 use Rattle.pp_clause.specs.Literal.{Literal}
 use Rattle.pp_gate.specs.declared.gate.Gate.{Gate}
-use Rattle.pp_gate.specs.declared.gate.Gate.TheVariants.{Truth, Input}
+use Rattle.pp_gate.specs.declared.gate.Gate.TheVariants.{Input}
 use Rattle.pp_gate.specs.Circuit.{IsOf, IsInput, IsCircuit}
 use Rattle.pp_gate.specs.Growth.{Grows, AddsGates}
-use Rattle.pp_gate.proofs.Places.{at_left, at_push, at_some}
+use Rattle.pp_gate.proofs.Places.{at_left, at_push}
 
 pub Grows_none : (gs : List Gate) → Grows gs gs 0
 Grows_none gs = record { added = []; is = sym (append-nil gs); most = omega arith }
@@ -37,23 +37,10 @@ IsInput_more old new n x g is = record {
       ∙ at_left old g.added (x - 1) (Input x) is.stands;
 }
 
--- the front of a circuit is one
-pub IsCircuit_old : (old new : List Gate) (n : ℕ) → Grows old new n → 1 ≤ length old → IsCircuit new → IsCircuit old
-IsCircuit_old old new n g some is =
-    let front = at_some old 0 (omega arith) in
-    let same : Some front.0 ≡ Some Truth = sym (stays 0 front.0 front.1) ∙ is.first in
-    record {
-      first = front.1 ∙ same;
-      fits = λ k h at. is.fits k h (stays k h at);
-      apart = λ j k h one other. is.apart j k h (stays j h one) (stays k h other);
-    }
-  where
-    stays : (k : ℕ) (h : Gate) → slice_get old k ≡ Some h → slice_get new k ≡ Some h
-    stays k h at = ap (λ (l : List Gate). slice_get l k) g.is ∙ at_left old g.added k h at
-
 pub AddsGates_from : (old new : List Gate) (n : ℕ) → Grows old new n → ((x : ℕ) → IsInput new x → IsInput old x)
     → IsCircuit new → AddsGates old new n
-AddsGates_from old new n grows inputs is = record { grows = grows; inputs = inputs; circuit = is; literals = λ l of. IsOf_more old new n l grows of }
+AddsGates_from old new n grows inputs is =
+    record { grows = grows; inputs = inputs; circuit = is; literals = λ l of. IsOf_more old new n l grows of }
 
 pub AddsGates_none : (gs : List Gate) (n : ℕ) → IsCircuit gs → AddsGates gs gs n
 AddsGates_none gs n is = AddsGates_from gs gs n (Grows_weaker gs gs 0 n (Grows_none gs) (omega arith)) (λ x h. h) is

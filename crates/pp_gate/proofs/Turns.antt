@@ -45,8 +45,10 @@ marked_push s gs marks old fresh i g len on e f = (λ h. record { gives = after 
     before : GivesMarked s (gs ++ g ∷ []) marks → fresh ≡ true
     before h =
         let olds : GivesMarked s gs marks = record { gives = λ k x a m. h.gives k x (at_left gs (g ∷ []) k x a) m } in
-        let here : slice_get (gs ++ g ∷ []) i ≡ Some g = subst (λ (n : ℕ). slice_get (gs ++ g ∷ []) n ≡ Some g) len (at_next gs [] g) in
-        let own : beq (s (i + 1)) (gate_value s g) ≡ true = ap (λ (b : Bool). beq b (gate_value s g)) (h.gives i g here on) ∙ beq-same (gate_value s g) in
+        let here : slice_get (gs ++ g ∷ []) i ≡ Some g =
+        subst (λ (n : ℕ). slice_get (gs ++ g ∷ []) n ≡ Some g) len (at_next gs [] g) in
+        let own : beq (s (i + 1)) (gate_value s g) ≡ true =
+        ap (λ (b : Bool). beq b (gate_value s g)) (h.gives i g here on) ∙ beq-same (gate_value s g) in
         f ∙ and_from old (beq (s (i + 1)) (gate_value s g)) (e.1 olds) own
 
 unmarked_push : (s : ℕ → Bool) (gs : List Gate) (marks : List Bool) (old : Bool) (i : ℕ) (g : Gate)
@@ -79,7 +81,8 @@ pub marked_turn : (s : ℕ → Bool) (gs : List Gate) (marks : List Bool) (old n
     → (clauses_value s old ≡ true) ↔ GivesMarked s (take i gs) marks
     → (clauses_value s new ≡ true) ↔ GivesMarked s (take (i + 1) gs) marks
 marked_turn s gs marks old new i g m lt e at on off before =
-    subst (λ (l : List Gate). (clauses_value s new ≡ true) ↔ GivesMarked s l marks) (sym (prefix_next gs i g lt e)) (by m refl)
+    subst (λ (l : List Gate). (clauses_value s new ≡ true) ↔ GivesMarked s l marks) (sym (prefix_next gs i g lt e))
+    (by m refl)
   where
     len : length (take i gs) ≡ i
     len = length-take-le i gs (omega arith)
@@ -88,7 +91,8 @@ marked_turn s gs marks old new i g m lt e at on off before =
     here = ap (λ (k : ℕ). slice_index_or marks k false) (omega arith) ∙ sym at
 
     by : (b : Bool) → m ≡ b → (clauses_value s new ≡ true) ↔ GivesMarked s (take i gs ++ g ∷ []) marks
-    by true h = marked_push s (take i gs) marks (clauses_value s old) (clauses_value s new) i g len (here ∙ h) before (on h s)
+    by true h = marked_push s (take i gs) marks (clauses_value s old) (clauses_value s new) i g len (here ∙ h) before
+        (on h s)
     by false h =
         subst (λ (c : List (List Literal)). (clauses_value s c ≡ true) ↔ GivesMarked s (take i gs ++ g ∷ []) marks)
         (sym (off h))
@@ -129,10 +133,15 @@ completion_turn gs values lent new inputs i g v is lt e len same pushed next giv
     fit_before = record { fits = λ k h at. fit.fits k h (at_left before (g ∷ []) k h at) }
 
     agree : AgreeUpTo i (assigned values) (assigned new)
-    agree = record { agree = λ x low high. sym (ap (λ (l : List Bool). assigned l x) pushed ∙ get_or-append values (v ∷ []) false (x - 1) (omega arith)) }
+    agree = record {
+      agree =
+          λ x low high. sym (ap (λ (l : List Bool). assigned l x) pushed
+          ∙ get_or-append values (v ∷ []) false (x - 1) (omega arith));
+    }
 
     last : assigned new (i + 1) ≡ v
-    last = ap (λ (l : List Bool). assigned l (i + 1)) pushed ∙ ap (λ (k : ℕ). slice_index_or (values ++ v ∷ []) k false) (omega arith) ∙ get_or-append_seam values v [] false
+    last = ap (λ (l : List Bool). assigned l (i + 1)) pushed
+        ∙ ap (λ (k : ℕ). slice_index_or (values ++ v ∷ []) k false) (omega arith) ∙ get_or-append_seam values v [] false
 
     value : assigned new (i + 1) ≡ next_value (assigned values) inputs g
     value = last ∙ next ∙ ap (λ (l : List Bool). next_value (assigned l) inputs g) same

@@ -27,8 +27,10 @@ pub record AddsAgreement (old new : List (List Literal)) (out a b : Literal) : T
       ≡ (clauses_value s old && agrees (lit_value s out) (lit_value s a) (lit_value s b))
   pub within : (n : ℕ) → IsWithin n out → IsWithin n a → IsWithin n b → AreShortWithin n old → AreShortWithin n new
 
--- besides the old clauses the new ones, at most eight more, say that `out`, which stands on these operands, has this value
-pub record AddsEquation (old new : List (List Literal)) (out : Literal) (operands : List Literal) (meaning : (ℕ → Bool) → Bool)
+-- besides the old clauses the new ones, at most eight more, say that `out`, which stands on these operands, has this
+-- value
+pub record AddsEquation (old new : List (List Literal)) (out : Literal) (operands : List Literal)
+    (meaning : (ℕ → Bool) → Bool)
     : Type 0 where
   pub most : length new ≤ length old + 8
   pub value : (s : ℕ → Bool) → clauses_value s new ≡ (clauses_value s old && beq (lit_value s out) (meaning s))

@@ -16,7 +16,8 @@ pub data StandsOn (gs : List Gate) (asked : List Literal) : ℕ → Type 0 where
 pub record GivesAsked (s : ℕ → Bool) (gs : List Gate) (asked : List Literal) : Type 0 where
   pub gives : (k : ℕ) (g : Gate) → slice_get gs k ≡ Some g → StandsOn gs asked (k + 1) → s (k + 1) ≡ gate_value s g
 
--- an assignment that gives each gate its value, with the inputs of `s`, and what `s` has for that on which the literals stand
+-- an assignment that gives each gate its value, with the inputs of `s`, and what `s` has for that on which the literals
+-- stand
 pub record CompletedAsked (gs : List Gate) (asked : List Literal) (s : ℕ → Bool) : Type 0 where
   pub assignment : ℕ → Bool
   pub gives : Gives assignment gs

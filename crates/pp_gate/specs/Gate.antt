@@ -12,8 +12,8 @@ xor_of a b = if a then not b else b
 abbrev pub majority_of : Bool → Bool → Bool → Bool
 majority_of a b c = if a then (b || c) else (b && c)
 
--- the value of a gate, where the assignment `s` gives each variable a truth value;
--- an input has the value of its own variable
+-- the value of a gate, where the assignment `s` gives each variable a truth value; an input has the value of its own
+-- variable
 abbrev pub gate_value : (ℕ → Bool) → Gate → Bool
 gate_value s Truth = true
 gate_value s (Input x) = s x

@@ -19,7 +19,8 @@ pub record Completed (gs : List Gate) (values : ℕ → Bool) : Type 0 where
   pub gives : Gives assignment gs
   pub inputs : AgreeOnInputs gs values assignment
 
--- an assignment that agrees with `s` on the old variables, and gives each gate its value and the new inputs those values
+-- an assignment that agrees with `s` on the old variables, and gives each gate its value and the new inputs those
+-- values
 pub record Extended (old new : List Gate) (s values : ℕ → Bool) : Type 0 where
   pub assignment : ℕ → Bool
   pub gives : Gives assignment new
@@ -35,7 +36,8 @@ abbrev pub InputsDetermine : Type 0
 InputsDetermine = (gs : List Gate) → IsCircuit gs → (s t : ℕ → Bool)
     → Gives s gs → Gives t gs → AgreeOnInputs gs s t → AgreeUpTo (length gs) s t
 
--- each assignment that gives the old gates their values can be extended to the new ones, with any values for the new inputs
+-- each assignment that gives the old gates their values can be extended to the new ones, with any values for the new
+-- inputs
 abbrev pub GrowthExtends : Type 0
 GrowthExtends = (old new : List Gate) (n : ℕ) → Grows old new n → IsCircuit new → (s values : ℕ → Bool)
     → Gives s old → Extended old new s values

@@ -22,6 +22,3 @@ pub use circuit::Circuit;
 pub use gate::Gate;
 pub use pp_clause::NoMemory;
 pub use word::Word;
-
-#[cfg(test)]
-mod tests;

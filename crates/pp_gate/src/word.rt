@@ -1,3 +1,5 @@
+//! Words of 32 literals.
+
 ghost use Rattle.std.specs.Prelude.{◌≡◌, ◌<◌, length, slice_get, Some};
 
 use pp_clause::Lit;

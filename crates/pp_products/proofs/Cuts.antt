@@ -24,7 +24,8 @@ below_power v m n h le = let p : 2 ^ m ≤ 2 ^ n = pow_mono le in omega arith
 pub first_digits : (s : ℕ → Bool) (ls : List Literal) (m n : ℕ) → m ≡ min (length ls) n
     → nat_of s (take m ls) ≡ nat_of s ls % 2 ^ n
 first_digits s ls m n e = ⊎_elim
-    (λ lt. ap (nat_of s) (take_all m ls (omega arith)) ∙ sym (mod-eq_of_lt (below_power (nat_of s ls) (length ls) n (numbers.nat_of_below s ls) (omega arith))))
+    (λ lt. ap (nat_of s) (take_all m ls (omega arith))
+    ∙ sym (mod-eq_of_lt (below_power (nat_of s ls) (length ls) n (numbers.nat_of_below s ls) (omega arith))))
     (λ ge. ap (λ k. nat_of s (take k ls)) (omega arith) ∙ parts.nat_of_take s n ls ge)
     (cases_lt (length ls) n)
 
@@ -41,10 +42,12 @@ resized_number gs ls all n m zero_lit truth e is z t of = record {
       (All-append (IsOf gs) (take m ls) (replicate (n - m) zero_lit) (All-take (IsOf gs) m ls of)
       (All-replicate (IsOf gs) (n - m) zero_lit (growing.IsOf_negated gs zero_lit truth z t.of)));
   value = λ s gives.
-      let off : lit_value s zero_lit ≡ false = numbers.lit_value_negated s zero_lit truth z ∙ ap not (t.value s gives) in
+      let off : lit_value s zero_lit ≡ false =
+      numbers.lit_value_negated s zero_lit truth z ∙ ap not (t.value s gives) in
       let none : 2 ^ length (take m ls) * nat_of s (replicate (n - m) zero_lit) ≡ 0 =
       ap (λ k. 2 ^ length (take m ls) * k) (parts.nat_of_zeros s (n - m) zero_lit off) ∙ omega arith in
-      ap (nat_of s) is ∙ parts.nat_of_append s (take m ls) (replicate (n - m) zero_lit) ∙ omega (arith, none) ∙ first_digits s ls m n e;
+      ap (nat_of s) is ∙ parts.nat_of_append s (take m ls) (replicate (n - m) zero_lit) ∙ omega (arith, none)
+      ∙ first_digits s ls m n e;
 }
 
 some_cases : (x : Bool) (m n : ℕ) → n ≡ bit x + 2 * m → (x || nat_lt 0 m) ≡ nat_lt 0 n
@@ -77,12 +80,15 @@ exceeds_value : (s : ℕ → Bool) (ls : List Literal) (m n : ℕ) → m ≡ min
 exceeds_value s ls m n e = ⊎_elim
     (λ lt.
     let none : nat_of s (drop m ls) ≡ 0 = ap (nat_of s) (drop_all m ls (omega arith)) ∙ numbers.nat_of_nil s in
-    let small : nat_of s ls < 2 ^ n = below_power (nat_of s ls) (length ls) n (numbers.nat_of_below s ls) (omega arith) in
-    at_least (2 ^ n) (nat_of s (drop m ls)) (nat_of s ls) (omega (arith, ap (λ k. 2 ^ n * k) none)) (omega (arith, ap (λ k. 2 ^ n * k) none)))
+    let small : nat_of s ls < 2 ^ n =
+    below_power (nat_of s ls) (length ls) n (numbers.nat_of_below s ls) (omega arith) in
+    at_least (2 ^ n) (nat_of s (drop m ls)) (nat_of s ls) (omega (arith, ap (λ k. 2 ^ n * k) none))
+    (omega (arith, ap (λ k. 2 ^ n * k) none)))
     (λ ge.
     let q = 2 ^ n in
     let v = nat_of s ls in
-    let high : nat_of s (drop m ls) ≡ v / q = ap (λ k. nat_of s (drop k ls)) (omega arith) ∙ parts.nat_of_drop s n ls ge in
+    let high : nat_of s (drop m ls) ≡ v / q =
+    ap (λ k. nat_of s (drop k ls)) (omega arith) ∙ parts.nat_of_drop s n ls ge in
     let whole : v % q + q * (v / q) ≡ v = mod-add-div v q in
     let low : v % q < q = subst (λ k. k < q) (first_digits s ls n n (omega arith)) (numbers.nat_of_first s ls n ge) in
     at_least q (nat_of s (drop m ls)) v (omega (arith, ap (λ k. q * k) high)) (omega (arith, ap (λ k. q * k) high)))
@@ -92,4 +98,5 @@ exceeds_value s ls m n e = ⊎_elim
 pub exceeds_turn : (s : ℕ → Bool) (ls : List Literal) (m n : ℕ) → m ≡ min (length ls) n
     → nat_lt 0 (nat_of s (take (length ls - m) (drop m ls))) ≡ nat_le (2 ^ n) (nat_of s ls)
 exceeds_turn s ls m n e =
-    ap (λ l. nat_lt 0 (nat_of s l)) (take_all (length ls - m) (drop m ls) (rw length-drop (omega arith))) ∙ exceeds_value s ls m n e
+    ap (λ l. nat_lt 0 (nat_of s l)) (take_all (length ls - m) (drop m ls) (rw length-drop (omega arith)))
+    ∙ exceeds_value s ls m n e

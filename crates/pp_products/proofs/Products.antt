@@ -42,7 +42,8 @@ product_more p a0 t low rest h =
     let m = (a0 * rest) % p in
     let k = (a0 * rest) / p in
     let whole : m + p * k ≡ a0 * rest = mod-add-div (a0 * rest) p in
-    let f : (low * (a0 + p * t) + 2 * m) + (2 * p) * (k + t * rest) ≡ (a0 + p * t) * (low + 2 * rest) = omega (arith, whole) in
+    let f : (low * (a0 + p * t) + 2 * m) + (2 * p) * (k + t * rest) ≡ (a0 + p * t) * (low + 2 * rest) =
+    omega (arith, whole) in
     sym (add-mul-mod_self_left (low * (a0 + p * t) + 2 * m) (2 * p) (k + t * rest)) ∙ ap (λ (x : ℕ). x % (2 * p)) f
 
 pub none_is : (v n : ℕ) → v ≡ 0 % 2 ^ n → v ≡ 0
@@ -64,12 +65,17 @@ row_turn s xs rest none masked ms high hs all low first same off mask mlen ims i
     let cut : take (length ms - 1) (drop 1 ms) ≡ tail = numbers.tail_is ms ∙ ap (drop 1) ims in
     let len : length tail ≡ h = length-drop 1 masked ∙ omega arith in
     let twice : 2 ^ length xs ≡ 2 * 2 ^ h = ap (λ (k : ℕ). 2 ^ k) same ∙ numbers.power_next h in
-    let others : nat_of s high ≡ (nat_of s tail + nat_of s rest) % 2 ^ h = sum ∙ (λ j. (nat_of s (cut j) + nat_of s rest) % 2 ^ (ap length cut ∙ len) j) in
-    let whole : lit_bit s first + 2 * nat_of s tail ≡ lit_bit s low * nat_of s xs = sym (numbers.nat_of_uncons s masked first (omega arith) isfirst) ∙ masked_value (lit_value s low) (nat_of s xs) (nat_of s none) (nat_of s masked) off mask in
-    let made : nat_of s all ≡ lit_bit s first + 2 * nat_of s high = ap (nat_of s) (iall ∙ ap (λ (l : List Literal). first ∷ l) ihs) ∙ numbers.nat_of_cons s first high in
+    let others : nat_of s high ≡ (nat_of s tail + nat_of s rest) % 2 ^ h =
+    sum ∙ (λ j. (nat_of s (cut j) + nat_of s rest) % 2 ^ (ap length cut ∙ len) j) in
+    let whole : lit_bit s first + 2 * nat_of s tail ≡ lit_bit s low * nat_of s xs =
+    sym (numbers.nat_of_uncons s masked first (omega arith) isfirst)
+    ∙ masked_value (lit_value s low) (nat_of s xs) (nat_of s none) (nat_of s masked) off mask in
+    let made : nat_of s all ≡ lit_bit s first + 2 * nat_of s high =
+    ap (nat_of s) (iall ∙ ap (λ (l : List Literal). first ∷ l) ihs) ∙ numbers.nat_of_cons s first high in
     let length_high : length high ≡ h = hlen ∙ ap length cut ∙ len in
     let small : nat_of s high < 2 ^ h = numbers.nat_of_within s high h length_high in
-    made ∙ row_value (2 ^ h) (lit_bit s first) (nat_of s tail) (nat_of s rest) (nat_of s high) (lit_bit s low * nat_of s xs) (pow_pos h) (omega (arith, numbers.bit_small (lit_value s first))) others whole
+    made ∙ row_value (2 ^ h) (lit_bit s first) (nat_of s tail) (nat_of s rest) (nat_of s high)
+    (lit_bit s low * nat_of s xs) (pow_pos h) (omega (arith, numbers.bit_small (lit_value s first))) others whole
     ∙ ap (λ (k : ℕ). (lit_bit s low * nat_of s xs + 2 * nat_of s rest) % k) (sym twice)
 
 -- the product with a number of one digit more
@@ -88,7 +94,8 @@ mul_turn s xs ys rest lent all low some same islow il e f =
     let above = nat_of s (drop 1 ys) in
     let split = numbers.nat_of_split s xs h one_more in
     let a1 = a0 + 2 ^ h * bit split.0 in
-    let lower : nat_of s lent ≡ (a0 * above) % 2 ^ h = ap (nat_of s) il ∙ e ∙ (λ j. (a0 * nat_of s (numbers.tail_is ys j)) % 2 ^ short j) in
+    let lower : nat_of s lent ≡ (a0 * above) % 2 ^ h =
+    ap (nat_of s) il ∙ e ∙ (λ j. (a0 * nat_of s (numbers.tail_is ys j)) % 2 ^ short j) in
     f ∙ (λ j. (lit_bit s low * split.1 j + 2 * lower j) % twice j)
     ∙ product_more (2 ^ h) a0 (bit split.0) (lit_bit s low) above (pow_pos h)
     ∙ sym (λ j. (split.1 j * numbers.nat_of_uncons s ys low (omega arith) islow j) % twice j)

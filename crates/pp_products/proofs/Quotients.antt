@@ -28,9 +28,11 @@ digit_value : (b greater : Bool) (w d q e less : ℕ) → w < 2 * d → w < q �
     → less + e ≡ w + q * bit b
     → Divides w d (bit (not (b || greater))) (if b || greater then w else less)
 digit_value true greater w d q e less h lw ll cut g sub =
-    let below : w < d = ⊎_elim (λ lt. let same : e ≡ d = cut ∙ mod-eq_of_lt lt in omega arith) (λ ge. omega arith) (cases_lt d q) in
+    let below : w < d = ⊎_elim (λ lt. let same : e ≡ d = cut ∙ mod-eq_of_lt lt in omega arith) (λ ge. omega arith)
+    (cases_lt d q) in
     record { whole = omega arith; below = below }
-digit_value false true w d q e less h lw ll cut g sub = let large : q ≤ d = at_least_true q d (sym g) in record { whole = omega arith; below = omega arith }
+digit_value false true w d q e less h lw ll cut g sub = let large : q ≤ d = at_least_true q d (sym g) in
+    record { whole = omega arith; below = omega arith }
 digit_value false false w d q e less h lw ll cut g sub =
     let small : d < q = at_least_false q d (sym g) in
     let same : e ≡ d = cut ∙ mod-eq_of_lt small in
@@ -70,16 +72,22 @@ divide_turn s ds rest wide divisor less left us vs ws ls n places low borrow gre
     let small : w < 2 * d = omega (arith, is, numbers.bit_small (lit_value s low)) in
     let less_len : length less ≡ n = len ∙ ap length iu ∙ wide_len in
     let step : nat_of s less + nat_of s divisor ≡ w + q * bit b =
-    ap (λ (l : List Literal). nat_of s less + nat_of s l) (sym iv) ∙ sub ∙ (λ i. nat_of s (iu i) + 2 ^ (ap length iu ∙ wide_len) i * bit b) in
+    ap (λ (l : List Literal). nat_of s less + nat_of s l) (sym iv) ∙ sub
+    ∙ (λ i. nat_of s (iu i) + 2 ^ (ap length iu ∙ wide_len) i * bit b) in
     let all : Divides w d (bit (not (b || g))) (if b || g then w else nat_of s less) =
-    digit_value b g w d q (nat_of s divisor) (nat_of s less) small (numbers.nat_of_within s wide n wide_len) (numbers.nat_of_within s less n less_len) idivisor igreater step in
-    let fits : (if b || g then w else nat_of s less) < 2 ^ length ds = omega (arith, all.below, numbers.nat_of_below s ds) in
-    let cut : (ms : List Literal) → length ms ≡ n → nat_of s ms < 2 ^ length ds → nat_of s (take places ms) ≡ nat_of s ms =
+    digit_value b g w d q (nat_of s divisor) (nat_of s less) small (numbers.nat_of_within s wide n wide_len)
+    (numbers.nat_of_within s less n less_len) idivisor igreater step in
+    let fits : (if b || g then w else nat_of s less) < 2 ^ length ds =
+    omega (arith, all.below, numbers.nat_of_below s ds) in
+    let cut : (ms : List Literal) → length ms ≡ n → nat_of s ms < 2 ^ length ds
+    → nat_of s (take places ms) ≡ nat_of s ms =
     λ ms e h. ap (λ (k : ℕ). nat_of s (take k ms)) ip ∙ cut_small s ms (length ds) n e h in
-    let value = left_value (b || g) (2 ^ length ds) w (nat_of s less) (nat_of s (take places wide)) (nat_of s (take places less)) (nat_of s left) fits
+    let value = left_value (b || g) (2 ^ length ds) w (nat_of s less) (nat_of s (take places wide))
+    (nat_of s (take places less)) (nat_of s left) fits
     (cut wide wide_len) (cut less less_len)
     (chosen ∙ (λ i. if istays i then nat_of s (take places (iw i)) else nat_of s (take places (il i)))) in
-    let sign : bit (not (b || g)) ≡ lit_bit s digit = ap bit (ap not (sym istays) ∙ sym (numbers.lit_value_negated s digit stays idigit)) in
+    let sign : bit (not (b || g)) ≡ lit_bit s digit =
+    ap bit (ap not (sym istays) ∙ sym (numbers.lit_value_negated s digit stays idigit)) in
     subst (λ (r : ℕ). Divides (lit_bit s low + 2 * nat_of s rest) d (lit_bit s digit) r) (sym value)
     (subst (λ (k : ℕ). Divides k d (lit_bit s digit) (if b || g then w else nat_of s less)) is
     (subst (λ (k : ℕ). Divides w d k (if b || g then w else nat_of s less)) sign all))
@@ -98,12 +106,16 @@ pub divide_more : (s : ℕ → Bool) (xs ds q qs r lent left all : List Literal)
 divide_more s xs ds q qs r lent left all low digit some islow il iq iall e f =
     let d = nat_of s ds in
     let above = nat_of s (drop 1 xs) in
-    let first : Divides above d (nat_of s q) (nat_of s r) = subst (λ (l : List Literal). Divides (nat_of s l) d (nat_of s q) (nat_of s r)) (numbers.tail_is xs) e in
+    let first : Divides above d (nat_of s q) (nat_of s r) =
+    subst (λ (l : List Literal). Divides (nat_of s l) d (nat_of s q) (nat_of s r)) (numbers.tail_is xs) e in
     let next : Divides (lit_bit s low + 2 * nat_of s r) d (lit_bit s digit) (nat_of s left) =
-    subst (λ (l : List Literal). Divides (lit_bit s low + 2 * nat_of s l) d (lit_bit s digit) (nat_of s left)) il (f (subst (λ (l : List Literal). nat_of s l < d) (sym il) first.below)) in
-    let both = divides_more (lit_bit s low) above d (nat_of s q) (nat_of s r) (lit_bit s digit) (nat_of s left) first next in
+    subst (λ (l : List Literal). Divides (lit_bit s low + 2 * nat_of s l) d (lit_bit s digit) (nat_of s left)) il
+    (f (subst (λ (l : List Literal). nat_of s l < d) (sym il) first.below)) in
+    let both = divides_more (lit_bit s low) above d (nat_of s q) (nat_of s r) (lit_bit s digit) (nat_of s left) first
+    next in
     let number : lit_bit s low + 2 * above ≡ nat_of s xs = sym (numbers.nat_of_uncons s xs low some islow) in
-    let quotient : lit_bit s digit + 2 * nat_of s q ≡ nat_of s all = sym (ap (nat_of s) (iall ∙ ap (λ (l : List Literal). digit ∷ l) iq) ∙ numbers.nat_of_cons s digit q) in
+    let quotient : lit_bit s digit + 2 * nat_of s q ≡ nat_of s all =
+    sym (ap (nat_of s) (iall ∙ ap (λ (l : List Literal). digit ∷ l) iq) ∙ numbers.nat_of_cons s digit q) in
     subst (λ (k : ℕ). Divides k d (nat_of s all) (nat_of s left)) number
     (subst (λ (k : ℕ). Divides (lit_bit s low + 2 * above) d k (nat_of s left)) quotient both)
 
@@ -113,7 +125,8 @@ pub divide_budget : {X Y : Type 0} (ds : List Y) (xs : List X) → 0 < length xs
     length xs
 divide_budget ds xs h =
     let w = 5 * length ds + 4 in
-    let short : length (take (length xs - 1) (drop 1 xs)) ≡ length xs - 1 = ap length (numbers.tail_is xs) ∙ length-drop 1 xs in
+    let short : length (take (length xs - 1) (drop 1 xs)) ≡ length xs - 1 =
+    ap length (numbers.tail_is xs) ∙ length-drop 1 xs in
     let sum : w * length (take (length xs - 1) (drop 1 xs)) + w ≡ w * length xs =
     ap (λ (k : ℕ). w * k + w) short ∙ sym (mul-suc w (length xs - 1)) ∙ ap (λ (k : ℕ). w * k) (omega arith) in
     omega arith
@@ -122,12 +135,14 @@ divide_budget ds xs h =
 pub AreOf_over : (old new : List Gate) (n : ℕ) (q qs all : List Literal) (l : Literal) → AddsGates old new n
     → All (IsOf old) q → IsOf new l → qs ≡ q → all ≡ l ∷ qs → All (IsOf new) all
 AreOf_over old new n q qs all l g are of iq iall =
-    subst (All (IsOf new)) (sym (iall ∙ ap (λ (ls : List Literal). l ∷ ls) iq)) (All-cons (IsOf new) l q of (growing.AreOf_more old new n q g.grows are))
+    subst (All (IsOf new)) (sym (iall ∙ ap (λ (ls : List Literal). l ∷ ls) iq))
+    (All-cons (IsOf new) l q of (growing.AreOf_more old new n q g.grows are))
 
 -- the digits that a step chooses among are of the circuit as it has grown
 pub AreOf_cut : (old new : List Gate) (n k : ℕ) (ls lent : List Literal) → lent ≡ ls → All (IsOf old) ls
     → AddsGates old new n → All (IsOf new) (take k lent)
-AreOf_cut old new n k ls lent e of g = All-take (IsOf new) k lent (subst (All (IsOf new)) (sym e) (growing.AreOf_more old new n ls g.grows of))
+AreOf_cut old new n k ls lent e of g =
+    All-take (IsOf new) k lent (subst (All (IsOf new)) (sym e) (growing.AreOf_more old new n ls g.grows of))
 
 pub AreOf_wide : (gs : List Gate) (low : Literal) (rest wide : List Literal) → wide ≡ low ∷ rest → IsOf gs low
     → All (IsOf gs) rest → All (IsOf gs) wide
@@ -154,5 +169,6 @@ pub Divides_resized : (s : ℕ → Bool) (n q : ℕ) (ds r lent all : List Liter
     → Divides n (nat_of s ds) q (nat_of s r) → Divides n (nat_of s ds) q (nat_of s all)
 Divides_resized s n q ds r lent all e cut h =
     let small : nat_of s r < 2 ^ length ds = omega (arith, h.below, numbers.nat_of_below s ds) in
-    let same : nat_of s all ≡ nat_of s r = cut ∙ ap (λ (l : List Literal). nat_of s l % 2 ^ length ds) e ∙ mod-eq_of_lt small in
+    let same : nat_of s all ≡ nat_of s r =
+    cut ∙ ap (λ (l : List Literal). nat_of s l % 2 ^ length ds) e ∙ mod-eq_of_lt small in
     subst (Divides n (nat_of s ds) q) (sym same) h

@@ -15,7 +15,7 @@ use std::alloc::Global;
 pub(crate) fn over(alloc: Global, low: Lit, rest: &[Lit]) -> Result<Vec<Lit>, NoMemory>
     ensures { IfOk result (λ r. r.items ≡ low ∷ rest.now) }
 {
-    let mut all = Vec::new(alloc);
+    let mut all = Vec::with_capacity(alloc, rest.len() + 1)?;
     all.push(low)?;
     all.extend_from_slice(rest)?;
     Ok(all)

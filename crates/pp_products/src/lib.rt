@@ -1,10 +1,10 @@
 //! Products and quotients of lists of literals of any length, the lowest first, as circuits.
 //!
 //! Under an assignment that gives each gate its value a list stands for the natural number of which its literals are
-//! the binary digits (`nat_of` of `pp_bits`). Each contract says what the answer stands for, how many gates come after
-//! the old ones at most, also where memory ends (`NoMemory`), and that no input comes in. The gates of the last column
-//! are those of a model, and of `pp_wordgate_tables` for `mul`; that program shows too that a second call on the same
-//! operands adds none.
+//! the binary digits (`nat_of` of `pp_bits`). Each contract says what the answer stands for, how many gates come
+//! after the old ones at most, also where memory ends (`NoMemory`), and that no input comes in. The gates of the last
+//! column are counted by the program `pp_bits_tables`, which makes each call; `pp_wordgate_tables` shows that a
+//! second call on the same operands adds none.
 //!
 //! | Call | For a of n digits and d of m | Gates at most | Over 32 fresh inputs each |
 //! |---|---|---|---|
@@ -19,6 +19,3 @@ mod quotient;
 pub use pp_bits::NoMemory;
 pub use product::mul;
 pub use quotient::divide;
-
-#[cfg(test)]
-mod tests;

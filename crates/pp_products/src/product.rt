@@ -53,13 +53,19 @@ pub fn mul(circuit: &mut Circuit, a: &[Lit], b: &[Lit]) -> Result<Vec<Lit>, NoMe
     }
 }
 
-/// Whether the first place where the two differ has an earlier literal of `a`; a constant is the earliest.
+/// Whether `a` comes first. That is so where it has the earlier variable at the first place where the variables differ,
+/// so a number that is wholly constant comes before others; of two with the same variables the signs decide.
 fn comes_before(a: &[Lit], b: &[Lit]) -> bool
     requires { length a.now ≡ length b.now }
 {
     for i in 0..a.len() {
+        if a[i].var() != b[i].var() {
+            return a[i].var() < b[i].var();
+        }
+    }
+    for i in 0..a.len() {
         if a[i] != b[i] {
-            return a[i].var() < b[i].var() || (a[i].var() == b[i].var() && a[i].is_positive());
+            return a[i].is_positive();
         }
     }
     false

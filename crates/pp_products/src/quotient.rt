@@ -12,8 +12,8 @@ use pp_bits::{choose, constant, sub_borrow};
 use pp_clause::Lit;
 use pp_gate::Circuit;
 
-/// One digit of a quotient: where `rest` is less than `d`, the quotient and the remainder of `low + 2 * rest` by `d`. The
-/// remainder has one digit more than `rest`, but no more than `d`.
+/// One digit of a quotient: where `rest` is less than `d`, the quotient and the remainder of `low + 2 * rest` by `d`.
+/// The remainder has one digit more than `rest`, but no more than `d`.
 fn divide_step(
     circuit: &mut Circuit,
     d: &[Lit],

@@ -11,7 +11,8 @@ use Rattle.pp_shifts.proofs.Powers.{div_small, times_one, times_none}
 pub moved_right_none : (n : ℕ) (fill : Bool) (v : ℕ) → v < 2 ^ n → moved_right n fill v 0 ≡ v
 moved_right_none n false v h = ap (λ m. v / m) (pow-zero 2) ∙ div-one v
 moved_right_none n true v h =
-    let e : (2 ^ n - 1 - v) / 2 ^ 0 ≡ 2 ^ n - 1 - v = ap (λ m. (2 ^ n - 1 - v) / m) (pow-zero 2) ∙ div-one (2 ^ n - 1 - v) in
+    let e : (2 ^ n - 1 - v) / 2 ^ 0 ≡ 2 ^ n - 1 - v =
+    ap (λ m. (2 ^ n - 1 - v) / m) (pow-zero 2) ∙ div-one (2 ^ n - 1 - v) in
     omega arith
 
 pub moved_right_more : (n : ℕ) (fill : Bool) (v i j : ℕ)
@@ -37,7 +38,8 @@ moved_right_all n false v j k h p q =
 moved_right_all n true v j k h p q =
     let a : 2 ^ n ≤ 2 ^ j = pow-le-pow_right (omega arith) p in
     let b : 2 ^ n ≤ 2 ^ k = pow-le-pow_right (omega arith) q in
-    ap (λ x. 2 ^ n - 1 - x) (div_small (2 ^ n - 1 - v) (2 ^ j) (omega arith) ∙ sym (div_small (2 ^ n - 1 - v) (2 ^ k) (omega arith)))
+    ap (λ x. 2 ^ n - 1 - x)
+    (div_small (2 ^ n - 1 - v) (2 ^ j) (omega arith) ∙ sym (div_small (2 ^ n - 1 - v) (2 ^ k) (omega arith)))
 
 -- the complement of a number below p * q, without what is left of it by q
 pub complement_moved : (p q v : ℕ) → 0 < q → v < p * q → (p * q - 1 - v) / q ≡ p - 1 - v / q
@@ -48,7 +50,9 @@ complement_moved p q v some h =
     let whole : a * q + r ≡ v = div-add-mod' v q in
     let small : r < q = mod_below v q some in
     let fewer : a < p = div_below v q p some h in
-    let parts : p * q ≡ a * q + q + c * q = ap (λ x. x * q) (omega arith) ∙ add-mul (a + 1) c q ∙ ap (λ x. x + c * q) (add-mul a 1 q ∙ ap (λ x. a * q + x) (omega arith)) in
+    let parts : p * q ≡ a * q + q + c * q =
+    ap (λ x. x * q) (omega arith) ∙ add-mul (a + 1) c q
+    ∙ ap (λ x. x + c * q) (add-mul a 1 q ∙ ap (λ x. a * q + x) (omega arith)) in
     let rest : p * q - 1 - v ≡ c * q + (q - 1 - r) = omega arith in
     ap (λ x. x / q) rest ∙ div-mul-add c q (q - 1 - r) (omega arith)
 
@@ -61,7 +65,8 @@ moved_right_cut n fill v by k most h le e = ⊎_elim
     (cases_lt k most)
 
 -- by one more digit of the distance
-pub moved_right_turn : (n : ℕ) (fill : Bool) (v w r by place most sum : ℕ) (b : Bool) → v < 2 ^ n → n ≤ most → by ≡ min place most
+pub moved_right_turn : (n : ℕ) (fill : Bool) (v w r by place most sum : ℕ) (b : Bool) → v < 2 ^ n → n ≤ most
+    → by ≡ min place most
     → w ≡ moved_right n fill v sum → r ≡ moved_right n fill w (by * bit b)
     → r ≡ moved_right n fill v (sum + place * bit b)
 moved_right_turn n fill v w r by place most sum true h le cut e f =

@@ -18,7 +18,8 @@ moved_by : (s : ℕ → Bool) (ls : List Literal) (m : ℕ) (fill : Literal) (b 
     → nat_of s (drop m ls ++ replicate m fill) ≡ moved_right (length ls) b (nat_of s ls) m
 moved_by s ls m fill false le h =
     let n : ℕ = length (drop m ls) in
-    let all : nat_of s (drop m ls ++ replicate m fill) ≡ nat_of s (drop m ls) + 2 ^ n * nat_of s (replicate m fill) = nat_of_append s (drop m ls) (replicate m fill) in
+    let all : nat_of s (drop m ls ++ replicate m fill) ≡ nat_of s (drop m ls) + 2 ^ n * nat_of s (replicate m fill) =
+    nat_of_append s (drop m ls) (replicate m fill) in
     let none : 2 ^ n * nat_of s (replicate m fill) ≡ 0 = ap (λ v. 2 ^ n * v) (nat_of_zeros s m fill h) ∙ omega arith in
     omega (arith, nat_of_drop s m ls le)
 moved_by s ls m fill true le h =
@@ -30,8 +31,11 @@ moved_by s ls m fill true le h =
     let within : v < p * q = omega (arith, nat_of_below s ls) in
     let fewer : high < p = div_below v q p (pow_pos m) within in
     let all : nat_of s (drop m ls ++ replicate m fill) ≡ high + p * nat_of s (replicate m fill) =
-    nat_of_append s (drop m ls) (replicate m fill) ∙ (λ i. nat_of_drop s m ls le i + 2 ^ length-drop m ls i * nat_of s (replicate m fill)) in
-    let ones : p * nat_of s (replicate m fill) + p ≡ p * q = sym (mul-add p (nat_of s (replicate m fill)) 1 ∙ ap (λ x. p * nat_of s (replicate m fill) + x) (omega arith)) ∙ ap (λ x. p * x) (nat_of_ones s m fill h) in
+    nat_of_append s (drop m ls) (replicate m fill)
+    ∙ (λ i. nat_of_drop s m ls le i + 2 ^ length-drop m ls i * nat_of s (replicate m fill)) in
+    let ones : p * nat_of s (replicate m fill) + p ≡ p * q =
+    sym (mul-add p (nat_of s (replicate m fill)) 1 ∙ ap (λ x. p * nat_of s (replicate m fill) + x) (omega arith))
+    ∙ ap (λ x. p * x) (nat_of_ones s m fill h) in
     let rest : (p * q - 1 - v) / q ≡ p - 1 - high = complement_moved p q v (pow_pos m) within in
     let same : (2 ^ length ls - 1 - v) / q ≡ p - 1 - high = ap (λ x. (x - 1 - v) / q) (sym places) ∙ rest in
     omega arith
@@ -46,16 +50,20 @@ nat_of_moved s ls by m fill e =
     (cases_lt by (length ls))
 
 -- the literals that remain of a list that is moved to the left, and as many zeros before them as were dropped
-pub nat_of_raised : (s : ℕ → Bool) (ls : List Literal) (by m : ℕ) (fill : Literal) → lit_value s fill ≡ false → m ≡ min by (length ls)
+pub nat_of_raised : (s : ℕ → Bool) (ls : List Literal) (by m : ℕ) (fill : Literal) → lit_value s fill ≡ false
+    → m ≡ min by (length ls)
     → nat_of s (replicate m fill ++ take (length ls - m) ls) ≡ (nat_of s ls * 2 ^ by) % 2 ^ length ls
 nat_of_raised s ls by m fill h e =
     let n : ℕ = length ls in
     let v = nat_of s ls in
     let whole : n - m + m ≡ n = omega arith in
-    let all : nat_of s (replicate m fill ++ take (n - m) ls) ≡ nat_of s (replicate m fill) + 2 ^ m * nat_of s (take (n - m) ls) =
-    nat_of_append s (replicate m fill) (take (n - m) ls) ∙ ap (λ k. nat_of s (replicate m fill) + 2 ^ k * nat_of s (take (n - m) ls)) (length-replicate m fill) in
+    let all : nat_of s (replicate m fill ++ take (n - m) ls) ≡ nat_of s (replicate m fill) + 2 ^ m * nat_of s
+    (take (n - m) ls) =
+    nat_of_append s (replicate m fill) (take (n - m) ls)
+    ∙ ap (λ k. nat_of s (replicate m fill) + 2 ^ k * nat_of s (take (n - m) ls)) (length-replicate m fill) in
     let high : 2 ^ m * nat_of s (take (n - m) ls) ≡ (v * 2 ^ m) % 2 ^ n =
-    ap (λ k. 2 ^ m * k) (nat_of_take s (n - m) ls (omega arith)) ∙ sym (product_low v (n - m) m) ∙ ap (λ k. (v * 2 ^ m) % 2 ^ k) whole in
+    ap (λ k. 2 ^ m * k) (nat_of_take s (n - m) ls (omega arith)) ∙ sym (product_low v (n - m) m)
+    ∙ ap (λ k. (v * 2 ^ m) % 2 ^ k) whole in
     let zeros : nat_of s (replicate m fill) ≡ 0 = nat_of_zeros s m fill h in
     let cut : (v * 2 ^ m) % 2 ^ n ≡ (v * 2 ^ by) % 2 ^ n = ⊎_elim
     (λ lt. ap (λ k. (v * 2 ^ k) % 2 ^ n) (omega arith))

@@ -33,17 +33,20 @@ left_stage_value s ls moved lent by r choice zero is same e h =
 moved_or_not : (b fill : Bool) (v n moved by r : ℕ) → v < 2 ^ n → moved ≡ moved_right n fill v by
     → r ≡ (if b then moved else v) → r ≡ moved_right n fill v (by * bit b)
 moved_or_not true fill v n moved by r h e f = f ∙ e ∙ ap (moved_right n fill v) (sym (times_one by))
-moved_or_not false fill v n moved by r h e f = f ∙ sym (ap (moved_right n fill v) (times_none by) ∙ moved_right_none n fill v h)
+moved_or_not false fill v n moved by r h e f =
+    f ∙ sym (ap (moved_right n fill v) (times_none by) ∙ moved_right_none n fill v h)
 
 pub right_stage_value : (s : ℕ → Bool) (ls moved lent : List Literal) (by r : ℕ) (choice fill : Literal)
     → moved ≡ drop (min by (length ls)) ls ++ replicate (min by (length ls)) fill → lent ≡ moved
     → r ≡ (if lit_value s choice then nat_of s lent else nat_of s ls)
     → r ≡ moved_right (length ls) (lit_value s fill) (nat_of s ls) (by * lit_bit s choice)
 right_stage_value s ls moved lent by r choice fill is same e =
-    moved_or_not (lit_value s choice) (lit_value s fill) (nat_of s ls) (length ls) (nat_of s lent) by r (nat_of_below s ls)
+    moved_or_not (lit_value s choice) (lit_value s fill) (nat_of s ls) (length ls) (nat_of s lent) by r
+    (nat_of_below s ls)
     (ap (nat_of s) (same ∙ is) ∙ nat_of_moved s ls by (min by (length ls)) fill refl) e
 
-pub left_turn : (s : ℕ → Bool) (ls ks lent : List Literal) (old i by most r n : ℕ) (k : Literal) → i < length ks → k ≡ get_or ks i k
+pub left_turn : (s : ℕ → Bool) (ls ks lent : List Literal) (old i by most r n : ℕ) (k : Literal) → i < length ks
+    → k ≡ get_or ks i k
     → length ls ≡ n → n ≤ most → by ≡ min (2 ^ i) most → length lent ≡ n → nat_of s lent ≡ old
     → old ≡ (nat_of s ls * 2 ^ nat_of s (take i ks)) % 2 ^ n
     → r ≡ (nat_of s lent * 2 ^ (by * lit_bit s k)) % 2 ^ length lent
@@ -53,7 +56,8 @@ left_turn s ls ks lent old i by most r n k h ek len le cut wide same e f =
     (f ∙ (λ j. (same j * 2 ^ (by * lit_bit s k)) % 2 ^ wide j))
     ∙ ap (λ d. (nat_of s ls * 2 ^ d) % 2 ^ n) (sym (nat_of_next s ks i k h ek))
 
-pub right_turn : (s : ℕ → Bool) (ls ks lent : List Literal) (fill : Bool) (old i by most r n : ℕ) (k : Literal) → i < length ks → k ≡ get_or ks i k
+pub right_turn : (s : ℕ → Bool) (ls ks lent : List Literal) (fill : Bool) (old i by most r n : ℕ) (k : Literal)
+    → i < length ks → k ≡ get_or ks i k
     → length ls ≡ n → n ≤ most → by ≡ min (2 ^ i) most → length lent ≡ n → nat_of s lent ≡ old
     → old ≡ moved_right n fill (nat_of s ls) (nat_of s (take i ks))
     → r ≡ moved_right (length lent) fill (nat_of s lent) (by * lit_bit s k)
@@ -87,7 +91,8 @@ right_none s fill ls all e =
     ∙ moved_right_none (length ls) fill (nat_of s ls) (nat_of_below s ls))
 
 -- the places of the next stage
-pub doubled_places : (by i most next : ℕ) → by ≡ min (2 ^ i) most → next ≡ min (by * 2) most → next ≡ min (2 ^ (i + 1)) most
+pub doubled_places : (by i most next : ℕ) → by ≡ min (2 ^ i) most → next ≡ min (by * 2) most
+    → next ≡ min (2 ^ (i + 1)) most
 doubled_places by i most next e f = let p : 2 ^ (i + 1) ≡ 2 * 2 ^ i = power_next i in omega arith
 
 -- ---- how the circuit grows over the stages
@@ -98,7 +103,8 @@ AddsGates_at_first gs n is = AddsGates_none gs (n * 0) is
 pub AddsGates_turn : (old mid new : List Gate) (lent : List Literal) (n i : ℕ) → length lent ≡ n
     → AddsGates old mid (n * i)
     → AddsGates mid new (length lent) → AddsGates old new (n * (i + 1))
-AddsGates_turn old mid new lent n i len g h = AddsGates_more old mid new (n * i) (length lent) (n * (i + 1)) g h (omega (arith, mul-add n i 1))
+AddsGates_turn old mid new lent n i len g h =
+    AddsGates_more old mid new (n * i) (length lent) (n * (i + 1)) g h (omega (arith, mul-add n i 1))
 
 -- also after a stage that wanted memory
 pub AddsGates_short : (old mid new : List Gate) (lent : List Literal) (n i m : ℕ) → i < m → length lent ≡ n

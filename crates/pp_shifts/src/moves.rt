@@ -16,7 +16,7 @@ pub(crate) fn copied(circuit: &Circuit, a: &[Lit]) -> Result<Vec<Lit>, NoMemory>
     ensures circuit { IsCircuit circuit.now }
 {
     let _gates = circuit.gates();
-    let mut digits = Vec::new(circuit.allocator());
+    let mut digits = Vec::with_capacity(circuit.allocator(), a.len())?;
     digits.extend_from_slice(a)?;
     Ok(digits)
 }

@@ -14,8 +14,8 @@ use pp_bits::choose;
 use pp_clause::Lit;
 use pp_gate::Circuit;
 
-/// `a` shifted to the left by the distance, which is any number: zeros come in, and the digits that leave on the left are
-/// lost. A gate at most for each digit of `a` and each of the distance.
+/// `a` shifted to the left by the distance, which is any number: zeros come in, and the digits that leave on the left
+/// are lost. A gate at most for each digit of `a` and each of the distance.
 ///
 /// On `NoMemory` the old gates stand, and some new ones may be left.
 pub fn shl(circuit: &mut Circuit, a: &[Lit], distance: &[Lit]) -> Result<Vec<Lit>, NoMemory>
@@ -52,9 +52,9 @@ pub fn ushr(circuit: &mut Circuit, a: &[Lit], distance: &[Lit]) -> Result<Vec<Li
     right(circuit, a, distance, zero)
 }
 
-/// `a` shifted to the right by the distance, which is any number: copies of its sign come in, so that the integer in two's
-/// complement is the floor of the quotient by the power of 2. A gate at most for each digit of `a` and each of the
-/// distance.
+/// `a` shifted to the right by the distance, which is any number: copies of its sign come in, so that the integer in
+/// two's complement is the floor of the quotient by the power of 2. A gate at most for each digit of `a` and each of
+/// the distance.
 ///
 /// On `NoMemory` the old gates stand, and some new ones may be left.
 pub fn shr(circuit: &mut Circuit, a: &[Lit], distance: &[Lit]) -> Result<Vec<Lit>, NoMemory>

@@ -1,5 +1,6 @@
 -- The bits of a word, and what the operations on bits make of each.
-use Rattle.std.proofs.Common.{◌≡◌, ℕ, zero, suc, ◌+◌, ◌-◌, ◌%◌, ◌^◌, ◌<◌, min, max, ◌&&◌, ◌||◌, eqb, refl, sym, ap, ◌∙◌, arith}
+use Rattle.std.proofs.Common.{◌≡◌, ℕ, zero, suc, ◌+◌, ◌-◌, ◌%◌, ◌^◌, ◌<◌, min, max, ◌&&◌, ◌||◌, eqb, refl, sym, ap, ◌∙◌}
+use Rattle.std.proofs.Common.{arith}
 use Rattle.std.specs.Prelude.{not}
 use Rattle.std.specs.Int.{Width, cast_signed, cast_unsigned, bit_at, bit_not}
 use Rattle.std.specs.Int.RustNames.{bit_and, bit_or, bit_xor}
@@ -65,10 +66,13 @@ and_below : (w : Width) (a b : ℤ) → IsWord w a → bit_and (cast_unsigned w 
 and_below w a b f = omega (arith, and_le_l (cast_unsigned w a) (cast_unsigned w b), cast_unsigned_below w a f)
 
 or_below : (w : Width) (a b : ℤ) → IsWord w a → IsWord w b → bit_or (cast_unsigned w a) (cast_unsigned w b) < 2 ^ bits w
-or_below w a b f g = or_lt (bits w) (cast_unsigned w a) (cast_unsigned w b) (cast_unsigned_below w a f) (cast_unsigned_below w b g)
+or_below w a b f g = or_lt (bits w) (cast_unsigned w a) (cast_unsigned w b) (cast_unsigned_below w a f)
+    (cast_unsigned_below w b g)
 
-xor_below : (w : Width) (a b : ℤ) → IsWord w a → IsWord w b → bit_xor (cast_unsigned w a) (cast_unsigned w b) < 2 ^ bits w
-xor_below w a b f g = xor_lt (bits w) (cast_unsigned w a) (cast_unsigned w b) (cast_unsigned_below w a f) (cast_unsigned_below w b g)
+xor_below : (w : Width) (a b : ℤ) → IsWord w a → IsWord w b
+    → bit_xor (cast_unsigned w a) (cast_unsigned w b) < 2 ^ bits w
+xor_below w a b f g = xor_lt (bits w) (cast_unsigned w a) (cast_unsigned w b) (cast_unsigned_below w a f)
+    (cast_unsigned_below w b g)
 
 pub each_and : (w : Width) (a b : ℤ) (i : ℕ) → IsWord w a
     → bit_of w (cast_signed w (bit_and (cast_unsigned w a) (cast_unsigned w b))) i ≡ (bit_of w a i && bit_of w b i)
@@ -89,7 +93,8 @@ each_or w a b i f g =
     ∙ or_digit (bit_at m i) (bit_at n i) (bit_at-lt m i) (bit_at-lt n i)
 
 pub each_xor : (w : Width) (a b : ℤ) (i : ℕ) → IsWord w a → IsWord w b
-    → bit_of w (cast_signed w (bit_xor (cast_unsigned w a) (cast_unsigned w b))) i ≡ differ (bit_of w a i) (bit_of w b i)
+    → bit_of w (cast_signed w (bit_xor (cast_unsigned w a) (cast_unsigned w b))) i ≡ differ (bit_of w a i)
+    (bit_of w b i)
 each_xor w a b i f g =
     let m = cast_unsigned w a in
     let n = cast_unsigned w b in
@@ -98,14 +103,16 @@ each_xor w a b i f g =
     ∙ xor_digit (bit_at m i) (bit_at n i) (bit_at-lt m i) (bit_at-lt n i)
 
 -- the bits of -a - 1 are those that a has not
-cast_unsigned-complement : (w : Width) (a : ℤ) → IsWord w a → cast_unsigned w (neg_ℤ a -ℤ pos 1) ≡ bit_not w (cast_unsigned w a)
+cast_unsigned-complement : (w : Width) (a : ℤ) → IsWord w a
+    → cast_unsigned w (neg_ℤ a -ℤ pos 1) ≡ bit_not w (cast_unsigned w a)
 cast_unsigned-complement w (pos zero) f = omega arith
 cast_unsigned-complement w (pos (suc n)) f = omega arith
 cast_unsigned-complement w (negsuc n) f =
     let e : neg_ℤ (negsuc n) -ℤ pos 1 ≡ pos n = omega (arith, ints) in
     ap (cast_unsigned w) e ∙ omega (arith, ints, halves w)
 
-pub each_not : (w : Width) (a : ℤ) (i : ℕ) → IsWord w a → i < bits w → bit_of w (neg_ℤ a -ℤ pos 1) i ≡ not (bit_of w a i)
+pub each_not : (w : Width) (a : ℤ) (i : ℕ) → IsWord w a → i < bits w
+    → bit_of w (neg_ℤ a -ℤ pos 1) i ≡ not (bit_of w a i)
 each_not w a i f h =
     let n = cast_unsigned w a in
     ap (λ m. eqb (bit_at m i) 1) (cast_unsigned-complement w a f)
@@ -114,20 +121,24 @@ each_not w a i f h =
 
 -- ---- the results are words
 
-pub and_fits : (w : Width) (a b : ℤ) → IsWord w a → IsWord w (cast_signed w (bit_and (cast_unsigned w a) (cast_unsigned w b)))
+pub and_fits : (w : Width) (a b : ℤ) → IsWord w a
+    → IsWord w (cast_signed w (bit_and (cast_unsigned w a) (cast_unsigned w b)))
 and_fits w a b f = IsWord-cast_signed w (bit_and (cast_unsigned w a) (cast_unsigned w b)) (and_below w a b f)
 
-pub or_fits : (w : Width) (a b : ℤ) → IsWord w a → IsWord w b → IsWord w (cast_signed w (bit_or (cast_unsigned w a) (cast_unsigned w b)))
+pub or_fits : (w : Width) (a b : ℤ) → IsWord w a → IsWord w b
+    → IsWord w (cast_signed w (bit_or (cast_unsigned w a) (cast_unsigned w b)))
 or_fits w a b f g = IsWord-cast_signed w (bit_or (cast_unsigned w a) (cast_unsigned w b)) (or_below w a b f g)
 
-pub xor_fits : (w : Width) (a b : ℤ) → IsWord w a → IsWord w b → IsWord w (cast_signed w (bit_xor (cast_unsigned w a) (cast_unsigned w b)))
+pub xor_fits : (w : Width) (a b : ℤ) → IsWord w a → IsWord w b
+    → IsWord w (cast_signed w (bit_xor (cast_unsigned w a) (cast_unsigned w b)))
 xor_fits w a b f g = IsWord-cast_signed w (bit_xor (cast_unsigned w a) (cast_unsigned w b)) (xor_below w a b f g)
 
 pub not_fits : (w : Width) (a : ℤ) → IsWord w a → IsWord w (neg_ℤ a -ℤ pos 1)
 not_fits w a f = (omega (arith, ints), omega (arith, ints))
 
 -- words with the same bits are one word
-pub same_from_bits : (w : Width) (a b : ℤ) → IsWord w a → IsWord w b → ((i : ℕ) → i < bits w → bit_of w a i ≡ bit_of w b i) → a ≡ b
+pub same_from_bits : (w : Width) (a b : ℤ) → IsWord w a → IsWord w b
+    → ((i : ℕ) → i < bits w → bit_of w a i ≡ bit_of w b i) → a ≡ b
 same_from_bits w a b f g h =
     let m = cast_unsigned w a in
     let n = cast_unsigned w b in

@@ -47,7 +47,8 @@ IsDistance-low_bits w (negsuc n) f =
 
 floor_shr : (a : ℤ) (m : ℕ) → 0 < m → IsFloor a m (shr_z a m)
 floor_shr (pos n) m h = (omega (arith, ints, div-add-mod' n m), omega (arith, ints, div-add-mod' n m, mod_below n m h))
-floor_shr (negsuc n) m h = (omega (arith, ints, div-add-mod' n m, mod_below n m h), omega (arith, ints, div-add-mod' n m))
+floor_shr (negsuc n) m h =
+    (omega (arith, ints, div-add-mod' n m, mod_below n m h), omega (arith, ints, div-add-mod' n m))
 
 pub IsFloor-int_shr : (a : ℤ) (k : ℕ) → IsFloor a (2 ^ k) (int_shr a k)
 IsFloor-int_shr a k = floor_shr a (2 ^ k) (pow_pos k)
@@ -58,9 +59,11 @@ fits_shr w a k f = IsWord-from_fits w (int_shr a k) (sfits_le (mag_shr a (2 ^ k)
 -- the word of some bits is what they wrap to
 WrapsTo-cast_signed : (w : Width) (n : ℕ) → n < 2 ^ bits w → WrapsTo w (pos n) (cast_signed w n)
 WrapsTo-cast_signed w n h =
-    subst (WrapsTo w (pos n)) (wrap_from w (pos n) 0 n (omega (arith, ints)) ∙ ap (cast_signed w) (mod-eq_of_lt h)) (WrapsTo-int_wrap w (pos n))
+    subst (WrapsTo w (pos n)) (wrap_from w (pos n) 0 n (omega (arith, ints)) ∙ ap (cast_signed w) (mod-eq_of_lt h))
+    (WrapsTo-int_wrap w (pos n))
 
-pub unsigned_quotient : (w : Width) (a : ℤ) (k : ℕ) → IsWord w a → (q : ℤ) × IsFloor (pos (cast_unsigned w a)) (2 ^ k) q × WrapsTo w q (cast_signed w (cast_unsigned w a / 2 ^ k))
+pub unsigned_quotient : (w : Width) (a : ℤ) (k : ℕ) → IsWord w a → (q : ℤ) × IsFloor (pos (cast_unsigned w a)) (2 ^ k) q
+    × WrapsTo w q (cast_signed w (cast_unsigned w a / 2 ^ k))
 unsigned_quotient w a k f =
     let u = cast_unsigned w a in
     let below : u / 2 ^ k < 2 ^ bits w = omega (arith, div-le_self u (2 ^ k), cast_unsigned_below w a f) in
@@ -72,7 +75,8 @@ taken n s p h =
     omega (arith, ints, a)
 
 -- a product with a natural, from the bits of the first factor
-wrap_times : (w : Width) (a : ℤ) (p : ℕ) → FitsSigned w a → cast_signed w ((cast_unsigned w a * p) % 2 ^ bits w) ≡ int_wrap w (a *ℤ pos p)
+wrap_times : (w : Width) (a : ℤ) (p : ℕ) → FitsSigned w a
+    → cast_signed w ((cast_unsigned w a * p) % 2 ^ bits w) ≡ int_wrap w (a *ℤ pos p)
 unfolding int_wrap
 wrap_times w (pos x) p f = refl
 wrap_times w (negsuc x) p f =
@@ -81,5 +85,6 @@ wrap_times w (negsuc x) p f =
 
 -- what the code's `a.wrapping_shl(k)` gives
 pub shl_is : (w : Width) (a r : ℤ) (k : ℕ) → FitsSigned w a → FitsSigned w r
-    → r ≡ int_shl w (cast_signed w (cast_unsigned w a)) k → cast_signed w (cast_unsigned w r) ≡ int_wrap w (a *ℤ pos (2 ^ k))
+    → r ≡ int_shl w (cast_signed w (cast_unsigned w a)) k
+    → cast_signed w (cast_unsigned w r) ≡ int_wrap w (a *ℤ pos (2 ^ k))
 shl_is w a r k f h e = to_z-of_z w r h ∙ e ∙ ap (λ x. int_shl w x k) (to_z-of_z w a f) ∙ wrap_times w a (2 ^ k) f

@@ -1,5 +1,6 @@
 -- std's quotient and remainder are those of the Java specification.
-use Rattle.std.proofs.Common.{◌≡◌, ◌≢◌, ℕ, zero, suc, ◌*◌, ◌/◌, ◌%◌, ◌^◌, ◌<◌, ◌≤◌, ◌⊎◌, inl, inr, ⊎_elim, refl, sym, ap, ◌∙◌, subst, arith}
+use Rattle.std.proofs.Common.{◌≡◌, ◌≢◌, ℕ, zero, suc, ◌*◌, ◌/◌, ◌%◌, ◌^◌, ◌<◌, ◌≤◌, ◌⊎◌, inl, inr, ⊎_elim, refl, sym}
+use Rattle.std.proofs.Common.{ap, ◌∙◌, subst, arith}
 use Rattle.std.specs.Int.{Width, w8, w16, w32, w64, w128, int_wrap, cast_signed, cast_unsigned, int_wrapping_div}
 use Rattle.std.specs.Int.RustNames.{FitsSigned, int_div, int_rem, unsigned_abs}
 use Rattle.std.proofs.Math.Nat.{mod-eq_of_lt, div-le_self, le-mul_of_pos_right, mul-le-mul_left}
@@ -32,17 +33,23 @@ unsigned_abs_pos (negsuc d) h = omega arith
 one_le-div : (n d : ℕ) → 0 < d → d ≤ n → 1 ≤ n / d
 one_le-div n d h k = le-div 1 n d h (omega arith)
 
-positive_quotient : (n d : ℤ) → 0 < unsigned_abs d → unsigned_abs d ≤ unsigned_abs n → HaveOneSign n d → pos 0 <ℤ int_div n d
+positive_quotient : (n d : ℤ) → 0 < unsigned_abs d → unsigned_abs d ≤ unsigned_abs n → HaveOneSign n d
+    → pos 0 <ℤ int_div n d
 positive_quotient (pos a) (pos b) h k s = omega (arith, ints, one_le-div a b h k)
-positive_quotient (pos a) (negsuc b) h k s = ⊎_elim (λ l. absurd (omega (arith, ints, l.1))) (λ l. absurd (omega (arith, ints, l.0))) s
-positive_quotient (negsuc a) (pos b) h k s = ⊎_elim (λ l. absurd (omega (arith, ints, l.0))) (λ l. absurd (omega (arith, ints, l.1))) s
+positive_quotient (pos a) (negsuc b) h k s =
+    ⊎_elim (λ l. absurd (omega (arith, ints, l.1))) (λ l. absurd (omega (arith, ints, l.0))) s
+positive_quotient (negsuc a) (pos b) h k s =
+    ⊎_elim (λ l. absurd (omega (arith, ints, l.0))) (λ l. absurd (omega (arith, ints, l.1))) s
 positive_quotient (negsuc a) (negsuc b) h k s = omega (arith, ints, one_le-div (suc a) (suc b) h k)
 
-negative_quotient : (n d : ℤ) → 0 < unsigned_abs d → unsigned_abs d ≤ unsigned_abs n → HaveOppositeSigns n d → int_div n d <ℤ pos 0
-negative_quotient (pos a) (pos b) h k s = ⊎_elim (λ l. absurd (omega (arith, ints, l.1))) (λ l. absurd (omega (arith, ints, l.0))) s
+negative_quotient : (n d : ℤ) → 0 < unsigned_abs d → unsigned_abs d ≤ unsigned_abs n → HaveOppositeSigns n d
+    → int_div n d <ℤ pos 0
+negative_quotient (pos a) (pos b) h k s =
+    ⊎_elim (λ l. absurd (omega (arith, ints, l.1))) (λ l. absurd (omega (arith, ints, l.0))) s
 negative_quotient (pos a) (negsuc b) h k s = omega (arith, ints, one_le-div a (suc b) h k)
 negative_quotient (negsuc a) (pos b) h k s = omega (arith, ints, one_le-div (suc a) b h k)
-negative_quotient (negsuc a) (negsuc b) h k s = ⊎_elim (λ l. absurd (omega (arith, ints, l.0))) (λ l. absurd (omega (arith, ints, l.1))) s
+negative_quotient (negsuc a) (negsuc b) h k s =
+    ⊎_elim (λ l. absurd (omega (arith, ints, l.0))) (λ l. absurd (omega (arith, ints, l.1))) s
 
 pub IsQuotient-int_div : (n d : ℤ) → d ≢ pos 0 → IsQuotient n d (int_div n d)
 IsQuotient-int_div n d h =
@@ -50,7 +57,8 @@ IsQuotient-int_div n d h =
     let e = unsigned_abs-int_div n d in
     record {
       within = rw (unsigned_abs-mul d (int_div n d), e) (omega arith);
-      largest = λ q k. rw e (le-div (unsigned_abs q) (unsigned_abs n) (unsigned_abs d) p (omega (arith, unsigned_abs-mul d q, k)));
+      largest = λ q k. rw e (le-div (unsigned_abs q) (unsigned_abs n) (unsigned_abs d) p
+          (omega (arith, unsigned_abs-mul d q, k)));
       positive = positive_quotient n d p;
       negative = negative_quotient n d p;
     }
@@ -97,7 +105,8 @@ pub same_quotient : (n d q p : ℤ) → d ≢ pos 0 → IsQuotient n d q → IsQ
 same_quotient n d (pos a) (pos b) h f g = omega (arith, ints, f.largest (pos b) g.within, g.largest (pos a) f.within)
 same_quotient n d (pos a) (negsuc b) h f g = absurd (signs_agree n d a b h f g)
 same_quotient n d (negsuc a) (pos b) h f g = absurd (signs_agree n d b a h g f)
-same_quotient n d (negsuc a) (negsuc b) h f g = omega (arith, ints, f.largest (negsuc b) g.within, g.largest (negsuc a) f.within)
+same_quotient n d (negsuc a) (negsuc b) h f g =
+    omega (arith, ints, f.largest (negsuc b) g.within, g.largest (negsuc a) f.within)
 
 pub same_remainder : (n d r s : ℤ) → d ≢ pos 0 → IsRemainder n d r → IsRemainder n d s → r ≡ s
 same_remainder n d r s h f g =
@@ -107,9 +116,11 @@ same_remainder n d r s h f g =
     omega (arith, ints, k, g.rest.2)
 
 -- a quotient of words is a word, but for the least by -1
-pub fits_quotient : (w : Width) (n d : ℤ) → IsWord w n → ¬ ((n ≡ least_word w) × (d ≡ negsuc 0)) → FitsSigned w (int_div n d)
+pub fits_quotient : (w : Width) (n d : ℤ) → IsWord w n → ¬ ((n ≡ least_word w) × (d ≡ negsuc 0))
+    → FitsSigned w (int_div n d)
 fits_quotient w (pos a) d f s =
-    let e : unsigned_abs (int_div (pos a) d) ≤ a = omega (arith, unsigned_abs-int_div (pos a) d, div-le_self a (unsigned_abs d)) in
+    let e : unsigned_abs (int_div (pos a) d) ≤ a =
+    omega (arith, unsigned_abs-int_div (pos a) d, div-le_self a (unsigned_abs d)) in
     omega (arith, ints)
 fits_quotient w (negsuc a) (pos b) f s = omega (arith, ints, div-le_self (suc a) b)
 fits_quotient w (negsuc a) (negsuc zero) f s =
@@ -152,8 +163,17 @@ pub wrapping_div_is : (w : Width) (a b r : ℤ) → FitsSigned w a → FitsSigne
     → r ≡ int_wrapping_div w (cast_signed w (cast_unsigned w a)) (cast_signed w (cast_unsigned w b))
     → cast_signed w (cast_unsigned w r) ≡ int_wrap w (int_div a b)
 wrapping_div_is w a b r f g h e =
-    let small : unsigned_abs (int_div a b) < 2 ^ bits w = omega (arith, ints, unsigned_abs-int_div a b, div-le_self (unsigned_abs a) (unsigned_abs b), halves w, pow_pos (hbits w)) in
-    to_z-of_z w r h ∙ e ∙ (λ i. int_wrapping_div w (to_z-of_z w a f i) (to_z-of_z w b g i)) ∙ sym (wrap_small w (int_div a b) small)
+    let small : unsigned_abs (int_div a b) < 2 ^ bits w =
+    omega (
+      arith,
+      ints,
+      unsigned_abs-int_div a b,
+      div-le_self (unsigned_abs a) (unsigned_abs b),
+      halves w,
+      pow_pos (hbits w),
+    ) in
+    to_z-of_z w r h ∙ e ∙ (λ i. int_wrapping_div w (to_z-of_z w a f i) (to_z-of_z w b g i))
+    ∙ sym (wrap_small w (int_div a b) small)
 
 -- what the code's `a.wrapping_rem(b)` gives
 pub wrapping_rem_is : (w : Width) (a b r : ℤ) → FitsSigned w a → FitsSigned w b → FitsSigned w r

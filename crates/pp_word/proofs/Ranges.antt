@@ -32,4 +32,5 @@ IsWord-cast_signed w n h = IsWord-from_fits w (cast_signed w n) (to_z-Fits w n (
 
 pub IsUnsignedReading-cast_unsigned : (w : Width) (z : ℤ) → IsWord w z → IsUnsignedReading w z (cast_unsigned w z)
 IsUnsignedReading-cast_unsigned w (pos n) h = (cast_unsigned_below w (pos n) h, (pos 0, omega (arith, ints)))
-IsUnsignedReading-cast_unsigned w (negsuc n) h = (cast_unsigned_below w (negsuc n) h, (negsuc 0, omega (arith, ints, h, halves w)))
+IsUnsignedReading-cast_unsigned w (negsuc n) h =
+    (cast_unsigned_below w (negsuc n) h, (negsuc 0, omega (arith, ints, h, halves w)))

@@ -1,8 +1,10 @@
 -- The operations on the words of a width w, as Scala has them on `Int` (w32) and `Long` (w64).
--- A word of width w is an integer from -2 ^ (bits w - 1) to 2 ^ (bits w - 1) - 1. `int_wrap w z` is the one word that differs
--- from z by a multiple of 2 ^ bits w, and `cast_unsigned w a` the number from 0 to 2 ^ bits w - 1 that does: the bits of a.
+-- A word of width w is an integer from -2 ^ (bits w - 1) to 2 ^ (bits w - 1) - 1. `int_wrap w z` is the one word that
+-- differs from z by a multiple of 2 ^ bits w, and `cast_unsigned w a` the number from 0 to 2 ^ bits w - 1 that does:
+-- the bits of a.
 -- The other files of this folder say in plain integers what each operation means, and the laws of `src/` tie the two.
--- Source: Scala Language Specification 2.13, 12.2.1, and the rules of the Java Language Specification (JLS) named below.
+-- Source: Scala Language Specification 2.13, 12.2.1, and the rules of the Java Language Specification (JLS) named
+-- below.
 use Rattle.std.specs.Prelude.{ℕ, ◌/◌, ◌%◌, ◌^◌, Bool, ℤ, pos, neg_ℤ, ◌+ℤ◌, ◌-ℤ◌, ◌*ℤ◌}
 use Rattle.std.specs.Int.{Width, int_wrap, cast_signed, cast_unsigned, int_shr}
 use Rattle.std.specs.Int.RustNames.{bit_and, bit_or, bit_xor, int_div, int_rem, int_lt, int_le}

@@ -1,4 +1,5 @@
-// The operations on each bit.
+//! The operations on each bit.
+
 #![tactic(auto, unfolding(crate::specs::Word::word_and, crate::specs::Word::word_or, crate::specs::Word::word_xor, crate::specs::Word::word_not))]
 
 ghost use Rattle.std.specs.Prelude.{◌≡◌, ℕ, ◌<◌, ◌&&◌, ◌||◌, not, ℤ};

@@ -1,4 +1,4 @@
-// Quotient and remainder.
+//! Quotient and remainder.
 
 ghost use Rattle.std.specs.Prelude.{◌≡◌, ◌≢◌, ◌↔◌, ℤ, pos, negsuc, IsNone, IfSome};
 ghost use Rattle.std.specs.Int.{Width, w32};
@@ -19,8 +19,8 @@ pub fn div(a: i32, b: i32) -> Option<i32>
     }
 }
 
-/// The remainder, with the sign of the dividend `a` (JLS 15.17.3). `i32::MIN` by -1 leaves 0. `None` is for a divisor of 0,
-/// where Scala throws.
+/// The remainder, with the sign of the dividend `a` (JLS 15.17.3). `i32::MIN` by -1 leaves 0. `None` is for a divisor
+/// of 0, where Scala throws.
 pub fn rem(a: i32, b: i32) -> Option<i32>
     ensures none { IsNone result ↔ (b ≡ pos 0) }
     ensures value { IfSome result (λ r. r ≡ word_rem w32 a b) }
@@ -32,8 +32,10 @@ pub fn rem(a: i32, b: i32) -> Option<i32>
     }
 }
 
-/// For each divisor but 0: the value of a division is what the quotient wraps to, and that of a remainder the remainder.
-/// The least word by -1 gives the least word, and leaves 0. Of other words the value of a division is the quotient itself.
+/// For each divisor but 0: the value of a division is what the quotient wraps to, and that of a remainder the
+/// remainder.
+/// The least word by -1 gives the least word, and leaves 0. Of other words the value of a division is the quotient
+/// itself.
 pub fn division_law()
     ensures quotient { (w : Width) (n d : ℤ) → d ≢ pos 0
         → (q : ℤ) × IsQuotient n d q × WrapsTo w q (word_div w n d) }

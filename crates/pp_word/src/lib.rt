@@ -1,12 +1,13 @@
 //! The arithmetic of Scala's `Int`, on `i32`.
 //!
-//! Each call has one value for each pair of words. `specs/Word.antt` names these values, for words of any width, so that
-//! `Long` can have the same definitions at 64 bits. The files `Wrapping`, `Division`, `Shifts`, `Bits` and `Order` of
-//! `specs/` say in plain integers what is wanted of them, after section 12.2.1 of the Scala Language Specification 2.13
-//! and the Java Language Specification (JLS, Java SE 17). The functions whose names end in `_law` do nothing: their
-//! contracts tie the two, at each width, and the check proves them.
+//! Each call has one value for each pair of words. `specs/Word.antt` names these values, for words of any width, so
+//! that `Long` can have the same definitions at 64 bits. The files `Wrapping`, `Division`, `Shifts`, `Bits` and
+//! `Order` of `specs/` say in plain integers what is wanted of them, after section 12.2.1 of the Scala Language
+//! Specification 2.13 and the Java Language Specification (JLS, Java SE 17). The functions whose names end in `_law`
+//! do nothing: their contracts tie the two, at each width, and the check proves them.
 //!
-//! No call takes memory, and none refuses anything but a divisor of 0. How a value is computed may change freely.
+//! No call takes memory, and none refuses anything but a divisor of 0. How a value is computed may change freely. The
+//! program `pp_word_tables` has their values on a JVM.
 #![tactic(auto)]
 
 mod bits;
@@ -14,8 +15,6 @@ mod division;
 mod order;
 mod shifts;
 mod sums;
-#[cfg(test)]
-mod tests;
 
 pub use bits::{and, bit_law, not, or, xor};
 pub use division::{div, division_law, rem};

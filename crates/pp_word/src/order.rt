@@ -1,4 +1,4 @@
-// Comparisons.
+//! Comparisons.
 
 ghost use Rattle.std.specs.Prelude.{◌≡◌, ◌↔◌, ℤ, IsTrue};
 ghost use Rattle.pp_word.specs.Word.{word_less, word_at_most};

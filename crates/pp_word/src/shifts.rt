@@ -1,4 +1,5 @@
-// Shifts.
+//! Shifts.
+
 #![tactic(auto, unfolding(crate::specs::Word::shift_distance, crate::specs::Word::word_shr, crate::specs::Word::word_ushr))]
 
 ghost use Rattle.std.specs.Prelude.{◌≡◌, ℕ, ◌^◌, ℤ, pos, ◌*ℤ◌};
@@ -30,8 +31,8 @@ pub fn ushr(a: i32, b: i32) -> i32
         .cast_signed()
 }
 
-/// A shift by b is one by k bits, the low bits of b. To the left it is what the product with 2^k wraps to, to the right the
-/// floor of the quotient by 2^k, and unsigned what the floor of the unsigned reading's quotient by 2^k wraps to.
+/// A shift by b is one by k bits, the low bits of b. To the left it is what the product with 2^k wraps to, to the right
+/// the floor of the quotient by 2^k, and unsigned what the floor of the unsigned reading's quotient by 2^k wraps to.
 pub fn shift_law()
     ensures distance { (w : Width) (b : ℤ) → IsWord w b → IsDistance w b (shift_distance w b) }
     ensures left { (w : Width) (a b : ℤ)

@@ -1,4 +1,4 @@
-// Sum, difference, product and negation, which wrap.
+//! Sum, difference, product and negation, which wrap.
 
 ghost use Rattle.std.specs.Prelude.{◌≡◌, ℤ, neg_ℤ, ◌+ℤ◌, ◌-ℤ◌, ◌*ℤ◌};
 ghost use Rattle.std.specs.Int.{Width, w32, cast_unsigned};

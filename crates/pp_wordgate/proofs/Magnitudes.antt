@@ -68,7 +68,8 @@ magnitude_word : (w : Width) (s : ℕ → Bool) (a : List Literal) (n : ℕ) →
 unfolding word_of
 magnitude_word w s a n same wide =
     let negative = leb (2 ^ (n - 1)) (nat_of s a) in
-    let is : negative ≡ leb (2 ^ hbits w) (nat_of s a) = ap (λ k. leb (2 ^ (k - 1)) (nat_of s a)) same ∙ top_digit w s a wide in
+    let is : negative ≡ leb (2 ^ hbits w) (nat_of s a) =
+    ap (λ k. leb (2 ^ (k - 1)) (nat_of s a)) same ∙ top_digit w s a wide in
     ap (λ k. if negative then (2 ^ k - nat_of s a) % 2 ^ k else nat_of s a) (same ∙ wide)
     ∙ sym (unsigned_abs-cast_signed w (nat_of s a) negative (below_bits w s a wide) is)
 

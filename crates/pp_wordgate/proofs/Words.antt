@@ -1,22 +1,18 @@
 -- What equations on the numbers of words say of the integers that the words stand for.
-use Rattle.std.proofs.Common.{to_z, of_z, ◌≡◌, ◌↔◌, ℕ, ◌+◌, ◌-◌, ◌*◌, ◌/◌, ◌%◌, ◌^◌, ◌<◌, ◌≤◌, ◌==◌, Bool, true, false}
+use Rattle.std.proofs.Common.{to_z, of_z, ◌≡◌, ◌↔◌, ℕ, ◌*◌, ◌/◌, ◌%◌, ◌^◌, ◌<◌, ◌≤◌, ◌==◌, Bool, true, false}
 use Rattle.std.proofs.Common.{if◌then◌else◌, List, length, take, refl, sym, ap, ◌∙◌, subst, arith}
 use Rattle.std.specs.Int.{Width, int_shr, cast_signed, cast_unsigned}
 use Rattle.std.proofs.Math.Nat.{mod-eq_of_lt}
-use Rattle.std.specs.Int.RustNames.{FitsSigned, bit_and, bit_or, bit_xor, int_lt}
+use Rattle.std.specs.Int.RustNames.{FitsSigned, int_lt}
 use Rattle.std.proofs.lemmas.Int.{to_z-of_z}
 use Rattle.std.proofs.lemmas.Bool.Decides.{nat_tests}
 use Rattle.pp_clause.specs.Literal.{Literal}
 use Rattle.pp_gate.specs.declared.gate.Gate.{Gate}
-use Rattle.pp_word.specs.Word.{shift_distance, word_add, word_sub, word_mul, word_neg, word_and, word_or, word_xor}
-use Rattle.pp_word.specs.Word.{word_not, word_shl, word_shr, word_ushr, word_less}
+use Rattle.pp_word.specs.Word.{shift_distance, word_shl, word_shr, word_ushr, word_less}
 use Rattle.pp_word.proofs.Ranges.{cast_unsigned_below, IsWord-from_fits, fits_from_IsWord, IsWord-cast_signed}
 use Rattle.pp_word.specs.Wrapping.{IsWord}
 use Rattle.pp_wordlaws.proofs.Readings.{same_reading}
-use Rattle.pp_wordlaws.proofs.Sums.{sum_of_bits, difference_of_bits, product_of_bits, negative_of_bits}
-use Rattle.pp_wordlaws.proofs.Sums.{complement_of_bits}
 use Rattle.pp_wordlaws.proofs.Moves.{left_of_bits, unsigned_right_of_bits, distance_of_bits}
-use Rattle.pp_wordlaws.proofs.Digits.{and_of_bits, or_of_bits, xor_of_bits}
 use Rattle.pp_gate.specs.Circuit.{Gives}
 use Rattle.pp_bits.specs.Inputs.{ChosenNumber}
 use Rattle.pp_bits.specs.Number.{nat_of, signed_of, StandsForNumber}
@@ -31,78 +27,51 @@ use mir.Val.{bits}
 pub below_bits : (w : Width) (s : ℕ → Bool) (a : List Literal) → length a ≡ bits w → nat_of s a < 2 ^ bits w
 below_bits w s a len = subst (λ n. nat_of s a < 2 ^ n) len (nat_of_below s a)
 
--- what the code lends of a word, and makes of it
+-- ---- words that a call answers
+
+pub same_word : (w : Width) (gs : List Gate) (digits r : List Literal) (meaning : (ℕ → Bool) → ℤ) → r ≡ digits
+    → StandsForWord w gs digits meaning → StandsForWord w gs r meaning
+same_word w gs digits r meaning e h = subst (λ ls. StandsForWord w gs ls meaning) (sym e) h
+
+-- the digits that were made, as a word
+pub from_digits : (w : Width) (gs : List Gate) (n : ℕ) (digits r : List Literal) (number : (ℕ → Bool) → ℕ)
+    (meaning : (ℕ → Bool) → ℤ) → r ≡ digits → n ≡ bits w
+    → StandsForNumber gs n digits number → ((s : ℕ → Bool) → nat_of s digits ≡ number s
+    → word_of w s digits ≡ meaning s) → StandsForWord w gs r meaning
+from_digits w gs n digits r number meaning e wide stands means = same_word w gs digits r meaning e (record {
+  len = stands.len ∙ wide;
+  of = stands.of;
+  value = λ s gives. means s (stands.value s gives);
+})
+
+-- ---- operations, from what they are on the numbers of words
+
+-- what the code lends of words, and makes of them
 on_words : (w : Width) (s : ℕ → Bool) (f : ℕ → ℕ → ℕ → ℕ) (a b la lb r : List Literal) → la ≡ a → lb ≡ b
     → length a ≡ bits w
     → nat_of s r ≡ f (length la) (nat_of s la) (nat_of s lb) → nat_of s r ≡ f (bits w) (nat_of s a) (nat_of s b)
 on_words w s f a b la lb r ea eb ha e =
     e ∙ (λ i. f (length (ea i)) (nat_of s (ea i)) (nat_of s (eb i))) ∙ ap (λ n. f n (nat_of s a) (nat_of s b)) ha
 
-pub sum_word : (w : Width) (s : ℕ → Bool) (a b la lb r : List Literal) → la ≡ a → lb ≡ b → length a ≡ bits w
-    → length b ≡ bits w
-    → nat_of s r ≡ (nat_of s la + nat_of s lb) % 2 ^ length la
-    → word_of w s r ≡ word_add w (word_of w s a) (word_of w s b)
+pub binary_word : (w : Width) (f : ℕ → ℕ → ℕ → ℕ) (g : ℤ → ℤ → ℤ)
+    → ((x y z : ℕ) → x < 2 ^ bits w → y < 2 ^ bits w → z ≡ f (bits w) x y
+    → cast_signed w z ≡ g (cast_signed w x) (cast_signed w y))
+    → (gs : List Gate) (a b la lb digits r : List Literal) → r ≡ digits → la ≡ a → lb ≡ b → length a ≡ bits w
+    → length b ≡ bits w → StandsForNumber gs (length la) digits (λ s. f (length la) (nat_of s la) (nat_of s lb))
+    → StandsForWord w gs r (λ s. g (word_of w s a) (word_of w s b))
 unfolding word_of
-sum_word w s a b la lb r ea eb ha hb e =
-    sum_of_bits w (nat_of s a) (nat_of s b) (nat_of s r) (below_bits w s a ha) (below_bits w s b hb)
-    (on_words w s (λ n x y. (x + y) % 2 ^ n) a b la lb r ea eb ha e)
+binary_word w f g law gs a b la lb digits r er ea eb ha hb stands =
+    from_digits w gs _ _ _ _ _ er (ap length ea ∙ ha) stands
+    (λ s e. law (nat_of s a) (nat_of s b) (nat_of s digits) (below_bits w s a ha) (below_bits w s b hb)
+    (on_words w s f a b la lb digits ea eb ha e))
 
-pub difference_word : (w : Width) (s : ℕ → Bool) (a b la lb r : List Literal) → la ≡ a → lb ≡ b → length a ≡ bits w
-    → length b ≡ bits w
-    → nat_of s r ≡ (nat_of s la + (2 ^ length la - nat_of s lb)) % 2 ^ length la
-    → word_of w s r ≡ word_sub w (word_of w s a) (word_of w s b)
-unfolding word_of
-difference_word w s a b la lb r ea eb ha hb e =
-    difference_of_bits w (nat_of s a) (nat_of s b) (nat_of s r) (below_bits w s a ha) (below_bits w s b hb)
-    (on_words w s (λ n x y. (x + (2 ^ n - y)) % 2 ^ n) a b la lb r ea eb ha e)
-
-pub product_word : (w : Width) (s : ℕ → Bool) (a b la lb r : List Literal) → la ≡ a → lb ≡ b → length a ≡ bits w
-    → length b ≡ bits w
-    → nat_of s r ≡ (nat_of s la * nat_of s lb) % 2 ^ length la
-    → word_of w s r ≡ word_mul w (word_of w s a) (word_of w s b)
-unfolding word_of
-product_word w s a b la lb r ea eb ha hb e =
-    product_of_bits w (nat_of s a) (nat_of s b) (nat_of s r) (below_bits w s a ha) (below_bits w s b hb)
-    (on_words w s (λ n x y. (x * y) % 2 ^ n) a b la lb r ea eb ha e)
-
-pub and_word : (w : Width) (s : ℕ → Bool) (a b la lb r : List Literal) → la ≡ a → lb ≡ b → length a ≡ bits w
-    → length b ≡ bits w
-    → nat_of s r ≡ bit_and (nat_of s la) (nat_of s lb) → word_of w s r ≡ word_and w (word_of w s a) (word_of w s b)
-unfolding word_of
-and_word w s a b la lb r ea eb ha hb e =
-    and_of_bits w (nat_of s a) (nat_of s b) (nat_of s r) (below_bits w s a ha) (below_bits w s b hb)
-    (on_words w s (λ n x y. bit_and x y) a b la lb r ea eb ha e)
-
-pub or_word : (w : Width) (s : ℕ → Bool) (a b la lb r : List Literal) → la ≡ a → lb ≡ b → length a ≡ bits w
-    → length b ≡ bits w
-    → nat_of s r ≡ bit_or (nat_of s la) (nat_of s lb) → word_of w s r ≡ word_or w (word_of w s a) (word_of w s b)
-unfolding word_of
-or_word w s a b la lb r ea eb ha hb e =
-    or_of_bits w (nat_of s a) (nat_of s b) (nat_of s r) (below_bits w s a ha) (below_bits w s b hb)
-    (on_words w s (λ n x y. bit_or x y) a b la lb r ea eb ha e)
-
-pub xor_word : (w : Width) (s : ℕ → Bool) (a b la lb r : List Literal) → la ≡ a → lb ≡ b → length a ≡ bits w
-    → length b ≡ bits w
-    → nat_of s r ≡ bit_xor (nat_of s la) (nat_of s lb) → word_of w s r ≡ word_xor w (word_of w s a) (word_of w s b)
-unfolding word_of
-xor_word w s a b la lb r ea eb ha hb e =
-    xor_of_bits w (nat_of s a) (nat_of s b) (nat_of s r) (below_bits w s a ha) (below_bits w s b hb)
-    (on_words w s (λ n x y. bit_xor x y) a b la lb r ea eb ha e)
-
-pub negative_word : (w : Width) (s : ℕ → Bool) (a la r : List Literal) → la ≡ a → length a ≡ bits w
-    → nat_of s r ≡ (2 ^ length la - nat_of s la) % 2 ^ length la → word_of w s r ≡ word_neg w (word_of w s a)
-unfolding word_of
-negative_word w s a la r ea ha e =
-    negative_of_bits w (nat_of s a) (nat_of s r) (below_bits w s a ha)
-    (on_words w s (λ n x y. (2 ^ n - x) % 2 ^ n) a a la la r ea ea ha e)
-
-pub complement_word : (w : Width) (s : ℕ → Bool) (a la r : List Literal) → la ≡ a → length a ≡ bits w
-    → nat_of s r ≡ 2 ^ length la - 1 - nat_of s la → word_of w s r ≡ word_not w (word_of w s a)
-unfolding word_of
-complement_word w s a la r ea ha e =
-    let below : nat_of s a < 2 ^ bits w = below_bits w s a ha in
-    let is : nat_of s r ≡ 2 ^ bits w - 1 - nat_of s a = on_words w s (λ n x y. 2 ^ n - 1 - x) a a la la r ea ea ha e in
-    complement_of_bits w (nat_of s a) (nat_of s r) below (omega arith)
+pub unary_word : (w : Width) (f : ℕ → ℕ → ℕ) (g : ℤ → ℤ)
+    → ((x z : ℕ) → x < 2 ^ bits w → z ≡ f (bits w) x → cast_signed w z ≡ g (cast_signed w x))
+    → (gs : List Gate) (a la digits r : List Literal) → r ≡ digits → la ≡ a → length a ≡ bits w
+    → StandsForNumber gs (length la) digits (λ s. f (length la) (nat_of s la))
+    → StandsForWord w gs r (λ s. g (word_of w s a))
+unary_word w f g law gs a la digits r er ea ha stands =
+    binary_word w (λ n x y. f n x) (λ i j. g i) (λ x y z p q e. law x z p e) gs a a la la digits r er ea ea ha ha stands
 
 -- ---- comparisons, constants, choices
 
@@ -193,23 +162,6 @@ right_word w s a la d r z ea ha far len e =
     ∙ ap (λ i. int_shr i (nat_of s d)) (signed_word w s a la ea ha)
     ∙ ap (int_shr (word_of w s a)) (sym far)
 
--- ---- words that a call answers
-
-pub same_word : (w : Width) (gs : List Gate) (digits r : List Literal) (meaning : (ℕ → Bool) → ℤ) → r ≡ digits
-    → StandsForWord w gs digits meaning → StandsForWord w gs r meaning
-same_word w gs digits r meaning e h = subst (λ ls. StandsForWord w gs ls meaning) (sym e) h
-
--- the digits that were made, as a word
-pub from_digits : (w : Width) (gs : List Gate) (n : ℕ) (digits r : List Literal) (number : (ℕ → Bool) → ℕ)
-    (meaning : (ℕ → Bool) → ℤ) → r ≡ digits → n ≡ bits w
-    → StandsForNumber gs n digits number → ((s : ℕ → Bool) → nat_of s digits ≡ number s
-    → word_of w s digits ≡ meaning s) → StandsForWord w gs r meaning
-from_digits w gs n digits r number meaning e wide stands means = same_word w gs digits r meaning e (record {
-  len = stands.len ∙ wide;
-  of = stands.of;
-  value = λ s gives. means s (stands.value s gives);
-})
-
 -- ---- words of inputs, and the values that are read
 
 -- inputs that stand for each number stand for each integer
@@ -218,7 +170,8 @@ pub chosen_word_of : (w : Width) (old new : List Gate) (digits r : List Literal)
     → (s : ℕ → Bool) → Gives s old → (v : ℤ) → FitsSigned w v → ChosenWord w old new s r v
 unfolding word_of
 chosen_word_of w old new digits r n e wide chosen s gives v fits =
-    let small : cast_unsigned w v < 2 ^ n = subst (λ k. cast_unsigned w v < 2 ^ k) (sym wide) (cast_unsigned_below w v (IsWord-from_fits w v fits)) in
+    let small : cast_unsigned w v < 2 ^ n =
+    subst (λ k. cast_unsigned w v < 2 ^ k) (sym wide) (cast_unsigned_below w v (IsWord-from_fits w v fits)) in
     let c : ChosenNumber old new s digits (cast_unsigned w v) = chosen s gives (cast_unsigned w v) small in
     record {
       assignment = c.assignment;

@@ -1,5 +1,5 @@
--- The integers that words stand for, where an assignment `s` gives each variable a truth value: the literals are the bits in
--- two's complement, the lowest first, as many as the width has. (own; JLS 4.2)
+-- The integers that words stand for, where an assignment `s` gives each variable a truth value: the literals are the
+-- bits in two's complement, the lowest first, as many as the width has. (own; JLS 4.2)
 use Rattle.std.specs.Prelude.{◌≡◌, ◌≢◌, ℕ, ◌+◌, ◌-◌, ◌*◌, ◌%◌, ◌^◌, Bool, if◌then◌else◌, nat_le, List, All, length, ℤ}
 use Rattle.std.specs.Prelude.{pos}
 use Rattle.std.specs.Int.{Width, cast_signed}
@@ -19,7 +19,8 @@ pub record StandsForWord (w : Width) (gs : List Gate) (ls : List Literal) (meani
   pub of : All (IsOf gs) ls
   pub value : (s : ℕ → Bool) → Gives s gs → word_of w s ls ≡ meaning s
 
--- an assignment that agrees with `s` on the old variables and gives each gate its value, under which the word stands for v
+-- an assignment that agrees with `s` on the old variables and gives each gate its value, under which the word stands
+-- for v
 pub record ChosenWord (w : Width) (old new : List Gate) (s : ℕ → Bool) (ls : List Literal) (v : ℤ) : Type 0 where
   pub assignment : ℕ → Bool
   pub gives : Gives assignment new
@@ -34,8 +35,8 @@ magnitude_of n v = if nat_le (2 ^ (n - 1)) v then (2 ^ n - v) % 2 ^ n else v
 abbrev pub division_gates : ℕ → ℕ
 division_gates n = (5 * n + 16) * n + 1
 
--- as many literals of the circuit as a has, which stand at the width of so many bits for what the operation makes of a and b,
--- where b isn't 0
+-- as many literals of the circuit as a has, which stand at the width of so many bits for what the operation makes of a
+-- and b, where b isn't 0
 pub record StandsForDivision (operation : Width → ℤ → ℤ → ℤ) (gs : List Gate) (a b r : List Literal) : Type 0 where
   pub len : length r ≡ length a
   pub of : All (IsOf gs) r

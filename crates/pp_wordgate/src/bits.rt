@@ -1,8 +1,8 @@
 //! The operations on each bit.
 
-ghost use Rattle.std.specs.Prelude.{◌≡◌, ℕ, Bool, ◌+◌, ◌^◌, ◌≤◌, All, length, IfOk};
+ghost use Rattle.std.specs.Prelude.{◌+◌, ◌^◌, ◌≤◌, All, length, IfOk};
 ghost use Rattle.std.specs.Int.{w32};
-ghost use Rattle.pp_gate.specs.Circuit.{IsOf, Gives, StandsFor};
+ghost use Rattle.pp_gate.specs.Circuit.{IsOf};
 ghost use Rattle.pp_gate.specs.Growth.{AddsGates};
 ghost use Rattle.pp_wordgate.specs.Meaning.{word_of, StandsForWord};
 ghost use Rattle.pp_word.specs.Word.{word_and, word_or, word_xor, word_not};

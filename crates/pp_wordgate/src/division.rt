@@ -28,8 +28,8 @@ pub fn div(circuit: &mut Circuit, a: Word, b: Word) -> Result<Word, NoMemory>
     Ok(Word::from_lits(&digits))
 }
 
-/// The remainder, with the sign of the dividend `a`, where `b` isn't 0 (JLS 15.17.3): at most 16,384 gates. `i32::MIN` by
-/// -1 leaves 0. Where `b` is 0 nothing is promised of the answer's value.
+/// The remainder, with the sign of the dividend `a`, where `b` isn't 0 (JLS 15.17.3): at most 16,384 gates. `i32::MIN`
+/// by -1 leaves 0. Where `b` is 0 nothing is promised of the answer's value.
 ///
 /// On `NoMemory` the old gates stand, and some new ones may be left.
 pub fn rem(circuit: &mut Circuit, a: Word, b: Word) -> Result<Word, NoMemory>

@@ -22,8 +22,8 @@
 //! | `div` | 16,384 | 2,418 |
 //! | `rem` | 16,384 | 2,417 |
 //!
-//! `unknown` is a word of 32 fresh inputs, which can stand for each value, and `value` the one for which a word stands under
-//! an assignment.
+//! `unknown` is a word of 32 fresh inputs, which can stand for each value, and `value` the one for which a word
+//! stands under an assignment.
 //!
 //! The budgets are proved; the gates over fresh inputs are counted by that program. How a call builds its circuit may
 //! change within its budget. Division is stated for lists of any length (`signed`), and the lemmas of `proofs/` at any
@@ -38,8 +38,6 @@ mod order;
 mod shifts;
 mod signed;
 mod sums;
-#[cfg(test)]
-mod tests;
 
 pub use bits::{and, not, or, xor};
 pub use choice::{choose, constant};

@@ -5,7 +5,7 @@ ghost use Rattle.pp_clause.specs.Literal.{lit_value};
 ghost use Rattle.std.specs.Int.{w32};
 ghost use Rattle.pp_gate.specs.Circuit.{IsOf, Gives, StandsFor};
 ghost use Rattle.pp_gate.specs.Growth.{AddsGates};
-ghost use Rattle.pp_wordgate.specs.Meaning.{word_of, StandsForWord};
+ghost use Rattle.pp_wordgate.specs.Meaning.{word_of};
 ghost use Rattle.pp_word.specs.Word.{word_less};
 
 use crate::NoMemory;

@@ -1,8 +1,8 @@
 //! Shifts, by the low five bits of the second word.
 
-ghost use Rattle.std.specs.Prelude.{◌≡◌, ℕ, Bool, ◌+◌, ◌^◌, ◌≤◌, All, length, IfOk};
+ghost use Rattle.std.specs.Prelude.{◌+◌, ◌^◌, ◌≤◌, All, length, IfOk};
 ghost use Rattle.std.specs.Int.{w32};
-ghost use Rattle.pp_gate.specs.Circuit.{IsOf, Gives, StandsFor};
+ghost use Rattle.pp_gate.specs.Circuit.{IsOf};
 ghost use Rattle.pp_gate.specs.Growth.{AddsGates};
 ghost use Rattle.pp_wordgate.specs.Meaning.{word_of, StandsForWord};
 ghost use Rattle.pp_word.specs.Word.{word_shl, word_shr, word_ushr};
@@ -29,8 +29,8 @@ pub fn shl(circuit: &mut Circuit, a: Word, b: Word) -> Result<Word, NoMemory>
     Ok(Word::from_lits(&digits))
 }
 
-/// The shift to the right, `>>`, by the low five bits of `b` (JLS 15.19): copies of the sign come in on the left. At most
-/// 512 gates.
+/// The shift to the right, `>>`, by the low five bits of `b` (JLS 15.19): copies of the sign come in on the left. At
+/// most 512 gates.
 ///
 /// On `NoMemory` the old gates stand, and some new ones may be left.
 pub fn shr(circuit: &mut Circuit, a: Word, b: Word) -> Result<Word, NoMemory>
@@ -46,8 +46,8 @@ pub fn shr(circuit: &mut Circuit, a: Word, b: Word) -> Result<Word, NoMemory>
     Ok(Word::from_lits(&digits))
 }
 
-/// The unsigned shift to the right, `>>>`, by the low five bits of `b` (JLS 15.19): zeros come in on the left. At most 512
-/// gates.
+/// The unsigned shift to the right, `>>>`, by the low five bits of `b` (JLS 15.19): zeros come in on the left. At
+/// most 512 gates.
 ///
 /// On `NoMemory` the old gates stand, and some new ones may be left.
 pub fn ushr(circuit: &mut Circuit, a: Word, b: Word) -> Result<Word, NoMemory>

@@ -17,8 +17,8 @@ pub struct Operand {
     pub known: bool,
 }
 
-/// The gates that a call adds, that it adds a second time, and that it adds then with its operands swapped, and the value of
-/// its answer.
+/// The gates that a call adds, that it adds a second time, and that it adds then with its operands swapped, and the
+/// value of its answer.
 #[derive(Clone, Copy)]
 pub struct Count {
     pub first: u32,

@@ -1,7 +1,7 @@
-//! Gates and values of the calls of `pp_wordgate`. Each line on standard input is a call and two numbers. The line that is
-//! printed for it has the line, the value that the answer stands for, and the gates that the call adds: over two words of
-//! fresh inputs, where the second is a constant, where the first is, and where both are; a second time; and then with
-//! swapped operands.
+//! Gates and values of the calls of `pp_wordgate`. Each line on standard input is a call and two numbers. The line that
+//! is printed for it has the line, the value that the answer stands for, and the gates that the call adds: over two
+//! words of fresh inputs, where the second is a constant, where the first is, and where both are; a second time; and
+//! then with swapped operands.
 #![tactic(auto)]
 
 mod call;

@@ -12,12 +12,14 @@ use lib.IntN.{ℤ, pos, negsuc, ◌+ℤ◌, ◌*ℤ◌}
 use mir.Val.{bits, hbits}
 
 -- the lowest k digits of a word, of this width or of a shorter one, are the distance at a width of 2^k bits
-pub distance_of_bits : (w v : Width) (k b d : ℕ) → 2 ^ k ≡ bits w → k ≤ bits v → bits v ≤ bits w → b < 2 ^ bits v → d ≡ b % bits w
+pub distance_of_bits : (w v : Width) (k b d : ℕ) → 2 ^ k ≡ bits w → k ≤ bits v → bits v ≤ bits w → b < 2 ^ bits v
+    → d ≡ b % bits w
     → shift_distance w (cast_signed v b) ≡ d
 unfolding shift_distance
 distance_of_bits w v k b d places some shorter p e = ⊎_elim
     (λ low. ap (λ z. cast_unsigned w z % bits w) (read_low v b low) ∙ sym e)
-    (λ high. ap (λ z. cast_unsigned w z % bits w) (read_high v b high) ∙ ap (λ u. u % bits w) read ∙ add-mul-mod_self_left b (bits w) more ∙ sym e)
+    (λ high. ap (λ z. cast_unsigned w z % bits w) (read_high v b high) ∙ ap (λ u. u % bits w) read
+    ∙ add-mul-mod_self_left b (bits w) more ∙ sym e)
     (cases_lt b (2 ^ hbits v))
   where
     more : ℕ
@@ -37,20 +39,25 @@ distance_of_bits w v k b d places some shorter p e = ⊎_elim
 
 taken : (n a p : ℕ) → a < n → negsuc (n - suc a) *ℤ pos p +ℤ pos (p * n) ≡ pos (a * p)
 taken n a p h =
-    let whole : a * p + suc (n - suc a) * p ≡ p * n = sym (add-mul a (suc (n - suc a)) p) ∙ ap (λ k. k * p) (omega arith) ∙ mul_comm n p in
+    let whole : a * p + suc (n - suc a) * p ≡ p * n =
+    sym (add-mul a (suc (n - suc a)) p) ∙ ap (λ k. k * p) (omega arith) ∙ mul_comm n p in
     omega (arith, ints, whole)
 
-wrap_times : (w : Width) (a p : ℕ) → a < 2 ^ bits w → int_wrap w (cast_signed w a *ℤ pos p) ≡ cast_signed w ((a * p) % 2 ^ bits w)
+wrap_times : (w : Width) (a p : ℕ) → a < 2 ^ bits w
+    → int_wrap w (cast_signed w a *ℤ pos p) ≡ cast_signed w ((a * p) % 2 ^ bits w)
 wrap_times w a p h = ⊎_elim
-    (λ low. ap (λ z. int_wrap w (z *ℤ pos p)) (read_low w a low) ∙ wrap_from w (pos a *ℤ pos p) 0 (a * p) (omega (arith, ints)))
-    (λ high. ap (λ z. int_wrap w (z *ℤ pos p)) (read_high w a high) ∙ wrap_from w (negsuc (2 ^ bits w - suc a) *ℤ pos p) p (a * p) (taken (2 ^ bits w) a p h))
+    (λ low. ap (λ z. int_wrap w (z *ℤ pos p)) (read_low w a low)
+    ∙ wrap_from w (pos a *ℤ pos p) 0 (a * p) (omega (arith, ints)))
+    (λ high. ap (λ z. int_wrap w (z *ℤ pos p)) (read_high w a high)
+    ∙ wrap_from w (negsuc (2 ^ bits w - suc a) *ℤ pos p) p (a * p) (taken (2 ^ bits w) a p h))
     (cases_lt a (2 ^ hbits w))
 
 pub left_of_bits : (w : Width) (a k r : ℕ) (z : ℤ) → a < 2 ^ bits w → shift_distance w z ≡ k
     → r ≡ (a * 2 ^ k) % 2 ^ bits w → cast_signed w r ≡ word_shl w (cast_signed w a) z
 unfolding word_shl
 left_of_bits w a k r z p d e =
-    ap (cast_signed w) e ∙ sym (wrap_times w a (2 ^ k) p) ∙ ap (λ j. int_wrap w (cast_signed w a *ℤ pos (2 ^ j))) (sym d)
+    ap (cast_signed w) e ∙ sym (wrap_times w a (2 ^ k) p)
+    ∙ ap (λ j. int_wrap w (cast_signed w a *ℤ pos (2 ^ j))) (sym d)
 
 pub unsigned_right_of_bits : (w : Width) (a k r : ℕ) (z : ℤ) → a < 2 ^ bits w → shift_distance w z ≡ k
     → r ≡ a / 2 ^ k → cast_signed w r ≡ word_ushr w (cast_signed w a) z

@@ -1,7 +1,8 @@
 -- The signed reading of bits: its sign, its magnitude, and when two are one.
-use Rattle.std.proofs.Common.{◌≡◌, ◌≢◌, ℕ, zero, suc, ◌-◌, ◌%◌, ◌^◌, ◌<◌, ◌≤◌, ⊎_elim, Bool, true, false, cond, leb, refl, sym, ap, ◌∙◌, arith}
+use Rattle.std.proofs.Common.{◌≡◌, ℕ, suc, ◌-◌, ◌%◌, ◌^◌, ◌<◌, ◌≤◌, ⊎_elim, Bool, true, false, cond, leb, sym, ap, ◌∙◌}
+use Rattle.std.proofs.Common.{arith}
 use Rattle.std.specs.Int.{Width, int_wrap, cast_signed, cast_unsigned}
-use Rattle.std.specs.Int.RustNames.{unsigned_abs, int_lt}
+use Rattle.std.specs.Int.RustNames.{unsigned_abs}
 use Rattle.std.proofs.Math.Nat.{mod-eq_of_lt}
 use Rattle.std.proofs.lemmas.Nat.{pow_pos}
 use Rattle.std.proofs.lemmas.Int.{ints, to_z_pos, of_z-to_z}
@@ -24,7 +25,8 @@ read_high w u h = ap (λ t. sel t (pos u) (negsuc (2 ^ bits w - suc u))) (le-ltb
 pub wrap_pos : (w : Width) (q : ℕ) → int_wrap w (pos q) ≡ cast_signed w (q % 2 ^ bits w)
 wrap_pos w q = wrap_from w (pos q) 0 q (omega (arith, ints))
 
-pub wrap_neg : (w : Width) (q : ℕ) → q ≤ 2 ^ bits w → int_wrap w (neg_ℤ (pos q)) ≡ cast_signed w ((2 ^ bits w - q) % 2 ^ bits w)
+pub wrap_neg : (w : Width) (q : ℕ) → q ≤ 2 ^ bits w
+    → int_wrap w (neg_ℤ (pos q)) ≡ cast_signed w ((2 ^ bits w - q) % 2 ^ bits w)
 wrap_neg w q h = wrap_from w (neg_ℤ (pos q)) 1 (2 ^ bits w - q) (omega (arith, ints))
 
 -- bits that are read as one word are one number
@@ -67,12 +69,3 @@ wrap_signed w true q h = sym (wrap_neg w q (omega arith))
 pub magnitude_below : (w : Width) (z : ℤ) → IsWord w z → unsigned_abs z < 2 ^ bits w
 magnitude_below w (pos n) h = omega (arith, ints, halves w)
 magnitude_below w (negsuc n) h = omega (arith, ints, halves w, pow_pos (hbits w))
-
-pub less_is_negative : (z : ℤ) → int_lt z (pos 0) ≡ is_negative z
-less_is_negative (pos n) = le-ltb n 0 (omega arith)
-less_is_negative (negsuc n) = refl
-
-pub magnitude_some : (z : ℤ) → z ≢ pos 0 → 0 < unsigned_abs z
-magnitude_some (pos zero) h = absurd (h refl)
-magnitude_some (pos (suc n)) h = omega arith
-magnitude_some (negsuc n) h = omega arith

@@ -15,7 +15,8 @@ pub sum_of_bits : (w : Width) (a b r : ℕ) → a < 2 ^ bits w → b < 2 ^ bits 
 unfolding word_add
 sum_of_bits w a b r p q e = ap (cast_signed w) e ∙ wrapping_add-bits w a b p q
 
-pub difference_of_bits : (w : Width) (a b r : ℕ) → a < 2 ^ bits w → b < 2 ^ bits w → r ≡ (a + (2 ^ bits w - b)) % 2 ^ bits w
+pub difference_of_bits : (w : Width) (a b r : ℕ) → a < 2 ^ bits w → b < 2 ^ bits w
+    → r ≡ (a + (2 ^ bits w - b)) % 2 ^ bits w
     → cast_signed w r ≡ word_sub w (cast_signed w a) (cast_signed w b)
 unfolding word_sub
 difference_of_bits w a b r p q e = ap (cast_signed w) e ∙ wrapping_sub-bits w a b p q
@@ -32,7 +33,8 @@ pub negative_of_bits : (w : Width) (a r : ℕ) → a < 2 ^ bits w → r ≡ (2 ^
     → cast_signed w r ≡ word_neg w (cast_signed w a)
 unfolding word_neg
 negative_of_bits w a r p e =
-    let zero_plus : (2 ^ bits w - a) % 2 ^ bits w ≡ (0 + (2 ^ bits w - a)) % 2 ^ bits w = ap (λ n. n % 2 ^ bits w) (omega arith) in
+    let zero_plus : (2 ^ bits w - a) % 2 ^ bits w ≡ (0 + (2 ^ bits w - a)) % 2 ^ bits w =
+    ap (λ n. n % 2 ^ bits w) (omega arith) in
     ap (cast_signed w) (e ∙ zero_plus)
     ∙ wrapping_sub-bits w 0 a (pow_pos (bits w)) p
     ∙ ap (λ z. int_wrap w (z -ℤ cast_signed w a)) (to_z_pos w 0 (pow_pos (hbits w)))
@@ -43,7 +45,8 @@ pub complement_of_bits : (w : Width) (a r : ℕ) → a < 2 ^ bits w → r + a + 
 unfolding word_not
 complement_of_bits w a r p e = ⊎_elim
     (λ low. read_high w r (omega (arith, halves w)) ∙ as_low low ∙ ap (λ z. neg_ℤ z -ℤ pos 1) (sym (read_low w a low)))
-    (λ high. read_low w r (omega (arith, halves w)) ∙ as_high high ∙ ap (λ z. neg_ℤ z -ℤ pos 1) (sym (read_high w a high)))
+    (λ high. read_low w r (omega (arith, halves w)) ∙ as_high high
+    ∙ ap (λ z. neg_ℤ z -ℤ pos 1) (sym (read_high w a high)))
     (cases_lt a (2 ^ hbits w))
   where
     as_low : a < 2 ^ hbits w → negsuc (2 ^ bits w - suc r) ≡ neg_ℤ (pos a) -ℤ pos 1

@@ -18,5 +18,6 @@ loop-i-preserved c =
     record {
       grown = AddsGates_more _ _ _ _ _ _ now.grown gate.adds (omega arith);
       digits = Digits_push _ _ _ _ _ _ _ now.digits gate.adds.grows gate.stands.of push;
-      value = λ s gives. bitwise_turn s _ _ _ _ _ _ _ _ _ c.loop-i-test.true (omega arith) c.index-a-i.is c.index-b-i.is now.digits.len push (gate.stands.value s gives) (now.value s (Gives_old _ _ _ gate.adds.grows s gives));
+      value = λ s gives. bitwise_turn s _ _ _ _ _ _ _ _ _ c.loop-i-test.true (omega arith) c.index-a-i.is c.index-b-i.is
+          now.digits.len push (gate.stands.value s gives) (now.value s (Gives_old _ _ _ gate.adds.grows s gives));
     }

@@ -3,7 +3,8 @@ use Rattle.pp_bits.proofs.Chosen.{number_none, number_turn}
 use Rattle.pp_bits.proofs.fresh.+number.Goals as goal
 
 pub returns-then-is_empty-clause-value : goal.returns-then-is_empty-clause-value
-returns-then-is_empty-clause-value t c = let empty : length c.args.digits.now ≡ 0 = search rules in number_none _ _ empty
+returns-then-is_empty-clause-value t c = let empty : length c.args.digits.now ≡ 0 = search rules in
+    number_none _ _ empty
 
 pub returns-else-is_empty-clause-value : goal.returns-else-is_empty-clause-value
 returns-else-is_empty-clause-value t c =

@@ -17,5 +17,6 @@ loop-i-preserved c =
     record {
       grown = AddsGates_more _ _ _ _ _ _ now.grown gate.adds (omega arith);
       of = gate.stands.of;
-      value = λ s gives. equal_turn s _ _ _ _ _ _ _ c.loop-i-test.true (omega arith) c.index-a-i.is c.index-b-i.is (gate.stands.value s gives) (now.value s (Gives_old _ _ _ gate.adds.grows s gives));
+      value = λ s gives. equal_turn s _ _ _ _ _ _ _ c.loop-i-test.true (omega arith) c.index-a-i.is c.index-b-i.is
+          (gate.stands.value s gives) (now.value s (Gives_old _ _ _ gate.adds.grows s gives));
     }

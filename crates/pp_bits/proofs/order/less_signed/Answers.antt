@@ -9,6 +9,7 @@ returns-clause-stands c =
     record {
       of = less.stands.of;
       value = λ s gives.
-          less_signed_turn s _ _ _ _ _ _ _ _ refl (sym c.requires.same) (omega arith) refl c.index-a-top.is c.index-b-top.is
+          less_signed_turn s _ _ _ _ _ _ _ _ refl (sym c.requires.same) (omega arith) refl c.index-a-top.is
+          c.index-b-top.is
           (c.in_ok-lower.ensures.stands.value s (Gives_before _ _ 1 less.adds s gives)) (less.stands.value s gives);
     }

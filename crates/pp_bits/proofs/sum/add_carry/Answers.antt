@@ -20,5 +20,6 @@ loop-i-preserved c =
       grown = AddsGates_more _ _ _ _ _ _ now.grown add.adds (omega arith);
       digits = Digits_push _ _ _ _ _ _ _ now.digits add.adds.grows add.sum_of push;
       next_of = add.carry_of;
-      value = λ s gives. add_turn s _ _ _ _ _ _ _ _ _ _ _ c.loop-i-test.true (omega arith) c.index-a-i.is c.index-b-i.is now.digits.len push (add.value s gives) (now.value s (Gives_old _ _ _ add.adds.grows s gives));
+      value = λ s gives. add_turn s _ _ _ _ _ _ _ _ _ _ _ c.loop-i-test.true (omega arith) c.index-a-i.is c.index-b-i.is
+          now.digits.len push (add.value s gives) (now.value s (Gives_old _ _ _ add.adds.grows s gives));
     }

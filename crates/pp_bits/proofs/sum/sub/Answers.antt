@@ -14,7 +14,8 @@ returns-clause-stands c =
       value = λ s gives.
           let before = Gives_before _ _ _ sum.adds s gives in
           let one = ap bit (c.truth-one.ensures.stands.value s before) in
-          let inverted = ap (nat_of s) c.deref.ensures.value ∙ c.in_ok-inverted.ensures.stands.value s before ∙ ap (λ k. 2 ^ k - 1 - nat_of s c.args.b.now) (sym c.requires.same) in
+          let inverted = ap (nat_of s) c.deref.ensures.value ∙ c.in_ok-inverted.ensures.stands.value s before
+          ∙ ap (λ k. 2 ^ k - 1 - nat_of s c.args.b.now) (sym c.requires.same) in
           sum.stands.value s gives ∙ difference_value _ _ _ _ _ (nat_of_within s _ _ (sym c.requires.same)) inverted
           one;
     }

@@ -10,6 +10,7 @@ returns-clause-value c = λ s gives.
     let sum = c.in_ok-difference.ensures in
     let before = Gives_before _ _ _ sum.adds s gives in
     let one = ap bit (c.truth-one.ensures.stands.value s before) in
-    let inverted = ap (nat_of s) c.deref.ensures.value ∙ c.in_ok-inverted.ensures.stands.value s before ∙ ap (λ k. 2 ^ k - 1 - nat_of s c.args.b.now) (sym c.requires.same) in
+    let inverted = ap (nat_of s) c.deref.ensures.value ∙ c.in_ok-inverted.ensures.stands.value s before
+    ∙ ap (λ k. 2 ^ k - 1 - nat_of s c.args.b.now) (sym c.requires.same) in
     difference_turn s _ _ _ _ _ _ _ _ one c.negated-borrow.ensures (nat_of_within s _ _ (sym c.requires.same)) inverted
     (sum.value s gives)

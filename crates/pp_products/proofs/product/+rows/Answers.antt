@@ -4,10 +4,14 @@ use Rattle.pp_products.proofs.Products.{mul_budget_at, mul_turn}
 use Rattle.pp_products.proofs.product.+rows.Goals as goal
 
 pub returns-in_err-all-clause-adds : goal.returns-in_err-all-clause-adds
-returns-in_err-all-clause-adds t c = growing.AddsGates_more _ _ _ _ _ _ c.in_ok-rest.ensures.adds c.in_err-all.ensures.adds (omega (arith, mul_budget_at c.args.a.now (search rules)))
+returns-in_err-all-clause-adds t c =
+    growing.AddsGates_more _ _ _ _ _ _ c.in_ok-rest.ensures.adds c.in_err-all.ensures.adds
+    (omega (arith, mul_budget_at c.args.a.now (search rules)))
 
 pub returns-in_ok-all-clause-adds : goal.returns-in_ok-all-clause-adds
-returns-in_ok-all-clause-adds t c = growing.AddsGates_more _ _ _ _ _ _ c.in_ok-rest.ensures.adds c.in_ok-all.ensures.adds (omega (arith, mul_budget_at c.args.a.now (search rules)))
+returns-in_ok-all-clause-adds t c =
+    growing.AddsGates_more _ _ _ _ _ _ c.in_ok-rest.ensures.adds c.in_ok-all.ensures.adds
+    (omega (arith, mul_budget_at c.args.a.now (search rules)))
 
 pub returns-in_ok-all-clause-stands : goal.returns-in_ok-all-clause-stands
 returns-in_ok-all-clause-stands t c =

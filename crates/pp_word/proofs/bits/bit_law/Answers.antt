@@ -1,5 +1,6 @@
 use Rattle.pp_word.specs.Word.{word_and, word_or, word_xor, word_not}
-use Rattle.pp_word.proofs.Digits.{each_and, each_or, each_xor, each_not, and_fits, or_fits, xor_fits, not_fits, same_from_bits}
+use Rattle.pp_word.proofs.Digits.{each_and, each_or, each_xor, each_not, and_fits, or_fits, xor_fits, not_fits}
+use Rattle.pp_word.proofs.Digits.{same_from_bits}
 use Rattle.pp_word.proofs.bits.bit_law.Goals as goal
 
 pub returns-clause-each_and : goal.returns-clause-each_and

@@ -3,7 +3,8 @@ use Rattle.std.proofs.Common.{sym, subst}
 use Rattle.std.proofs.lemmas.Int.{int_wrap_fits}
 use Rattle.pp_word.specs.Word.{word_div, word_rem}
 use Rattle.pp_word.specs.Division.{IsQuotient}
-use Rattle.pp_word.proofs.Quotients.{IsQuotient-int_div, IsRemainder-int_rem, fits_quotient, fits_remainder, least_quotient, least_remainder, same_quotient, same_remainder}
+use Rattle.pp_word.proofs.Quotients.{IsQuotient-int_div, IsRemainder-int_rem, fits_quotient, fits_remainder}
+use Rattle.pp_word.proofs.Quotients.{least_quotient, least_remainder, same_quotient, same_remainder}
 use Rattle.pp_word.proofs.Wraps.{WrapsTo-int_wrap}
 use Rattle.pp_word.proofs.division.division_law.Goals as goal
 
@@ -29,7 +30,9 @@ returns-clause-least_leaves c = least_remainder
 
 pub returns-clause-exact : goal.returns-clause-exact
 unfolding word_div
-returns-clause-exact c = λ w n d h f s. subst (IsQuotient n d) (sym (int_wrap_fits w (int_div n d) (fits_quotient w n d f s))) (IsQuotient-int_div n d h)
+returns-clause-exact c =
+    λ w n d h f s. subst (IsQuotient n d) (sym (int_wrap_fits w (int_div n d) (fits_quotient w n d f s)))
+    (IsQuotient-int_div n d h)
 
 pub returns-clause-only_quotient : goal.returns-clause-only_quotient
 returns-clause-only_quotient c = same_quotient

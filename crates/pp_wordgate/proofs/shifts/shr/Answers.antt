@@ -11,5 +11,6 @@ returns-clause-stands c =
       of = digits.of;
       value = λ s gives.
           right_word w32 s _ _ _ _ _ c.lits-2.ensures.value c.lits-2.ensures.len
-          (distance_word w32 w32 s 5 c.args.b _ _ refl (omega arith) (omega arith) c.lits.ensures.value c.lits.ensures.len refl) digits.len (digits.value s gives);
+          (distance_word w32 w32 s 5 c.args.b _ _ refl (omega arith) (omega arith) c.lits.ensures.value
+          c.lits.ensures.len refl) digits.len (digits.value s gives);
     })

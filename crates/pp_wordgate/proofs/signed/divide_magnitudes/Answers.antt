@@ -14,7 +14,9 @@ returns-clause-value c =
     λ s gives some.
     let before = Gives_before _ _ _ parts.adds s gives in
     let n : nat_of s c.deref.result.now ≡ magnitude_of (length a) (nat_of s a) =
-    ap (nat_of s) c.deref.ensures.value ∙ c.in_ok-dividend.ensures.stands.value s (Gives_before _ _ _ divisor.adds s before) in
+    ap (nat_of s) c.deref.ensures.value
+    ∙ c.in_ok-dividend.ensures.stands.value s (Gives_before _ _ _ divisor.adds s before) in
     let d : nat_of s c.deref-2.result.now ≡ magnitude_of (length a) (nat_of s b) =
-    ap (nat_of s) c.deref-2.ensures.value ∙ divisor.stands.value s before ∙ ap (λ k. magnitude_of k (nat_of s b)) (sym c.requires.same) in
+    ap (nat_of s) c.deref-2.ensures.value ∙ divisor.stands.value s before
+    ∙ ap (λ k. magnitude_of k (nat_of s b)) (sym c.requires.same) in
     Divides_same _ _ _ _ _ _ n d (parts.value s gives (divisor_some s b (length a) _ c.requires.same d some))

@@ -15,7 +15,8 @@ pub loop-done-init : goal.loop-done-init
 loop-done-init c = cone_start _ _ _ _ (omega arith) (subst (Marks _ _) (take_all _ _ (omega arith)) c.loop-i.invariant)
 
 pub mark_through-requires-clause-fits : goal.mark_through-requires-clause-fits
-mark_through-requires-clause-fits c = gate_fits _ _ _ c.as_slice-gates.ensures.circuit (omega arith) c.index-gates-place.is
+mark_through-requires-clause-fits c =
+    gate_fits _ _ _ c.as_slice-gates.ensures.circuit (omega arith) c.index-gates-place.is
 
 pub loop-done-preserved : goal.loop-done-preserved
 loop-done-preserved c =
