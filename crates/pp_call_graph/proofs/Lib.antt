@@ -1,4 +1,4 @@
-pub mod Forms
+pub mod Conditions
 pub mod Numberless
 pub mod Translated
 pub mod Table

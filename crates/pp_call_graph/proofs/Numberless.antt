@@ -1,12 +1,16 @@
 -- The numbers of checks don't change what is called.
 use Rattle.std.proofs.Common.{◌≡◌, ℕ, List, [], ◌∷◌, ◌++◌, map, Option, Some, None, refl, sym, ap, ◌∙◌, subst}
 use Rattle.std.specs.Option.{option_map}
-use Rattle.pp_call_graph.proofs.Forms.{both_parts, calls_of_int, calls_of_bool, calls_of_var, calls_of_unary, calls_of_binary, calls_of_construct, calls_of_field, calls_of_if}
-use Rattle.pp_prog.proofs.Called.{calls_of_match, calls_of_val, calls_of_assert, calls_of_call, calls_of_case}
-use Rattle.pp_prog.specs.Calls.{call_table, calls, calls_in_case, calls_step, case_calls, function_calls, joined, post_calls, pre_calls}
+use Rattle.pp_call_graph.proofs.Conditions.{both_parts}
+use Rattle.pp_prog.proofs.CallForms.{calls_of_int, calls_of_bool, calls_of_var, calls_of_unary, calls_of_binary}
+use Rattle.pp_prog.proofs.CallForms.{calls_of_construct, calls_of_field, calls_of_if}
+use Rattle.pp_prog.proofs.CallForms.{calls_of_match, calls_of_val, calls_of_assert, calls_of_call, calls_of_case}
+use Rattle.pp_prog.specs.Calls.{call_table, calls, calls_in_case, calls_step, case_calls, function_calls, joined}
+use Rattle.pp_prog.specs.Calls.{post_calls, pre_calls}
 use Rattle.pp_prog.specs.declared.expr.Case.{Case}
 use Rattle.pp_prog.specs.declared.expr.Expr.{Expr}
-use Rattle.pp_prog.specs.declared.expr.Expr.TheFolds.{fold-Case, fold-roll-Case, fold-roll-Expr, ind-Expr, map-Case, map-Expr}
+use Rattle.pp_prog.specs.declared.expr.Expr.TheFolds.{fold-Case, fold-roll-Case, fold-roll-Expr, ind-Expr, map-Case}
+use Rattle.pp_prog.specs.declared.expr.Expr.TheFolds.{map-Expr}
 use Rattle.pp_prog.specs.declared.expr.Expr.TheOpen as layer
 use Rattle.pp_prog.specs.declared.expr.Expr.TheViews.{roll-Case, roll-Expr}
 use Rattle.pp_prog.specs.declared.expr.Function.{Function}

@@ -1,8 +1,9 @@
 -- The call graph of the functions of a program, from the typed functions.
-use Rattle.std.proofs.Common.{◌≡◌, ℕ, ◌+◌, ◌<◌, ◌≤◌, List, [], ◌∷◌, ◌++◌, take, length, get_or, Option, Some, None, refl, sym, ap, ◌∙◌, subst, arith, append_assoc, length-append}
+use Rattle.std.proofs.Common.{◌≡◌, ℕ, ◌+◌, ◌<◌, ◌≤◌, List, [], ◌∷◌, ◌++◌, take, length, get_or, Option, Some, None}
+use Rattle.std.proofs.Common.{refl, sym, ap, ◌∙◌, subst, arith, append_assoc, length-append}
 use Rattle.std.proofs.lemmas.List.{append-nil, take_more}
 use Rattle.std.specs.Prelude.{slice_get}
-use Rattle.pp_call_graph.proofs.Forms.{both_parts, calls_of_one}
+use Rattle.pp_call_graph.proofs.Conditions.{both_parts, calls_of_one}
 use Rattle.pp_call_graph.proofs.Numberless.{table_of_bare}
 use Rattle.pp_call_graph.proofs.Translated.{calls_of_translation, calls_of_translations}
 use Rattle.pp_call_graph.specs.Groups.{AreGroupsOf}

@@ -1,21 +1,26 @@
 -- What a typed expression calls is what the expression of the program calls that it is.
 use Rattle.std.proofs.Common.{◌≡◌, ℕ, List, [], ◌∷◌, ◌++◌, map, Option, Some, None, refl, sym, ap, ◌∙◌, subst}
-use Rattle.pp_call_graph.proofs.Forms.{both_parts, calls_of_int, calls_of_bool, calls_of_var, calls_of_unary, calls_of_binary, calls_of_construct, calls_of_field, calls_of_if}
+use Rattle.pp_call_graph.proofs.Conditions.{both_parts}
+use Rattle.pp_prog.proofs.CallForms.{calls_of_int, calls_of_bool, calls_of_var, calls_of_unary, calls_of_binary}
+use Rattle.pp_prog.proofs.CallForms.{calls_of_construct, calls_of_field, calls_of_if}
 use Rattle.pp_call_graph.specs.TypedCalls as typed_side
 use Rattle.pp_call_graph.specs.TypedCalls.{case_calls, kind_calls, typed_calls}
 use Rattle.pp_instances.specs.declared.member.Member.{Member}
-use Rattle.pp_prog.proofs.Called.{calls_of_match, calls_of_val, calls_of_assert, calls_of_call, calls_of_case}
+use Rattle.pp_prog.proofs.CallForms.{calls_of_match, calls_of_val, calls_of_assert, calls_of_call, calls_of_case}
 use Rattle.pp_prog.specs.Calls.{calls, calls_in_case, joined}
 use Rattle.pp_prog.specs.declared.expr.Case.{Case}
 use Rattle.pp_prog.specs.declared.expr.Expr.{Expr}
-use Rattle.pp_translation.specs.Exprs.{CaseAt, Translated, binary_op, case_for, case_step, expr_at, expr_of, expr_step, kind_step, translated, unary_op, unnumbered}
+use Rattle.pp_translation.specs.Exprs.{CaseAt, Translated, binary_op, case_for, case_step, expr_at, expr_of, expr_step}
+use Rattle.pp_translation.specs.Exprs.{kind_step, translated, unary_op, unnumbered}
 use Rattle.pp_translation.specs.Numbers.{ctor_number, function_number}
 use Rattle.pp_translation.specs.Patterns.{pattern_at}
 use Rattle.pp_typed.specs.Put.{put}
 use Rattle.pp_typed.specs.declared.expr.TypedCase.{TypedCase}
 use Rattle.pp_typed.specs.declared.expr.TypedExpr.{TypedExpr}
 use Rattle.pp_typed.specs.declared.expr.TypedKind.{TypedKind}
-use Rattle.pp_typed.specs.declared.expr.TypedKind.TheFolds.{fold-TypedCase, fold-TypedKind, fold-roll-TypedCase, fold-roll-TypedExpr, fold-roll-TypedKind, ind-TypedExpr, map-TypedCase, map-TypedExpr, map-TypedKind}
+use Rattle.pp_typed.specs.declared.expr.TypedKind.TheFolds.{fold-TypedCase, fold-TypedKind, fold-roll-TypedCase}
+use Rattle.pp_typed.specs.declared.expr.TypedKind.TheFolds.{fold-roll-TypedExpr, fold-roll-TypedKind, ind-TypedExpr}
+use Rattle.pp_typed.specs.declared.expr.TypedKind.TheFolds.{map-TypedCase, map-TypedExpr, map-TypedKind}
 use Rattle.pp_typed.specs.declared.expr.TypedKind.TheOpen as layer
 use Rattle.pp_typed.specs.declared.expr.TypedKind.TheViews.{roll-TypedCase, roll-TypedExpr, roll-TypedKind}
 use Rattle.pp_typed.specs.declared.pattern.TypedPattern.{TypedPattern}

@@ -3,7 +3,7 @@ use Rattle.std.proofs.Common.{◌≡◌, ℕ, zero, suc, List, [], ◌∷◌, �
 use Rattle.std.proofs.Common.{subst, arith, ⊎_elim}
 use Rattle.std.specs.Prelude.{slice_get}
 use Rattle.std.proofs.lemmas.List.Elements.{Contains-append_cases}
-use Rattle.std.proofs.lemmas.Option.{slice_get-get_or}
+use Rattle.std.proofs.lemmas.Option.{same_Some, slice_get-get_or}
 use Rattle.pp_check_places.proofs.Chosen.{Differ}
 use Rattle.pp_check_places.proofs.Marked.{KindAt, all_at, at_offset, kinds_at, mark_kinds}
 use Rattle.pp_instances.proofs.Kept.{nothing_in}
@@ -13,7 +13,6 @@ use Rattle.pp_prog.specs.declared.check.CheckKind.{CheckKind}
 use Rattle.pp_prog.specs.declared.check.CheckKind.TheVariants as kind
 use Rattle.pp_typed.specs.Apart.{Mark, SiteKind, a_call, a_division, a_match, an_assertion}
 use Rattle.pp_typed.specs.Stand.{Offset}
-use Rattle.pp_validity.proofs.Placed.{some_same}
 
 -- a list in which an element's place is its only one
 pub differ_from : {X : Type 0} (xs : List X)
@@ -33,9 +32,9 @@ pub one_place : {X : Type 0} (xs : List X) (i j : ℕ) (x : X) → Differ xs →
 one_place [] i j x differ there here = (let never : None ≡ Some x = there in cc)
 one_place (y ∷ xs) zero zero x differ there here = refl
 one_place (y ∷ xs) zero (suc j) x differ there here =
-    absurd (differ.0 (subst (Contains xs) (sym (some_same there)) (at_place xs j x here)))
+    absurd (differ.0 (subst (Contains xs) (sym (same_Some _ _ there)) (at_place xs j x here)))
 one_place (y ∷ xs) (suc i) zero x differ there here =
-    absurd (differ.0 (subst (Contains xs) (sym (some_same here)) (at_place xs i x there)))
+    absurd (differ.0 (subst (Contains xs) (sym (same_Some _ _ here)) (at_place xs i x there)))
 one_place (y ∷ xs) (suc i) (suc j) x differ there here = ap suc (one_place xs i j x differ.1 there here)
 
 pub two_differ : {X : Type 0} (a b : List X) → Differ a → Differ b

@@ -23,7 +23,7 @@ use Rattle.pp_prog.specs.declared.id.CheckId.{CheckId}
 use Rattle.pp_prog.specs.declared.program.Program.{Program}
 use Rattle.pp_prog.specs.declared.sort.Sort.{Sort}
 use Rattle.pp_prog.specs.declared.sort.Sort.TheVariants as sort
-use Rattle.pp_sound.proofs.Sorting.{has_the_sort_is}
+use Rattle.pp_prog.proofs.PartSorts.{has_the_sort_is, some_sort}
 use Rattle.pp_translation.specs.Bare.{bare, bare_function, bare_post}
 use Rattle.pp_translation.specs.Exprs.{expr_at}
 use Rattle.pp_translation.specs.Functions.{and_all, as_one, function_of, post_at}
@@ -41,10 +41,6 @@ own_kinds None = []
 own_kinds (Some post) = kinds post.1 ++ check.Postcondition ∷ []
 
 -- ---- the sites
-
-some_sort : (o : Option Sort) → is_some o ≡ true → (s : Sort) × (o ≡ Some s)
-some_sort None h = cc
-some_sort (Some s) h = (s, refl)
 
 module _ (p : Program) where
   pre_has : (pre : Option Expr) (scope : List Sort) → is_sorted_pre p.types p.functions pre scope ≡ true

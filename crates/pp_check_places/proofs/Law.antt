@@ -3,7 +3,7 @@ use Rattle.std.proofs.Common.{◌≡◌, ◌<◌, ◌≤◌, ◌-◌, ℕ, suc, 
 use Rattle.std.proofs.Common.{IsUtf8, refl, sym, ap, ◌∙◌, subst, arith, inl, inr}
 use Rattle.std.specs.Prelude.{slice_get}
 use Rattle.std.proofs.lemmas.List.Elements.{All-contains}
-use Rattle.std.proofs.lemmas.Option.{slice_get-get_or, slice_get-map}
+use Rattle.std.proofs.lemmas.Option.{same_Some, slice_get-get_or, slice_get-map}
 use Rattle.pp_check_places.proofs.Apart.{one_place}
 use Rattle.pp_check_places.proofs.Offsets.{place_tells_offset}
 use Rattle.pp_check_places.proofs.Rows.{AreRows, Kind, Rises, Row, entry_kind, placed, row_kind, rows_of}
@@ -25,7 +25,6 @@ use Rattle.pp_translation.specs.Functions.{place_at, place_in_text}
 use Rattle.pp_typed.specs.Apart.{AreApart}
 use Rattle.pp_typed.specs.Stand.{Offset, Stands, TypedStands}
 use Rattle.pp_typed.specs.declared.typed.Typed.{Typed}
-use Rattle.pp_validity.proofs.Placed.{some_same}
 
 -- ---- places tell offsets
 
@@ -46,7 +45,7 @@ same_offset texts o q utf8 s t same =
     let places = sym (place_is texts o s) ∙ same ∙ place_is texts q t in
     let sources : o.0 ≡ q.0 = ap source_of places in
     let text : s.text ≡ t.text =
-    some_same (sym s.of_source ∙ ap (λ n. slice_get texts (n - 1)) sources ∙ t.of_source) in
+    same_Some _ _ (sym s.of_source ∙ ap (λ n. slice_get texts (n - 1)) sources ∙ t.of_source) in
     let spots : place_of s.text o.1 ≡ place_of s.text q.1 = ap spot_of places ∙ ap (λ l. place_of l q.1) (sym text) in
     let at : o.1 ≡ q.1 =
     place_tells_offset s.text o.1 q.1
@@ -91,7 +90,7 @@ module _ (typed : Typed) (texts : List (List ℕ)) (p : Program) (roots function
       sym (slice_get-map (placed typed texts p roots functions) rows i
       ∙ ap (option_map (placed typed texts p roots functions)) r.1)
       ∙ ap (λ l. slice_get l i) places ∙ slice_get-map place_of_check p.checks i ∙ ap (option_map place_of_check) at in
-      record { row = r.0; there = r.1; kind = r.2; place = some_same place_there }
+      record { row = r.0; there = r.1; kind = r.2; place = same_Some _ _ place_there }
 
 -- ---- the rows of a program
 

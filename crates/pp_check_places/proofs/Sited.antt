@@ -5,9 +5,8 @@ use Rattle.std.specs.Prelude.{slice_get}
 use Rattle.pp_check_places.proofs.SiteKinds.{Kinds, case_kinds, kinds, kinds_step, case_kinds_step, operator_kinds}
 use Rattle.pp_check_places.proofs.SiteKinds.{site_kind, site_kinds, rolled, rolled_case}
 use Rattle.pp_prog.specs.Calls.{joined}
-use Rattle.pp_prog.specs.ExprSorts.{Sorting, a_bool, alike, an_int, arm_with, arms_sort, binary_sort, bits_sort}
-use Rattle.pp_prog.specs.ExprSorts.{equality_sort, field_sort, number_sort, order_sort, sort_of, sort_step, sorts_in}
-use Rattle.pp_prog.specs.ExprSorts.{truth_sort, unary_sort}
+use Rattle.pp_prog.specs.ExprSorts.{Sorting, alike, arm_with, arms_sort}
+use Rattle.pp_prog.specs.ExprSorts.{field_sort, sort_of, sort_step, sorts_in}
 use Rattle.pp_prog.specs.ExprSorts as sorts
 use Rattle.pp_prog.specs.Listing.{CaseSites, Site, Sites, assertion, precondition, measure, at_sort, case_sites}
 use Rattle.pp_prog.specs.Listing.{guard_sites, matching, operator_site, site_step, sites, sites_of_all, sites_of_cases}
@@ -26,68 +25,14 @@ use Rattle.pp_prog.specs.declared.expr.Expr.TheFolds.{map-Expr, para-Case, para-
 use Rattle.pp_prog.specs.declared.expr.Expr.TheOpen as layer
 use Rattle.pp_prog.specs.declared.expr.Expr.TheViews.{roll-Case, roll-Expr}
 use Rattle.pp_prog.specs.declared.expr.Pattern.{Pattern}
-use Rattle.pp_prog.specs.declared.expr.UnaryOp.{UnaryOp}
-use Rattle.pp_prog.specs.declared.expr.UnaryOp.TheVariants.{Neg, Not, Flip}
 use Rattle.pp_prog.specs.declared.id.CheckId.{CheckId}
 use Rattle.pp_prog.specs.declared.program.Program.{Program}
 use Rattle.pp_prog.specs.declared.sort.Sort.{Sort}
 use Rattle.pp_prog.specs.declared.sort.Sort.TheVariants as sort
 use Rattle.pp_sound.proofs.Cases.{EachArm, each_arm}
-use Rattle.pp_sound.proofs.Sorting.{alike_are, bool_then, call_sort_is, int_then, sort_then, tree_sort_is, tree_then}
+use Rattle.pp_prog.proofs.PartSorts.{alike_are, bool_then, call_sort_is, sort_then, tree_sort_is}
+use Rattle.pp_prog.proofs.PartSorts.{binary_parts, tree_then, unary_part}
 use Rattle.pp_validity.proofs.Listed.{joined_append}
-
--- ---- operands of a sorted operation have sorts
-
-abbrev HasSort : Option Sort → Type 0
-HasSort o = (s : Sort) × (o ≡ Some s)
-
-unary_has : (op : UnaryOp) (a : Option Sort) (s : Sort) → unary_sort op a ≡ Some s → HasSort a
-unary_has Neg a s h = (sort.Int, (int_then a (Some sort.Int) s h).0)
-unary_has Not a s h = (sort.Bool, (bool_then a (Some sort.Bool) s h).0)
-unary_has Flip a s h = (sort.Int, (int_then a (Some sort.Int) s h).0)
-
-ints_have : (a b go : Option Sort) (s : Sort) → an_int a (an_int b go) ≡ Some s → HasSort a × HasSort b
-ints_have a b go s h =
-    let one = int_then a (an_int b go) s h in
-    ((sort.Int, one.0), (sort.Int, (int_then b go s one.1).0))
-
-truths_have : (a b go : Option Sort) (s : Sort) → a_bool a (a_bool b go) ≡ Some s → HasSort a × HasSort b
-truths_have a b go s h =
-    let one = bool_then a (a_bool b go) s h in
-    ((sort.Bool, one.0), (sort.Bool, (bool_then b go s one.1).0))
-
-equals_have : (a b : Option Sort) (s : Sort) → equality_sort a b ≡ Some s → HasSort a × HasSort b
-equals_have a b s h =
-    let one = sort_then (alike a b) (λ t. Some sort.Bool) s h in
-    let both = alike_are a b one.0 one.1 in
-    ((one.0, both.0), (one.0, both.1))
-
-bits_have : (a b : Option Sort) (s : Sort) → bits_sort a b ≡ Some s → HasSort a × HasSort b
-bits_have (Some sort.Int) b s h = ((sort.Int, refl), (sort.Int, (int_then b (Some sort.Int) s h).0))
-bits_have (Some sort.Bool) b s h = ((sort.Bool, refl), (sort.Bool, (bool_then b (Some sort.Bool) s h).0))
-bits_have (Some (sort.Tree d)) b s h = cc
-bits_have None b s h = cc
-
-binary_have : (op : BinaryOp) (a b : Option Sort) (s : Sort) → binary_sort op a b ≡ Some s → HasSort a × HasSort b
-binary_have Add a b s h = ints_have a b (Some sort.Int) s h
-binary_have Sub a b s h = ints_have a b (Some sort.Int) s h
-binary_have Mul a b s h = ints_have a b (Some sort.Int) s h
-binary_have Div a b s h = ints_have a b (Some sort.Int) s h
-binary_have Rem a b s h = ints_have a b (Some sort.Int) s h
-binary_have Equal a b s h = equals_have a b s h
-binary_have Differ a b s h = equals_have a b s h
-binary_have Less a b s h = ints_have a b (Some sort.Bool) s h
-binary_have AtMost a b s h = ints_have a b (Some sort.Bool) s h
-binary_have More a b s h = ints_have a b (Some sort.Bool) s h
-binary_have AtLeast a b s h = ints_have a b (Some sort.Bool) s h
-binary_have AndAlso a b s h = truths_have a b (Some sort.Bool) s h
-binary_have OrElse a b s h = truths_have a b (Some sort.Bool) s h
-binary_have And a b s h = bits_have a b s h
-binary_have Or a b s h = bits_have a b s h
-binary_have Xor a b s h = bits_have a b s h
-binary_have Shl a b s h = ints_have a b (Some sort.Int) s h
-binary_have Shr a b s h = ints_have a b (Some sort.Int) s h
-binary_have Ushr a b s h = ints_have a b (Some sort.Int) s h
 
 -- ---- kinds of sites
 
@@ -205,9 +150,9 @@ module _ (p : Program) where
   level (layer.Int n) scope s h = none_has
   level (layer.Bool b) scope s h = none_has
   level (layer.Var k) scope s h = none_has
-  level (layer.Unary op a) scope s h = let t = unary_has op (Sorted a.0 scope) s h in a.1 scope t.0 t.1
+  level (layer.Unary op a) scope s h = let t = unary_part op (Sorted a.0 scope) s h in a.1 scope t.0 t.1
   level (layer.Binary op a b check) scope s h =
-      let t = binary_have op (Sorted a.0 scope) (Sorted b.0 scope) s h in
+      let t = binary_parts op (Sorted a.0 scope) (Sorted b.0 scope) s h in
       two (two (a.1 scope t.0.0 t.0.1) (b.1 scope t.1.0 t.1.1)) (operator_has op check)
   level (layer.Construct c args) scope s h =
       let k = tree_sort_is (slice_get p.types.ctors c.0) (sorts_in scope (map Sorted (exprs args))) s h in

@@ -3,10 +3,10 @@ use Rattle.std.proofs.Common.{◌≡◌, ℕ, ◌+◌, ◌-◌, ◌<◌, nat_le,
 use Rattle.std.proofs.Common.{subst, arith, eq-eqb}
 use Rattle.std.specs.Prelude.{Option, Some, slice_get, IsTrue}
 use Rattle.std.specs.List.{list_all}
-use Rattle.std.proofs.lemmas.Bool.{leb-true, le-leb, ltb-true, lt-ltb}
+use Rattle.std.proofs.lemmas.Bool.{and_from, and_parts, le-leb, leb-true, lt-ltb, ltb-true}
 use Rattle.std.proofs.lemmas.List.{length-map}
-use Rattle.std.proofs.lemmas.Option.{slice_get_within}
-use Rattle.pp_concrete_types.proofs.Lists.{all_mapped, both, contained, item_at, unmapped}
+use Rattle.std.proofs.lemmas.Option.{same_Some, slice_get_within}
+use Rattle.pp_concrete_types.proofs.Lists.{all_mapped, contained, item_at, unmapped}
 use Rattle.pp_concrete_types.proofs.Places.{ctor_behind, ctor_of, datatype_at, length_datatypes, root_stands}
 use Rattle.pp_concrete_types.proofs.Rooms.{own_ctor}
 use Rattle.pp_concrete_types.proofs.Types.{field_types, sort_is}
@@ -23,11 +23,11 @@ use Rattle.pp_typed.specs.Put.{put}
 use Rattle.pp_typed.specs.Sorted.{ctors_of}
 use Rattle.pp_typed.specs.declared.typed.Typed.{Typed}
 use Rattle.pp_typed.specs.declared.typed.TypedCtor.{TypedCtor}
-use Rattle.pp_validity.proofs.Placed.{datatype, some_same}
-use Rattle.pp_prog.proofs.Boolean.{both_true}
+use Rattle.pp_validity.proofs.Placed.{datatype}
 
 stands_within : (first count j c : ℕ) → c ≡ first + j → j < count → nat_le first c && nat_lt c (first + count) ≡ true
-stands_within first count j c e lt = both _ _ (le-leb first c (omega arith)) (lt-ltb c (first + count) (omega arith))
+stands_within first count j c e lt =
+    and_from _ _ (le-leb first c (omega arith)) (lt-ltb c (first + count) (omega arith))
 
 module _ (typed : Typed) (ris : List Instance) (are : AreDatatypes typed (map (stands_for Root) ris)) where
   abbrev roots : List Member
@@ -79,7 +79,7 @@ module _ (typed : Typed) (ris : List Instance) (are : AreDatatypes typed (map (s
       let all = typed.ctors in
       let first = first_of all roots d in
       let count = length (ctors_of all i.number) in
-      let parts = both_true (nat_le first c) (nat_lt c (first + count)) h in
+      let parts = and_parts (nat_le first c) (nat_lt c (first + count)) h in
       let low = leb-true first c parts.0 in
       let high = ltb-true c (first + count) parts.1 in
       let k = item_at (ctors_of all i.number) (c - first) (omega arith) in
@@ -93,7 +93,7 @@ module _ (typed : Typed) (ris : List Instance) (are : AreDatatypes typed (map (s
       let lt = slice_get_within own_datatypes d t h in
       let i = item_at ris d (subst (λ n. d < n) (length_datatypes typed ris) lt) in
       let is : t ≡ datatype typed.ctors (first_of typed.ctors roots d) i.0 =
-      some_same (sym h ∙ datatype_at typed ris d i.0 i.1) in
+      same_Some _ _ (sym h ∙ datatype_at typed ris d i.0 i.1) in
       own_block d i.0 c i.1 (subst (λ (z : Datatype). IsTrue (in_block z c)) is inside)
 
   ctor_fields : (c : ℕ) (k : Ctor) → ComesFrom c k → IsTrue (list_all (is_sort own_datatypes) k.fields)

@@ -3,7 +3,7 @@ use Rattle.std.proofs.Common.{◌≡◌, ℕ, zero, suc, ◌+◌, List, [], ◌�
 use Rattle.std.proofs.Common.{ap, ◌∙◌, subst, arith}
 use Rattle.std.specs.Prelude.{Option, Some, None, slice_get, unwrap_or, Contains}
 use Rattle.std.proofs.lemmas.List.{drop_all}
-use Rattle.std.proofs.lemmas.Option.{unwrap_or-slice_get}
+use Rattle.std.proofs.lemmas.Option.{same_Some, unwrap_or-slice_get}
 use Rattle.pp_concrete_types.proofs.Lists.{contained, stands}
 use Rattle.pp_concrete_types.proofs.Places.{place_is, root_stands}
 use Rattle.pp_concrete_types.proofs.Rooms.{ctor_is}
@@ -37,7 +37,7 @@ use Rattle.pp_validity.proofs.Ground.{each_put, ground_int, ground_bool, ground_
 use Rattle.pp_validity.proofs.Ground.{put_root, puts_puts}
 use Rattle.pp_validity.proofs.Known.{HasTypes}
 use Rattle.pp_validity.proofs.Patterns.{map_map, mapped}
-use Rattle.pp_validity.proofs.Placed.{ctor_found, some_same}
+use Rattle.pp_validity.proofs.Placed.{ctor_found}
 use Rattle.pp_validity.proofs.Whole.{none_some}
 
 -- the type parameters put at arguments are the arguments
@@ -95,7 +95,7 @@ module _ (typed : Typed) (sorted : IsWellSorted typed) (roots : List Member) (ar
       → slice_get typed.roots c.root ≡ Some root → AreInRange typed.roots root.type_params c.fields
   fields_in_range c root has at =
       let is = ctor_is typed sorted c has in
-      let same = some_same (sym is.declared ∙ at) in
+      let same = same_Some _ _ (sym is.declared ∙ at) in
       subst (λ (r : TypedRoot). AreInRange typed.roots r.type_params c.fields) same is.fields
 
   -- a finite value, at arguments that have values
@@ -154,7 +154,7 @@ module _ (typed : Typed) (sorted : IsWellSorted typed) (roots : List Member) (ar
         → (i : ℕ) (s : GenericSort) → slice_get ss i ≡ Some s → V s
     grounds_have [] none_in_range h i t at = absurd (none_some at)
     grounds_have (s ∷ ss) (more_in_range here more) h zero t at =
-        subst V (some_same at) (ground_has s here (h 0 s refl))
+        subst V (same_Some _ _ at) (ground_has s here (h 0 s refl))
     grounds_have (s ∷ ss) (more_in_range here more) h (suc i) t at = grounds_have ss more (λ j. h (suc j)) i t at
 
 no_function : {r f : ℕ} → Root r ≡ Function f → ⊥

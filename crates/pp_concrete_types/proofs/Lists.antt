@@ -3,12 +3,9 @@ use Rattle.std.proofs.Common.{◌≡◌, ◌⊎◌, inl, inr, ⊎_elim, ℕ, zer
 use Rattle.std.proofs.Common.{[], ◌∷◌, ◌++◌, map, take, length, refl, sym, ap, ◌∙◌, arith}
 use Rattle.std.specs.Prelude.{Some, slice_get, Contains}
 use Rattle.std.specs.List.{filter, list_all}
-use Rattle.std.proofs.lemmas.Option.{get_or_from_slice_get, slice_get_read, slice_get_within}
-use Rattle.pp_validity.proofs.Placed.{some_same}
+use Rattle.std.proofs.lemmas.Option.{get_or_from_slice_get, same_Some, slice_get_read, slice_get_within}
+use Rattle.std.proofs.lemmas.Bool.{and_from}
 use Rattle.pp_validity.proofs.Whole.{none_some}
-
-pub both : (a b : Bool) → a ≡ true → b ≡ true → a && b ≡ true
-both a b h k = ap (λ c. c && b) h ∙ k
 
 pub contained : {A : Type 0} (xs : List A) (i : ℕ) (x : A) → slice_get xs i ≡ Some x → Contains xs x
 contained xs i x h = (i, slice_get_within xs i x h, get_or_from_slice_get xs i x x h)
@@ -36,13 +33,13 @@ before_or_behind {A} (x ∷ xs) ys (suc i) y h =
 pub unmapped : {A B : Type 0} (f : A → B) (xs : List A) (i : ℕ) (y : B) → slice_get (map f xs) i ≡ Some y
     → (x : A) × (slice_get xs i ≡ Some x) × (f x ≡ y)
 unmapped f [] i y h = absurd (none_some h)
-unmapped f (x ∷ xs) zero y h = (x, refl, some_same h)
+unmapped f (x ∷ xs) zero y h = (x, refl, same_Some _ _ h)
 unmapped f (x ∷ xs) (suc i) y h = unmapped f xs i y h
 
 pub all_mapped : {A B : Type 0} (p : B → Bool) (f : A → B) (xs : List A)
     → ((i : ℕ) (x : A) → slice_get xs i ≡ Some x → p (f x) ≡ true) → list_all p (map f xs) ≡ true
 all_mapped p f [] h = refl
-all_mapped p f (x ∷ xs) h = both (p (f x)) (list_all p (map f xs)) (h 0 x refl) (all_mapped p f xs (λ i. h (suc i)))
+all_mapped p f (x ∷ xs) h = and_from (p (f x)) (list_all p (map f xs)) (h 0 x refl) (all_mapped p f xs (λ i. h (suc i)))
 
 module _ {A : Type 0} (p : A → Bool) where
   -- where an item of a filtered list comes from: it passes the test, and so many before it do
@@ -73,6 +70,6 @@ module _ {A : Type 0} (p : A → Bool) where
     where
       by : (b : Bool) → p y ≡ b → (k : ℕ) → slice_get (cond b (y ∷ filter p xs) (filter p xs)) k ≡ Some x
           → ((n : ℕ) (z : A) → slice_get (filter p xs) n ≡ Some z → IsPassed xs n z) → IsPassed (y ∷ xs) k x
-      by true t zero at later = record { place = 0; at = at; before = refl; passes = ap p (sym (some_same at)) ∙ t }
+      by true t zero at later = record { place = 0; at = at; before = refl; passes = ap p (sym (same_Some _ _ at)) ∙ t }
       by true t (suc k) at later = one_later y xs k (suc k) x true t refl (later k x at)
       by false t k at later = one_later y xs k k x false t refl (later k x at)

@@ -6,7 +6,7 @@ use Rattle.std.specs.Option.{option_map}
 use Rattle.std.proofs.lemmas.Bool.{lt-ltb}
 use Rattle.std.proofs.lemmas.List.Elements.{Contains-append_cases, Contains-append_left, Contains-append_right}
 use Rattle.std.proofs.lemmas.List.Elements.{Contains-push}
-use Rattle.std.proofs.lemmas.Option.{slice_get-map, slice_get_within}
+use Rattle.std.proofs.lemmas.Option.{same_Some, slice_get-map, slice_get_within}
 use Rattle.pp_concrete_types.proofs.Lists.{contained, stands}
 use Rattle.pp_concrete_types.specs.Datatypes.{AreDatatypes}
 use Rattle.pp_instances.proofs.Kept.{nothing_in}
@@ -25,7 +25,7 @@ use Rattle.pp_typed.specs.declared.sort.GenericSort.TheViews.{out-GenericSort, r
 use Rattle.pp_typed.specs.declared.typed.Typed.{Typed}
 use Rattle.pp_typed.specs.declared.typed.TypedCtor.{TypedCtor}
 use Rattle.pp_validity.proofs.Known.{HasTypes}
-use Rattle.pp_validity.proofs.Placed.{placed, some_same}
+use Rattle.pp_validity.proofs.Placed.{placed}
 use Rattle.pp_validity.proofs.Types.{types_put}
 use Rattle.pp_validity.proofs.Whole.{none_some}
 use Rattle.pp_validity.proofs.Within.{Within}
@@ -37,7 +37,7 @@ pub in_joined : {A B : Type 0} (f : A → List B) (xs : List A) (i : ℕ) (x : A
     → Contains (f x) y → Contains (joined (map f xs)) y
 in_joined f [] i x y h c = absurd (none_some h)
 in_joined f (z ∷ xs) zero x y h c =
-    Contains-append_left (f z) (joined (map f xs)) y (subst (λ w. Contains (f w) y) (sym (some_same h)) c)
+    Contains-append_left (f z) (joined (map f xs)) y (subst (λ w. Contains (f w) y) (sym (same_Some _ _ h)) c)
 in_joined f (z ∷ xs) (suc i) x y h c = Contains-append_right (f z) (joined (map f xs)) y (in_joined f xs i x y h c)
 
 pub from_joined : {A B : Type 0} (f : A → List B) (xs : List A) (y : B) → Contains (joined (map f xs)) y
@@ -91,7 +91,7 @@ module _ (typed : Typed) (roots : List Member) (are : AreDatatypes typed roots) 
       by whole.0 (stands all m whole)
     where
       by : (i : ℕ) → slice_get (root_at r args ∷ types_of args) i ≡ Some m → Contains roots m
-      by zero at = subst (Contains roots) (some_same at) there
+      by zero at = subst (Contains roots) (same_Some _ _ at) there
       by (suc i) at =
           let a = from_joined types_in args m (contained (types_of args) i m at) in
           are.arguments (root_at r args) m a.0 there a.1 a.2

@@ -1,6 +1,8 @@
 -- The constructors of a datatype, as they stand in the table.
-use Rattle.std.proofs.Common.{◌≡◌, ℕ, zero, suc, ◌+◌, ◌-◌, ◌<◌, ◌≤◌, true, false, List, [], ◌∷◌, length, drop, take, Option, Some, None, slice_get, nat_eq, nat_le, nat_lt, refl, sym, ap, ◌∙◌, subst, arith, ◌⊎◌, inl, inr}
-use Rattle.std.proofs.lemmas.Bool.{eqb-true}
+use Rattle.std.proofs.Common.{◌≡◌, ℕ, zero, suc, ◌+◌, ◌-◌, ◌<◌, ◌≤◌, true, false, List, [], ◌∷◌, length, drop, take}
+use Rattle.std.proofs.Common.{Option, Some, None, slice_get, nat_eq, nat_le, nat_lt, refl, sym, ap, ◌∙◌, subst, arith}
+use Rattle.std.proofs.Common.{◌⊎◌, inl, inr}
+use Rattle.std.proofs.lemmas.Bool.{and_from, and_parts, eqb-true, le-leb, leb-true, lt-ltb, ltb-true}
 use Rattle.std.proofs.lemmas.Bool.Decides.{eqb_tells, leb_tells}
 use Rattle.std.proofs.Math.Logic.{∥∥₁_elim}
 use Rattle.std.proofs.lemmas.Option.{slice_get_within}
@@ -9,9 +11,8 @@ use Rattle.pp_prog.specs.declared.types.Ctor.{Ctor}
 use Rattle.pp_prog.specs.declared.types.Datatype.{Datatype}
 use Rattle.pp_prog.specs.declared.types.TypeTable.{TypeTable}
 use Rattle.pp_prog.specs.Table.{HaveValues, in_block, in_block_of, is_of}
-use Rattle.pp_prog.proofs.Boolean.{both_true, lt_true}
 use Rattle.pp_cover.specs.Split.{block_of, first_of}
-use Rattle.pp_cover.proofs.Lists.{both_are, drop_at, get_within, le_is, le_true, lt_is}
+use Rattle.pp_cover.proofs.Lists.{drop_at, get_within}
 use Rattle.pp_cover.proofs.Typed.{tree_opened}
 
 -- constructor number e is this one, where the first of the list has the number c
@@ -65,7 +66,7 @@ module _ (table : TypeTable) (d : DataId) where
   stands None is = tt
   stands (Some t) is =
       stand_block table.ctors d.0 t.count t.first.0
-      (λ e le lt. table.agree.block d.0 t is e (both_are _ _ (le_is _ _ le) (lt_is _ _ lt)))
+      (λ e le lt. table.agree.block d.0 t is e (and_from _ _ (le-leb _ _ le) (lt-ltb _ _ lt)))
 
   pub at_stands : (o : Option Datatype) → slice_get table.datatypes d.0 ≡ o → (e : ℕ) (ctor : Ctor) →
       slice_get table.ctors e ≡ Some ctor → ctor.of.0 ≡ d.0 →
@@ -79,8 +80,8 @@ module _ (table : TypeTable) (d : DataId) where
       by None is inside = let no : false ≡ true = ap (λ (p : Option Datatype). in_block_of p e) (sym is) ∙ inside in cc
       by (Some t) is inside =
           let here : in_block t e ≡ true = ap (λ (p : Option Datatype). in_block_of p e) (sym is) ∙ inside in
-          let ends = both_true _ _ here in
-          at_block table.ctors t.count t.first.0 e ctor (le_true _ _ ends.0) (lt_true _ _ ends.1) at
+          let ends = and_parts _ _ here in
+          at_block table.ctors t.count t.first.0 e ctor (leb-true _ _ ends.0) (ltb-true _ _ ends.1) at
 
 -- the constructors of a datatype stand inside the table
 pub block_inside : (table : TypeTable) (d : DataId) (t : Datatype) → slice_get table.datatypes d.0 ≡ Some t →
@@ -107,11 +108,11 @@ block_inside table d t is = elim (leb_tells (t.first.0 + t.count) (length table.
         let inside : in_block t o.c.0 ≡ true = sym
         (ap (λ (p : Option Datatype). in_block_of p o.c.0) (ap (λ (i : ℕ). slice_get table.datatypes i) o.of ∙ is))
         ∙ stands_there in
-        let ends = both_true _ _ inside in
-        let from : t.first.0 ≤ o.c.0 = le_true _ _ ends.0 in
-        let to : o.c.0 < t.first.0 + t.count = lt_true _ _ ends.1 in
+        let ends = and_parts _ _ inside in
+        let from : t.first.0 ≤ o.c.0 = leb-true _ _ ends.0 in
+        let to : o.c.0 < t.first.0 + t.count = ltb-true _ _ ends.1 in
         let end = t.first.0 + t.count - 1 in
-        let in_front : in_block t end ≡ true = both_are (nat_le t.first.0 end) (nat_lt end (t.first.0 + t.count))
-        (le_is t.first.0 end (omega (arith, from, to)))
-        (lt_is end (t.first.0 + t.count) (omega (arith, from, to))) in
+        let in_front : in_block t end ≡ true = and_from (nat_le t.first.0 end) (nat_lt end (t.first.0 + t.count))
+        (le-leb t.first.0 end (omega (arith, from, to)))
+        (lt-ltb end (t.first.0 + t.count) (omega (arith, from, to))) in
         last (slice_get table.ctors end) refl (table.agree.block d.0 t is end in_front) over

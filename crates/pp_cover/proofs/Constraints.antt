@@ -1,19 +1,23 @@
 -- The equations of `constraints`, and that a value satisfies the constraints of a pattern exactly where it fits.
-use Rattle.std.proofs.Common.{◌≡◌, ℕ, ℤ, Bool, true, false, ◌&&◌, List, [], ◌∷◌, map, Option, Some, None, is_some, if◌then◌else◌, slice_get, nat_eq, refl, sym, ap, ◌∙◌, subst}
+use Rattle.std.proofs.Common.{◌≡◌, ℕ, ℤ, Bool, true, false, ◌&&◌, List, [], ◌∷◌, map, Option, Some, None, is_some}
+use Rattle.std.proofs.Common.{if◌then◌else◌, slice_get, nat_eq, refl, sym, ap, ◌∙◌, subst}
 use Rattle.std.proofs.Math.Bool.{and-true}
 use Rattle.pp_prog.specs.declared.expr.Pattern.{Pattern}
 use Rattle.pp_prog.specs.declared.expr.Pattern.TheFolds.{para-roll-Pattern, fold-roll-Pattern, ind-Pattern, map-Pattern}
 use Rattle.pp_prog.specs.declared.expr.Pattern.TheOpen as pattern
 use Rattle.pp_prog.specs.declared.expr.Pattern.TheViews.{roll-Pattern}
-use Rattle.pp_prog.specs.declared.expr.Pattern.TheVariants.{Any, Bind, Int, Bool as Truth, Ctor, rolls-Any, rolls-Bind, rolls-Int, rolls-Bool, rolls-Ctor}
+use Rattle.pp_prog.specs.declared.expr.Pattern.TheVariants.{Any, Bind, Int, Bool as Truth, Ctor, rolls-Any, rolls-Bind}
+use Rattle.pp_prog.specs.declared.expr.Pattern.TheVariants.{rolls-Int, rolls-Bool, rolls-Ctor}
 use Rattle.pp_prog.specs.declared.id.CtorId.{CtorId}
 use Rattle.pp_prog.specs.declared.value.Value.{Value}
 use Rattle.pp_prog.specs.declared.value.Value.TheOpen as value
 use Rattle.pp_prog.specs.declared.value.Value.TheViews.{out-Value}
-use Rattle.pp_prog.specs.Fits.{Fitting, bound_before, bound_both, fit, fit_bool, fit_fields, fit_int, fit_step, fit_tree, fits, fits_if}
+use Rattle.pp_prog.specs.Fits.{Fitting, bound_before, bound_both, fit, fit_bool, fit_fields, fit_int, fit_step}
+use Rattle.pp_prog.specs.Fits.{fit_tree, fits, fits_if}
 use Rattle.pp_cover.specs.declared.constraint.Head.{Head}
 use Rattle.pp_cover.specs.declared.constraint.Head.TheVariants as head
-use Rattle.pp_cover.specs.Constraint.{Constraining, constraint_of, constraint_step, constraints, row_fits, fit_all, same_head, head_of, fields_of}
+use Rattle.pp_cover.specs.Constraint.{Constraining, constraint_of, constraint_step, constraints, row_fits, fit_all}
+use Rattle.pp_cover.specs.Constraint.{same_head, head_of, fields_of}
 
 abbrev pub pattern_of : Pattern × Constraining → Pattern
 pattern_of p = p.0

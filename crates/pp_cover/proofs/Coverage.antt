@@ -1,5 +1,7 @@
 -- What holds of the matrices that are still to be looked at, from the first one to the end.
-use Rattle.std.proofs.Common.{◌≡◌, ℕ, zero, suc, ◌+◌, ◌<◌, ◌^◌, Bool, true, ◌||◌, List, [], ◌∷◌, ◌++◌, length, get_or, Some, nat_eq, refl, sym, ap, ◌∙◌, subst, arith, IsTrue, Contains, ◌↔◌}
+use Rattle.std.proofs.Common.{◌≡◌, ℕ, zero, suc, ◌+◌, ◌<◌, ◌^◌, Bool, true, ◌||◌, List, [], ◌∷◌, ◌++◌, length, get_or}
+use Rattle.std.proofs.Common.{Some, nat_eq, refl, sym, ap, ◌∙◌, subst, arith, IsTrue, Contains, ◌↔◌}
+use Rattle.std.proofs.lemmas.Bool.{and_from, and_parts}
 use Rattle.std.proofs.lemmas.List.{length-map}
 use Rattle.std.proofs.Math.Logic.{∥∥₁_elim}
 use Rattle.std.proofs.Props.{props}
@@ -12,7 +14,6 @@ use Rattle.pp_prog.specs.Fits.{fits, fits_one}
 use Rattle.pp_prog.specs.Sorts.{has_sort}
 use Rattle.pp_prog.specs.Table.{HaveValues, is_sort}
 use Rattle.pp_prog.specs.Valid.{Covers}
-use Rattle.pp_prog.proofs.Boolean.{both_true}
 use Rattle.pp_cover.specs.declared.constraint.Constraint.{Constraint}
 use Rattle.pp_cover.specs.declared.matrix.Matrix.{Matrix}
 use Rattle.pp_cover.specs.Constraint.{constraints, row_fits}
@@ -21,11 +22,12 @@ use Rattle.pp_cover.specs.Split.{parts}
 use Rattle.pp_cover.specs.Cover.{first_column, first_matrix, first_rows}
 use Rattle.pp_cover.proofs.Specialize.{rows_within}
 use Rattle.pp_cover.proofs.Constraints.{constraints_satisfied}
-use Rattle.pp_cover.proofs.Lists.{both_are, nat_eq_same, or_left, or_right}
+use Rattle.pp_cover.proofs.Lists.{nat_eq_same, or_left, or_right}
 use Rattle.pp_cover.proofs.Parts.{all_covered_append, all_covered_parts, parts_covered}
 use Rattle.pp_cover.proofs.Typed.{values_of}
 use Rattle.pp_cover.proofs.Weight.{parts_few, parts_lighter, score, score_smaller}
-use Rattle.pp_cover.proofs.WellFormed.{AllWellFormed, WellFormed, all_well_formed_append, all_well_formed_parts, constraints_within, mentioned_within, parts_well_formed}
+use Rattle.pp_cover.proofs.WellFormed.{AllWellFormed, WellFormed, all_well_formed_append, all_well_formed_parts}
+use Rattle.pp_cover.proofs.WellFormed.{constraints_within, mentioned_within, parts_well_formed}
 
 true_prop : {b : Bool} → IsProp (IsTrue b)
 true_prop = hlevel props
@@ -42,7 +44,7 @@ first_rows_fit (p ∷ ps) v =
 
 first_rows_within : (ps : List Pattern) → rows_within 1 (first_rows ps) ≡ true
 first_rows_within [] = refl
-first_rows_within (p ∷ ps) = both_are _ _ (constraints_within p 0 1 (omega arith)) (first_rows_within ps)
+first_rows_within (p ∷ ps) = and_from _ _ (constraints_within p 0 1 (omega arith)) (first_rows_within ps)
 
 -- the matrices are well-formed, and all are covered exactly where the patterns cover the sort
 pub record Invariant (table : TypeTable) (s : Sort) (patterns : List Pattern) (pending : List Matrix) : Type 0 where
@@ -55,7 +57,7 @@ module _ (table : TypeTable) (s : Sort) (patterns : List Pattern) where
   invariant_starts in_range few = record {
     well_formed = (
       record {
-        in_range = both_are _ _ in_range refl;
+        in_range = and_from _ _ in_range refl;
         within = first_rows_within patterns;
         few = omega
             (arith, few, length-map patterns (λ p. constraints p 0));
@@ -66,12 +68,12 @@ module _ (table : TypeTable) (s : Sort) (patterns : List Pattern) where
   }
     where
       all_to : AllCovered table.ctors (first_matrix s patterns ∷ []) → Covers table.ctors s patterns
-      all_to all v has = sym (first_rows_fit patterns v) ∙ all.0 (v ∷ []) (both_are _ _ has refl)
+      all_to all v has = sym (first_rows_fit patterns v) ∙ all.0 (v ∷ []) (and_from _ _ has refl)
 
       at : Covers table.ctors s patterns → CoversMatrix table.ctors (first_matrix s patterns)
       at covers [] have = cc
-      at covers (v ∷ []) have = first_rows_fit patterns v ∙ covers v (both_true _ _ have).0
-      at covers (v ∷ w ∷ vs) have = let no = (both_true (has_sort table.ctors v s) _ have).1 in cc
+      at covers (v ∷ []) have = first_rows_fit patterns v ∙ covers v (and_parts _ _ have).0
+      at covers (v ∷ w ∷ vs) have = let no = (and_parts (has_sort table.ctors v s) _ have).1 in cc
 
       to_all : Covers table.ctors s patterns → AllCovered table.ctors (first_matrix s patterns ∷ [])
       to_all covers = (at covers, tt)

@@ -8,4 +8,3 @@ pub mod Parts
 pub mod Weight
 pub mod WellFormed
 pub mod Coverage
-pub mod Samples

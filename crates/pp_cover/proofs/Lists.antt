@@ -1,11 +1,8 @@
 -- Elements of lists by their places, and truth values.
-use Rattle.std.proofs.Common.{◌≡◌, ℕ, zero, suc, ◌<◌, ◌≤◌, Bool, true, false, ◌&&◌, ◌||◌, List, [], ◌∷◌, ◌++◌, drop, length, Some, slice_get, nat_eq, nat_le, nat_lt, refl, ap, arith}
-use Rattle.std.proofs.lemmas.Bool.{eq-eqb}
+use Rattle.std.proofs.Common.{◌≡◌, ℕ, zero, suc, ◌<◌, ◌≤◌, Bool, true, false, ◌&&◌, ◌||◌, List, [], ◌∷◌, ◌++◌, drop}
+use Rattle.std.proofs.Common.{length, Some, slice_get, nat_eq, nat_le, nat_lt, refl, ap, arith}
+use Rattle.std.proofs.lemmas.Bool.{and_from, eq-eqb, le-leb, leb-true, lt-ltb}
 use Rattle.std.proofs.lemmas.Bool.Decides.{nat_tests}
-
-pub both_are : (a b : Bool) → a ≡ true → b ≡ true → a && b ≡ true
-both_are true b p q = q
-both_are false b p q = p
 
 pub or_left : (a b : Bool) → a ≡ true → a || b ≡ true
 or_left true b e = refl
@@ -14,15 +11,6 @@ or_left false b e = cc
 pub or_right : (a b : Bool) → b ≡ true → a || b ≡ true
 or_right true b e = refl
 or_right false b e = e
-
-pub lt_is : (a b : ℕ) → a < b → nat_lt a b ≡ true
-lt_is a b lt = grind (arith, nat_tests)
-
-pub le_is : (a b : ℕ) → a ≤ b → nat_le a b ≡ true
-le_is a b le = grind (arith, nat_tests)
-
-pub le_true : (a b : ℕ) → nat_le a b ≡ true → a ≤ b
-le_true a b e = grind (arith, nat_tests)
 
 pub nat_eq_same : (n : ℕ) → nat_eq n n ≡ true
 nat_eq_same n = eq-eqb n n refl

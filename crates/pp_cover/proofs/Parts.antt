@@ -1,5 +1,7 @@
 -- A matrix is covered exactly where all the matrices that it is taken apart into are.
-use Rattle.std.proofs.Common.{◌≡◌, ℕ, suc, ◌<◌, ◌^◌, pos, Bool, true, false, List, [], ◌∷◌, ◌++◌, length, Option, Some, slice_get, nat_lt, refl, sym, ap, ◌∙◌, subst, arith, inl, inr, ◌↔◌}
+use Rattle.std.proofs.Common.{◌≡◌, ℕ, suc, ◌<◌, ◌^◌, pos, Bool, true, false, List, [], ◌∷◌, ◌++◌, length, Option, Some}
+use Rattle.std.proofs.Common.{slice_get, nat_lt, refl, sym, ap, ◌∙◌, subst, arith, inl, inr, ◌↔◌}
+use Rattle.std.proofs.lemmas.Bool.{lt-ltb, ltb-true}
 use Rattle.std.proofs.lemmas.Bool.Decides.{nat_tests}
 use Rattle.std.proofs.lemmas.Int.{ints}
 use Rattle.std.proofs.lemmas.List.{append_assoc}
@@ -16,19 +18,20 @@ use Rattle.pp_prog.specs.declared.value.Value.TheViews.{out-Value}
 use Rattle.pp_prog.specs.declared.value.Value.TheVariants.{Int, Bool as Truth, Tree, outs-Int, outs-Bool, outs-Tree}
 use Rattle.pp_prog.specs.Sorts.{has_sort, have_sorts, is_int}
 use Rattle.pp_prog.specs.Table.{HaveValues}
-use Rattle.pp_prog.proofs.Boolean.{lt_true}
 use Rattle.pp_cover.specs.declared.constraint.Head.{Head}
 use Rattle.pp_cover.specs.declared.constraint.Head.TheVariants as head
 use Rattle.pp_cover.specs.declared.matrix.Matrix.{Matrix}
 use Rattle.pp_cover.specs.Constraint.{fields_of, head_of}
-use Rattle.pp_cover.specs.Matrix.{AllCovered, CoversMatrix, any_fits, default_matrix, keep_if, names, specialize, specialized_rows}
+use Rattle.pp_cover.specs.Matrix.{AllCovered, CoversMatrix, any_fits, default_matrix, keep_if, names, specialize}
+use Rattle.pp_cover.specs.Matrix.{specialized_rows}
 use Rattle.pp_cover.specs.Split.{block_of, bool_parts, ctor_head, first_of, named_parts, parts, parts_by, tree_parts}
 use Rattle.pp_cover.proofs.Blocks.{AreCtorsOf, IsNumbered, at_stands, stands}
 use Rattle.pp_cover.proofs.Fresh.{fresh_none, unnamed_none}
-use Rattle.pp_cover.proofs.Lists.{get_other, get_put, get_within, lt_is, put}
+use Rattle.pp_cover.proofs.Lists.{get_other, get_put, get_within, put}
 use Rattle.pp_cover.proofs.Specialize.{NoneFits, Opens, default_fits, default_only, rows_specialized, rows_within}
 use Rattle.pp_cover.proofs.Weight.{named_few}
-use Rattle.pp_cover.proofs.Typed.{Opened, bool_opened, bool_typed, have_append, have_at, have_length, have_parts, have_put, int_typed, tree_opened, tree_typed, values_of}
+use Rattle.pp_prog.proofs.ValueSorts.{have_at, have_length, have_more, int_has, truth_has}
+use Rattle.pp_cover.proofs.Typed.{Opened, bool_opened, have_parts, have_put, tree_opened, tree_typed, values_of}
 
 module _ (ctors : List Ctor) where
   pub all_covered_append : (xs ys : List Matrix) → AllCovered ctors xs → AllCovered ctors ys →
@@ -51,7 +54,7 @@ module _ (ctors : List Ctor) where
 
     in_place : (us : List Value) → have_sorts ctors us m.sorts ≡ true → (v : Value) → slice_get (put us k v) k ≡ Some v
     in_place us have v =
-        let u = have_at ctors us m.sorts k s have there in
+        let u = have_at ctors m.sorts us k s have there in
         get_put us k v (slice_get_within us k u.0 u.1)
 
     specialize_down : CoversMatrix ctors m → (h : Head) (fields : List Sort) → Builds h fields →
@@ -62,7 +65,7 @@ module _ (ctors : List Ctor) where
         let ws = cut.1 in
         let v = builds ws cut.4 in
         let vs = put us k v.0 in
-        let long : length m.sorts ≡ length us = sym (have_length ctors us m.sorts cut.3) in
+        let long : length m.sorts ≡ length us = sym (have_length ctors m.sorts us cut.3) in
         let opens : Opens k h ws vs v.0 = record { there = in_place us cut.3 v.0; outermost = v.2; inside = v.3 } in
         let same = rows_specialized k (length m.sorts) h us ws vs v.0 long opens
         (λ j lt apart. sym (get_other us k j v.0 apart)) m.rows within in
@@ -70,20 +73,20 @@ module _ (ctors : List Ctor) where
         subst (λ (l : List Value). any_fits (specialized_rows k h (length fields) (length m.sorts) m.rows) l ≡ true)
         (sym cut.2)
         (ap (λ (a : ℕ). any_fits (specialized_rows k h a (length m.sorts) m.rows) (us ++ ws))
-        (sym (have_length ctors ws fields cut.4)) ∙ same ∙ all)
+        (sym (have_length ctors fields ws cut.4)) ∙ same ∙ all)
 
     specialize_up : (h : Head) (fields : List Sort) → CoversMatrix ctors (specialize m k h fields) → (vs : List Value) →
         have_sorts ctors vs m.sorts ≡ true → (v : Value) → slice_get vs k ≡ Some v → head_of (out-Value v) ≡ h →
         have_sorts ctors (fields_of (out-Value v)) fields ≡ true → any_fits m.rows vs ≡ true
     specialize_up h fields covers vs have v here outermost inside =
         let ws = fields_of (out-Value v) in
-        let long : length m.sorts ≡ length vs = sym (have_length ctors vs m.sorts have) in
+        let long : length m.sorts ≡ length vs = sym (have_length ctors m.sorts vs have) in
         let same = rows_specialized k (length m.sorts) h vs ws vs v long
         (record { there = here; outermost = outermost; inside = refl }) (λ j lt apart. refl) m.rows within in
         sym same
         ∙ ap (λ (a : ℕ). any_fits (specialized_rows k h a (length m.sorts) m.rows) (vs ++ ws))
-        (have_length ctors ws fields inside)
-        ∙ covers (vs ++ ws) (have_append ctors vs ws m.sorts fields have inside)
+        (have_length ctors fields ws inside)
+        ∙ covers (vs ++ ws) (have_more ctors m.sorts fields vs ws have inside)
 
     default_down : CoversMatrix ctors m → (v : Value) → has_sort ctors v s ≡ true →
         ((vs : List Value) → slice_get vs k ≡ Some v → NoneFits k vs m.rows) → CoversMatrix ctors (default_matrix m k)
@@ -105,7 +108,7 @@ module _ (ctors : List Ctor) where
     int_down there few covers =
         let n = fresh_none k m.rows in
         default_down m k sort.Int within there covers (Int (pos n.0))
-        (int_typed ctors (pos n.0) (int_fits n.0 (omega (arith, n.1))))
+        (int_has ctors (pos n.0) (int_fits n.0 (omega (arith, n.1))))
         (λ vs here. n.2 vs (Int (pos n.0)) here (ap head_of (outs-Int (pos n.0))))
 
     int_up : slice_get m.sorts k ≡ Some sort.Int → CoversMatrix ctors (default_matrix m k) → CoversMatrix ctors m
@@ -113,7 +116,7 @@ module _ (ctors : List Ctor) where
 
     build_bool : (there : slice_get m.sorts k ≡ Some sort.Bool) (b : Bool) →
         Builds m k sort.Bool within there (head.Bool b) []
-    build_bool there b [] have = (Truth b, bool_typed ctors b, ap head_of (outs-Bool b), ap fields_of (outs-Bool b))
+    build_bool there b [] have = (Truth b, truth_has ctors b, ap head_of (outs-Bool b), ap fields_of (outs-Bool b))
     build_bool there b (w ∷ ws) have = cc
 
     bool_down : slice_get m.sorts k ≡ Some sort.Bool → CoversMatrix ctors m → AllCovered ctors (bool_parts m k)
@@ -124,7 +127,7 @@ module _ (ctors : List Ctor) where
 
     bool_up : slice_get m.sorts k ≡ Some sort.Bool → AllCovered ctors (bool_parts m k) → CoversMatrix ctors m
     bool_up there all vs have =
-        let v = have_at ctors vs m.sorts k sort.Bool have there in
+        let v = have_at ctors m.sorts vs k sort.Bool have there in
         let b = bool_opened ctors v.0 v.2 in
         by b.0 v.0 v.1 b.1
       where
@@ -231,7 +234,7 @@ module _ (ctors : List Ctor) where
           by : (t : Bool) → nat_lt (length (named_parts m k c xs)) (length xs) ≡ t →
               AllCovered ctors (keep_if t (default_matrix m k) [])
           by true e =
-              let other = unnamed_found c xs st (lt_true _ _ e) in
+              let other = unnamed_found c xs st (ltb-true _ _ e) in
               let ws = fields other.0 other.1 other.2 in
               let v = build_tree other.0 other.1 other.2 other.3 ws.0 ws.1 in (
                 default_down m k (sort.Tree d) within there covers v.0 v.1
@@ -244,7 +247,7 @@ module _ (ctors : List Ctor) where
           ((e : ℕ) (ctor : Ctor) → slice_get ctors e ≡ Some ctor → ctor.of.0 ≡ d.0 → IsNumbered c xs e ctor) →
           AllCovered ctors (tree_parts m k c xs) → CoversMatrix ctors m
       tree_up c xs all_at all vs have =
-          let v = have_at ctors vs m.sorts k (sort.Tree d) have there in
+          let v = have_at ctors m.sorts vs k (sort.Tree d) have there in
           let o = tree_opened ctors d v.0 v.2 in
           by v.0 v.1 o (all_at o.c.0 o.ctor o.there o.of) (names k (ctor_head o.c.0) m.rows) refl
         where
@@ -266,7 +269,7 @@ module _ (ctors : List Ctor) where
               (named_at c xs rest.0 o.c.0 o.ctor at named) vs have v here (ap head_of o.opens)
               (ap (λ (w : value.Value-F Value). have_sorts ctors (fields_of w) o.ctor.fields) o.opens ∙ o.have)
           by v here o at false unnamed =
-              let fewer : nat_lt (length (named_parts m k c xs)) (length xs) ≡ true = lt_is _ _
+              let fewer : nat_lt (length (named_parts m k c xs)) (length xs) ≡ true = lt-ltb _ _
               (unnamed_at c xs o.c.0 o.ctor at unnamed) in
               default_up m k (sort.Tree d) within there (others _ fewer rest.1) vs have
 

@@ -1,8 +1,9 @@
 -- The specialized rows fit the values in which a value's fields stand for the value, and the default rows those in
 -- which another value does.
-use Rattle.std.proofs.Common.{◌≡◌, ℕ, suc, ◌<◌, Bool, true, false, not, ◌&&◌, ◌||◌, List, [], ◌∷◌, ◌++◌, length, Option, Some, slice_get, nat_eq, nat_lt, refl, sym, ap, ◌∙◌, arith, inl, inr}
+use Rattle.std.proofs.Common.{◌≡◌, ℕ, suc, ◌<◌, Bool, true, false, not, ◌&&◌, ◌||◌, List, [], ◌∷◌, ◌++◌, length, Option}
+use Rattle.std.proofs.Common.{Some, slice_get, nat_eq, nat_lt, refl, sym, ap, ◌∙◌, arith, inl, inr}
 use Rattle.std.proofs.Math.Bool.{and-false}
-use Rattle.std.proofs.lemmas.Bool.{eqb-true, or_parts}
+use Rattle.std.proofs.lemmas.Bool.{and_parts, eqb-true, ltb-true, or_parts}
 use Rattle.std.proofs.lemmas.Bool.Decides.{eqb_tells}
 use Rattle.std.proofs.lemmas.List.{append_assoc, length-append}
 use Rattle.pp_prog.specs.declared.expr.Pattern.{Pattern}
@@ -11,11 +12,12 @@ use Rattle.pp_prog.specs.declared.value.Value.TheViews.{out-Value}
 use Rattle.pp_prog.specs.Fits.{fits}
 use Rattle.pp_cover.specs.declared.constraint.Constraint.{Constraint}
 use Rattle.pp_cover.specs.declared.constraint.Head.{Head}
-use Rattle.pp_cover.specs.Constraint.{constraints, fields_of, fit_all, head_of, satisfies, placed, row_fits, same_head, some_satisfies}
-use Rattle.pp_cover.specs.Matrix.{admits, any_fits, can_satisfy, default_rows, implies, is_in, keep_if, mentions, specialized_row, specialized_if, specialized_rows}
+use Rattle.pp_cover.specs.Constraint.{constraints, fields_of, fit_all, head_of, satisfies, placed, row_fits, same_head}
+use Rattle.pp_cover.specs.Constraint.{some_satisfies}
+use Rattle.pp_cover.specs.Matrix.{admits, any_fits, can_satisfy, default_rows, implies, is_in, keep_if, mentions}
+use Rattle.pp_cover.specs.Matrix.{specialized_row, specialized_if, specialized_rows}
 use Rattle.pp_cover.proofs.Constraints.{constraints_satisfied}
 use Rattle.pp_cover.proofs.Lists.{get_left, get_seam, or_right}
-use Rattle.pp_prog.proofs.Boolean.{both_true, lt_true}
 
 -- the row constrains the first n columns alone
 abbrev pub row_within : ℕ → List Constraint → Bool
@@ -85,8 +87,8 @@ module _ (k n : ℕ) (h : Head) (us ws vs : List Value) (v : Value) (long : n �
       admits k h (length ws) row && row_fits (specialized_row k n row) (us ++ ws) ≡ row_fits row vs
   row_specialized [] within = refl
   row_specialized (d ∷ row) within =
-      let parts = both_true _ _ within in
-      by (is_in k d) refl (row_specialized row parts.1) (lt_true _ _ parts.0)
+      let parts = and_parts _ _ within in
+      by (is_in k d) refl (row_specialized row parts.1) (ltb-true _ _ parts.0)
     where
       in_column : (s l a p f w r : Bool) → a && f ≡ r → (l ≡ true → p ≡ w) → (l ≡ false → w ≡ false) →
           ((s && l) && a) && (p && f) ≡ (s && w) && r
@@ -133,7 +135,7 @@ module _ (k n : ℕ) (h : Head) (us ws vs : List Value) (v : Value) (long : n �
       any_fits (specialized_rows k h (length ws) n rows) (us ++ ws) ≡ any_fits rows vs
   rows_specialized [] within = refl
   rows_specialized (row ∷ rows) within =
-      let parts = both_true _ _ within in
+      let parts = and_parts _ _ within in
       kept_fits (admits k h (length ws) row) (specialized_row k n row) (specialized_rows k h (length ws) n rows)
       (us ++ ws)
       ∙ ap (λ t. t || any_fits (specialized_rows k h (length ws) n rows) (us ++ ws)) (row_specialized row parts.0)
@@ -149,9 +151,9 @@ module _ (k n : ℕ) (us vs : List Value) (agree : SameBut n k us vs) where
       row_fits row us ≡ row_fits row vs
   unmentioned_fits [] within e = refl
   unmentioned_fits (d ∷ row) within e =
-      let parts = both_true _ _ within in
+      let parts = and_parts _ _ within in
       let apart_from = or_parts (is_in k d) (mentions k row) e in
-      let here : slice_get us d.column ≡ slice_get vs d.column = agree d.column (lt_true _ _ parts.0)
+      let here : slice_get us d.column ≡ slice_get vs d.column = agree d.column (ltb-true _ _ parts.0)
       (apart d k apart_from.0) in
       ap (λ (o : Option Value). some_satisfies o d && row_fits row us) here
       ∙ ap (λ t. satisfies vs d && t) (unmentioned_fits row parts.1 apart_from.1)
@@ -161,7 +163,7 @@ module _ (k n : ℕ) (us vs : List Value) (agree : SameBut n k us vs) where
       any_fits (default_rows k rows) us ≡ any_fits rows vs
   default_fits [] within none = refl
   default_fits (row ∷ rows) within none =
-      let parts = both_true _ _ within in
+      let parts = and_parts _ _ within in
       by (mentions k row) refl (default_fits rows parts.1 none.1) parts.0
     where
       by : (t : Bool) → mentions k row ≡ t → any_fits (default_rows k rows) us ≡ any_fits rows vs →

@@ -1,8 +1,10 @@
 -- How many constraints patterns, rows and matrices have, and that the parts of a matrix have fewer.
-use Rattle.std.proofs.Common.{◌≡◌, ℕ, zero, suc, ◌+◌, ◌<◌, ◌≤◌, Bool, true, false, not, ◌||◌, List, [], ◌∷◌, ◌++◌, map, length, drop, Option, Some, None, slice_get, nat_lt, refl, sym, ap, ◌∙◌, subst, arith}
+use Rattle.std.proofs.Common.{◌≡◌, ℕ, zero, suc, ◌+◌, ◌<◌, ◌≤◌, Bool, true, false, not, ◌||◌, List, [], ◌∷◌, ◌++◌, map}
+use Rattle.std.proofs.Common.{length, drop, Option, Some, None, slice_get, nat_lt, refl, sym, ap, ◌∙◌, subst, arith}
 use Rattle.std.proofs.lemmas.List.{length-append, length-drop, length-take}
 use Rattle.pp_prog.specs.declared.expr.Pattern.{Pattern}
-use Rattle.pp_prog.specs.declared.expr.Pattern.TheFolds.{fold-Pattern, fold-roll-Pattern, ind-Pattern, map-Pattern, para-roll-Pattern}
+use Rattle.pp_prog.specs.declared.expr.Pattern.TheFolds.{fold-Pattern, fold-roll-Pattern, ind-Pattern, map-Pattern}
+use Rattle.pp_prog.specs.declared.expr.Pattern.TheFolds.{para-roll-Pattern}
 use Rattle.pp_prog.specs.declared.expr.Pattern.TheOpen as pattern
 use Rattle.pp_prog.specs.declared.expr.Pattern.TheViews.{roll-Pattern}
 use Rattle.pp_prog.specs.declared.sort.Sort.{Sort}
@@ -15,7 +17,8 @@ use Rattle.pp_cover.specs.declared.constraint.Head.{Head}
 use Rattle.pp_cover.specs.declared.constraint.Head.TheVariants as head
 use Rattle.pp_cover.specs.declared.matrix.Matrix.{Matrix}
 use Rattle.pp_cover.specs.Constraint.{Constraining, constraint_of, constraint_step, constraints, placed}
-use Rattle.pp_cover.specs.Matrix.{admits, any_mentions, default_matrix, default_rows, is_in, keep_if, mentions, names, specialize, specialized_row, specialized_if, specialized_rows}
+use Rattle.pp_cover.specs.Matrix.{admits, any_mentions, default_matrix, default_rows, is_in, keep_if, mentions, names}
+use Rattle.pp_cover.specs.Matrix.{specialize, specialized_row, specialized_if, specialized_rows}
 use Rattle.pp_cover.specs.Split.{block_of, ctor_head, first_of, named_parts, parts, parts_by, tree_parts}
 use Rattle.pp_cover.proofs.Constraints.{firsts, with_constraints}
 

@@ -1,6 +1,7 @@
 -- The parts of a well-formed matrix are well-formed.
-use Rattle.std.proofs.Common.{◌≡◌, ℕ, suc, ◌+◌, ◌<◌, ◌≤◌, ◌^◌, Bool, true, false, not, ◌||◌, List, [], ◌∷◌, ◌++◌, length, Option, Some, None, slice_get, nat_eq, nat_lt, refl, sym, ap, ◌∙◌, subst, arith}
-use Rattle.std.proofs.lemmas.Bool.{eqb-true}
+use Rattle.std.proofs.Common.{◌≡◌, ℕ, suc, ◌+◌, ◌<◌, ◌≤◌, ◌^◌, Bool, true, false, not, ◌||◌, List, [], ◌∷◌, ◌++◌}
+use Rattle.std.proofs.Common.{length, Option, Some, None, slice_get, nat_eq, nat_lt, refl, sym, ap, ◌∙◌, subst, arith}
+use Rattle.std.proofs.lemmas.Bool.{and_from, and_parts, eqb-true, lt-ltb, ltb-true}
 use Rattle.std.proofs.lemmas.List.{length-append}
 use Rattle.std.proofs.lemmas.List.Folds.{list_all-append}
 use Rattle.std.specs.List.{list_all}
@@ -13,17 +14,17 @@ use Rattle.pp_prog.specs.declared.sort.Sort.TheVariants as sort
 use Rattle.pp_prog.specs.declared.types.Ctor.{Ctor}
 use Rattle.pp_prog.specs.declared.types.TypeTable.{TypeTable}
 use Rattle.pp_prog.specs.Table.{is_sort}
-use Rattle.pp_prog.proofs.Boolean.{both_true, lt_true}
 use Rattle.pp_cover.specs.declared.constraint.Constraint.{Constraint}
 use Rattle.pp_cover.specs.declared.constraint.Head.{Head}
 use Rattle.pp_cover.specs.declared.constraint.Head.TheVariants as head
 use Rattle.pp_cover.specs.declared.matrix.Matrix.{Matrix}
 use Rattle.pp_cover.specs.Constraint.{Constraining, constraint_step, constraints, placed, same_head}
-use Rattle.pp_cover.specs.Matrix.{admits, any_mentions, can_satisfy, default_matrix, default_rows, implies, is_in, keep_if, mentions, names, specialize, specialized_row, specialized_if, specialized_rows}
+use Rattle.pp_cover.specs.Matrix.{admits, any_mentions, can_satisfy, default_matrix, default_rows, implies, is_in}
+use Rattle.pp_cover.specs.Matrix.{keep_if, mentions, names, specialize, specialized_row, specialized_if}
+use Rattle.pp_cover.specs.Matrix.{specialized_rows}
 use Rattle.pp_cover.specs.Split.{block_of, ctor_head, first_of, named_parts, parts, parts_by}
 use Rattle.pp_cover.proofs.Specialize.{row_within, rows_within}
 use Rattle.pp_cover.proofs.Constraints.{with_constraints}
-use Rattle.pp_cover.proofs.Lists.{both_are, lt_is}
 use Rattle.pp_cover.proofs.Blocks.{AreCtorsOf, stands}
 
 abbrev Inside : Pattern → Type 0
@@ -40,9 +41,9 @@ layer_inside : (y : pattern.Pattern-F One) (j n : ℕ) → j < n →
     (constraint_step (map-Pattern Pattern (Pattern × Constraining) with_constraints z) j) ≡ true
 layer_inside pattern.Any j n lt = refl
 layer_inside (pattern.Bind o) j n lt = o.1 j n lt
-layer_inside (pattern.Int i) j n lt = both_are (nat_lt j n) true (lt_is j n lt) refl
-layer_inside (pattern.Bool b) j n lt = both_are (nat_lt j n) true (lt_is j n lt) refl
-layer_inside (pattern.Ctor c os) j n lt = both_are (nat_lt j n) true (lt_is j n lt) refl
+layer_inside (pattern.Int i) j n lt = and_from (nat_lt j n) true (lt-ltb j n lt) refl
+layer_inside (pattern.Bool b) j n lt = and_from (nat_lt j n) true (lt-ltb j n lt) refl
+layer_inside (pattern.Ctor c os) j n lt = and_from (nat_lt j n) true (lt-ltb j n lt) refl
 
 at_pattern : (y : pattern.Pattern-F One) → Inside (roll-Pattern (map-Pattern One Pattern one_of y))
 at_pattern y j n lt =
@@ -57,8 +58,8 @@ within_append : (n : ℕ) (a b : List Constraint) → row_within n a ≡ true �
     row_within n (a ++ b) ≡ true
 within_append n [] b p q = q
 within_append n (d ∷ a) b p q =
-    let parts = both_true (nat_lt d.column n) (row_within n a) p in
-    both_are (nat_lt d.column n) (row_within n (a ++ b)) parts.0 (within_append n a b parts.1 q)
+    let parts = and_parts (nat_lt d.column n) (row_within n a) p in
+    and_from (nat_lt d.column n) (row_within n (a ++ b)) parts.0 (within_append n a b parts.1 q)
 
 placed_within : (ps : List Pattern) (j n : ℕ) → j + length ps ≤ n → row_within n (placed j ps) ≡ true
 placed_within [] j n le = refl
@@ -70,42 +71,42 @@ specialized_within : (k : ℕ) (h : Head) (a n : ℕ) (row : List Constraint) �
     admits k h a row ≡ true → row_within (n + a) (specialized_row k n row) ≡ true
 specialized_within k h a n [] within admitted = refl
 specialized_within k h a n (d ∷ row) within admitted =
-    let inside = both_true (nat_lt d.column n) (row_within n row) within in
-    let satisfies = both_true (implies (is_in k d) (can_satisfy h a d)) (admits k h a row) admitted in
+    let inside = and_parts (nat_lt d.column n) (row_within n row) within in
+    let satisfies = and_parts (implies (is_in k d) (can_satisfy h a d)) (admits k h a row) admitted in
     within_append (n + a) (specialized_if (is_in k d) n d) (specialized_row k n row)
-    (by (is_in k d) satisfies.0 (lt_true _ _ inside.0)) (specialized_within k h a n row inside.1 satisfies.1)
+    (by (is_in k d) satisfies.0 (ltb-true _ _ inside.0)) (specialized_within k h a n row inside.1 satisfies.1)
   where
     by : (t : Bool) → implies t (can_satisfy h a d) ≡ true → d.column < n →
         row_within (n + a) (specialized_if t n d) ≡ true
     by true m lt =
-        let even = eqb-true (length d.fields) a (both_true (same_head d.head h) (nat_eq (length d.fields) a) m).1 in
+        let even = eqb-true (length d.fields) a (and_parts (same_head d.head h) (nat_eq (length d.fields) a) m).1 in
         placed_within d.fields n (n + a) (omega (arith, even))
-    by false m lt = both_are (nat_lt d.column (n + a)) true (lt_is d.column (n + a) (omega (arith, lt))) refl
+    by false m lt = and_from (nat_lt d.column (n + a)) true (lt-ltb d.column (n + a) (omega (arith, lt))) refl
 
 specialized_rows_within : (k : ℕ) (h : Head) (a n : ℕ) (rows : List (List Constraint)) → rows_within n rows ≡ true →
     rows_within (n + a) (specialized_rows k h a n rows) ≡ true
 specialized_rows_within k h a n [] within = refl
 specialized_rows_within k h a n (row ∷ rows) within =
-    let inside = both_true (row_within n row) (rows_within n rows) within in
+    let inside = and_parts (row_within n row) (rows_within n rows) within in
     by (admits k h a row) refl inside.0 (specialized_rows_within k h a n rows inside.1)
   where
     by : (t : Bool) → admits k h a row ≡ t → row_within n row ≡ true →
         rows_within (n + a) (specialized_rows k h a n rows) ≡ true →
         rows_within (n + a) (keep_if t (specialized_row k n row) (specialized_rows k h a n rows)) ≡ true
-    by true e within more = both_are _ _ (specialized_within k h a n row within e) more
+    by true e within more = and_from _ _ (specialized_within k h a n row within e) more
     by false e within more = more
 
 default_rows_within : (k n : ℕ) (rows : List (List Constraint)) → rows_within n rows ≡ true →
     rows_within n (default_rows k rows) ≡ true
 default_rows_within k n [] within = refl
 default_rows_within k n (row ∷ rows) within =
-    let inside = both_true (row_within n row) (rows_within n rows) within in
+    let inside = and_parts (row_within n row) (rows_within n rows) within in
     by (mentions k row) inside.0 (default_rows_within k n rows inside.1)
   where
     by : (t : Bool) → row_within n row ≡ true → rows_within n (default_rows k rows) ≡ true →
         rows_within n (keep_if (not t) row (default_rows k rows)) ≡ true
     by true within more = more
-    by false within more = both_are _ _ within more
+    by false within more = and_from _ _ within more
 
 specialized_rows_few : (k : ℕ) (h : Head) (a n : ℕ) (rows : List (List Constraint)) →
     length (specialized_rows k h a n rows) ≤ length rows
@@ -131,14 +132,14 @@ pub mentioned_within : (k n : ℕ) (rows : List (List Constraint)) → rows_with
     any_mentions k rows ≡ true → k < n
 mentioned_within k n [] within m = cc
 mentioned_within k n (row ∷ rows) within m =
-    let inside = both_true (row_within n row) (rows_within n rows) within in
+    let inside = and_parts (row_within n row) (rows_within n rows) within in
     by (mentions k row) refl m (mentioned_within k n rows inside.1) inside.0
   where
     in_row : (row : List Constraint) → row_within n row ≡ true → mentions k row ≡ true → k < n
     in_row [] within m = cc
     in_row (d ∷ row) within m =
-        let inside = both_true (nat_lt d.column n) (row_within n row) within in
-        here (is_in k d) refl m (lt_true _ _ inside.0) (in_row row inside.1)
+        let inside = and_parts (nat_lt d.column n) (row_within n row) within in
+        here (is_in k d) refl m (ltb-true _ _ inside.0) (in_row row inside.1)
       where
         here : (t : Bool) → is_in k d ≡ t → t || mentions k row ≡ true → d.column < n →
             (mentions k row ≡ true → k < n) → k < n
@@ -174,7 +175,7 @@ module _ (table : TypeTable) (m : Matrix) (k : ℕ) (well_formed : WellFormed ta
   specialize_well_formed : (h : Head) (fields : List Sort) → list_all (is_sort table.datatypes) fields ≡ true →
       WellFormed table (specialize m k h fields)
   specialize_well_formed h fields in_range = record {
-    in_range = list_all-append (is_sort table.datatypes) m.sorts fields ∙ both_are _ _ well_formed.in_range in_range;
+    in_range = list_all-append (is_sort table.datatypes) m.sorts fields ∙ and_from _ _ well_formed.in_range in_range;
     within =
         subst (λ (n : ℕ). rows_within n (specialized_rows k h (length fields) (length m.sorts) m.rows) ≡ true)
         (sym (length-append m.sorts fields))

@@ -1,5 +1,6 @@
 -- Which matrices one is taken apart into, by a column. Source: own.
-use Rattle.std.specs.Prelude.{ℕ, suc, nat_lt, true, false, List, [], ◌∷◌, ◌++◌, Option, Some, None, drop, length, take, slice_get}
+use Rattle.std.specs.Prelude.{ℕ, suc, nat_lt, true, false, List, [], ◌∷◌, ◌++◌, Option, Some, None, drop, length, take}
+use Rattle.std.specs.Prelude.{slice_get}
 use Rattle.pp_prog.specs.declared.sort.Sort.{Sort}
 use Rattle.pp_prog.specs.declared.sort.Sort.TheVariants as sort
 use Rattle.pp_prog.specs.declared.types.Ctor.{Ctor}

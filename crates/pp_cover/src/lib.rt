@@ -30,6 +30,3 @@ mod split;
 pub use cover::covered;
 pub use fault::CoverFault;
 pub use std::alloc::AllocError as NoMemory;
-
-#[cfg(test)]
-mod tests;

@@ -1,6 +1,8 @@
 -- A table with one more datatype, behind those that it has, is a table.
-use Rattle.std.proofs.Common.{◌≡◌, ℕ, suc, ◌+◌, ◌-◌, ◌<◌, ◌≤◌, ◌^◌, Bool, true, List, [], ◌∷◌, ◌++◌, map, length, Option, Some, None, slice_get, nat_le, nat_lt, refl, sym, ap, ◌∙◌, subst, arith, ◌⊎◌, inl, inr}
-use Rattle.std.proofs.lemmas.Bool.{eq-eqb}
+use Rattle.std.proofs.Common.{◌≡◌, ℕ, suc, ◌+◌, ◌-◌, ◌<◌, ◌≤◌, ◌^◌, Bool, true, List, [], ◌∷◌, ◌++◌, map, length}
+use Rattle.std.proofs.Common.{Option, Some, None, slice_get, nat_le, nat_lt, refl, sym, ap, ◌∙◌, subst, arith, ◌⊎◌, inl}
+use Rattle.std.proofs.Common.{inr}
+use Rattle.std.proofs.lemmas.Bool.{and_from, and_parts, eq-eqb, le-leb, leb-true, lt-ltb, ltb-true}
 use Rattle.std.proofs.lemmas.Bool.Decides.{leb_tells}
 use Rattle.std.proofs.lemmas.List.{length-append}
 use Rattle.std.proofs.lemmas.Option.{get_or_from_slice_get, slice_get_within}
@@ -17,8 +19,7 @@ use Rattle.pp_prog.specs.declared.value.Value.TheVariants.{Tree}
 use Rattle.pp_prog.specs.declared.value.Value.TheViews.{roll-Value}
 use Rattle.pp_prog.specs.Sorts.{fields_have, has_sort, has_step, have_sorts, same_sort, tree_has}
 use Rattle.pp_prog.specs.Table.{HaveValues, IsTable, in_block, in_block_of, is_of, is_sort}
-use Rattle.pp_prog.proofs.Boolean.{both_true, lt_true}
-use Rattle.pp_cover.proofs.Lists.{both_are, get_left, get_within, le_is, le_true, lt_is}
+use Rattle.pp_cover.proofs.Lists.{get_left, get_within}
 use Rattle.pp_cover.proofs.Typed.{tree_typed, values_of}
 use Rattle.pp_cover_bench.specs.Growing.{IsCtorOf}
 
@@ -44,8 +45,8 @@ module _ (cs xs : List Ctor) where
   fields_kept [] (s ∷ ss) h = cc
   fields_kept (o ∷ os) [] h = cc
   fields_kept (o ∷ os) (s ∷ ss) h =
-      let parts = both_true (has_sort cs o.0 s) (fields_have (map (has_sort cs) (map one_of os)) ss) h in
-      both_are (has_sort (cs ++ xs) o.0 s) _ (o.1 s parts.0) (fields_kept os ss parts.1)
+      let parts = and_parts (has_sort cs o.0 s) (fields_have (map (has_sort cs) (map one_of os)) ss) h in
+      and_from (has_sort (cs ++ xs) o.0 s) _ (o.1 s parts.0) (fields_kept os ss parts.1)
 
   layer_kept : (y : value.Value-F One) (s : Sort) →
       let z = map-Value One Value one_of y in has_step cs (map-Value Value (Sort → Bool) (has_sort cs) z) s ≡ true →
@@ -59,9 +60,9 @@ module _ (cs xs : List Ctor) where
       by None at h = cc
       by (Some k) at h =
           let there : slice_get (cs ++ xs) c.0 ≡ Some k = get_left cs xs c.0 (slice_get_within cs c.0 k at) ∙ at in
-          let parts = both_true (same_sort (sort.Tree k.of) s) _ h in
+          let parts = and_parts (same_sort (sort.Tree k.of) s) _ h in
           subst (λ (o : Option Ctor). tree_has o (map (has_sort (cs ++ xs)) (map one_of os)) s ≡ true) (sym there)
-          (both_are (same_sort (sort.Tree k.of) s) _ parts.0 (fields_kept os k.fields parts.1))
+          (and_from (same_sort (sort.Tree k.of) s) _ parts.0 (fields_kept os k.fields parts.1))
 
   at_kept : (y : value.Value-F One) → Kept (roll-Value (map-Value One Value one_of y))
   at_kept y s h =
@@ -78,21 +79,21 @@ module _ (cs xs : List Ctor) where
   sorts_kept [] (s ∷ ss) h = cc
   sorts_kept (v ∷ vs) [] h = cc
   sorts_kept (v ∷ vs) (s ∷ ss) h =
-      let parts = both_true (has_sort cs v s) (have_sorts cs vs ss) h in
-      both_are (has_sort (cs ++ xs) v s) _ (sort_kept v s parts.0) (sorts_kept vs ss parts.1)
+      let parts = and_parts (has_sort cs v s) (have_sorts cs vs ss) h in
+      and_from (has_sort (cs ++ xs) v s) _ (sort_kept v s parts.0) (sorts_kept vs ss parts.1)
 
 module _ (ds : List Datatype) (cs xs : List Ctor) (t : Datatype) (fs : List Sort) where
   range_kept : (s : Sort) → is_sort ds s ≡ true → is_sort (ds ++ t ∷ []) s ≡ true
   range_kept sort.Int h = refl
   range_kept sort.Bool h = refl
   range_kept (sort.Tree d) h =
-      lt_is d.0 (length (ds ++ t ∷ [])) (omega (arith, length-append ds (t ∷ []), lt_true d.0 (length ds) h))
+      lt-ltb d.0 (length (ds ++ t ∷ [])) (omega (arith, length-append ds (t ∷ []), ltb-true d.0 (length ds) h))
 
   ranges_kept : (ss : List Sort) → list_all (is_sort ds) ss ≡ true → list_all (is_sort (ds ++ t ∷ [])) ss ≡ true
   ranges_kept [] h = refl
   ranges_kept (s ∷ ss) h =
-      let parts = both_true (is_sort ds s) (list_all (is_sort ds) ss) h in
-      both_are (is_sort (ds ++ t ∷ []) s) _ (range_kept s parts.0) (ranges_kept ss parts.1)
+      let parts = and_parts (is_sort ds s) (list_all (is_sort ds) ss) h in
+      and_from (is_sort (ds ++ t ∷ []) s) _ (range_kept s parts.0) (ranges_kept ss parts.1)
 
   module _ (old : IsTable ds cs) (some : 0 < length xs) (first : t.first.0 ≡ length cs) (count : t.count ≡ length xs)
       (each : All (IsCtorOf (length ds) fs) xs) (in_range : list_all (is_sort ds) fs ≡ true) where
@@ -123,9 +124,9 @@ module _ (ds : List Datatype) (cs xs : List Ctor) (t : Datatype) (fs : List Sort
           let lt = slice_get_within xs behind.0 k behind.2 in
           ap (λ (i : ℕ). in_block_of (slice_get (ds ++ t ∷ []) i) c) here.0
           ∙ ap (λ (o : Option Datatype). in_block_of o c) last
-          ∙ both_are (nat_le t.first.0 c) (nat_lt c (t.first.0 + t.count))
-          (le_is t.first.0 c (omega (arith, first, behind.1)))
-          (lt_is c (t.first.0 + t.count) (omega (arith, first, count, behind.1, lt)))
+          ∙ and_from (nat_le t.first.0 c) (nat_lt c (t.first.0 + t.count))
+          (le-leb t.first.0 c (omega (arith, first, behind.1)))
+          (lt-ltb c (t.first.0 + t.count) (omega (arith, first, count, behind.1, lt)))
     ]
       where
         by : (o : Option Datatype) → slice_get ds k.of.0 ≡ o → in_block_of o c ≡ true →
@@ -150,10 +151,10 @@ module _ (ds : List Datatype) (cs xs : List Ctor) (t : Datatype) (fs : List Sort
           let here : d ≡ length ds = omega (arith, length-append ds (t ∷ []), lt, le.1) in
           let both : Some t ≡ Some u = sym last ∙ ap (slice_get (ds ++ t ∷ [])) (sym here) ∙ at in
           let same : t ≡ u = cc in
-          let ends = both_true (nat_le t.first.0 c) (nat_lt c (t.first.0 + t.count))
+          let ends = and_parts (nat_le t.first.0 c) (nat_lt c (t.first.0 + t.count))
           (subst (λ (z : Datatype). in_block z c ≡ true) (sym same) inside) in
-          let from : t.first.0 ≤ c = le_true _ _ ends.0 in
-          let to : c < t.first.0 + t.count = lt_true _ _ ends.1 in
+          let from : t.first.0 ≤ c = leb-true _ _ ends.0 in
+          let to : c < t.first.0 + t.count = ltb-true _ _ ends.1 in
           let j = c - length cs in
           let new = get_within xs j (omega (arith, first, count, from, to)) in
           let there : slice_get (cs ++ xs) c ≡ Some new.0 = ap (slice_get (cs ++ xs)) (omega (arith, first, from))

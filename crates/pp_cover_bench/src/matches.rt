@@ -5,14 +5,14 @@ ghost use Rattle.pp_prog.specs.Table.{is_sort};
 
 use crate::table::{FIELDS, GRID, PAIR, PAIRS, ROW, WIDE, WIDE_CTORS, table};
 use pp_cover::{CoverFault, NoMemory, covered};
-use pp_list::Items;
+use pp_list::{Boxed, Items};
 use pp_prog::{CtorId, DataId, Pattern, Patterns, Sort, TypeTable};
 use std::alloc::Global;
 
 /// The most patterns that a match has.
 const MOST: usize = 65_535;
 
-/// Whether the match of this name and size is covered. Another name is a match without cases.
+/// Whether the match of this name and size is covered. Another name is a match of a number without cases.
 pub fn is_covered(alloc: Global, case: &str, size: u32) -> Result<bool, CoverFault> {
     let table = table(alloc)?;
     match case {
@@ -36,7 +36,9 @@ pub fn is_covered(alloc: Global, case: &str, size: u32) -> Result<bool, CoverFau
             Sort::Tree(DataId(GRID)),
             pigeons(alloc, size)?,
         ),
-        _ => Ok(false),
+        "names" => told(alloc, &table, Sort::Tree(DataId(PAIR)), names(alloc, size)?),
+        "no_rows" => told(alloc, &table, Sort::Tree(DataId(ROW)), Items::new(alloc)),
+        _ => told(alloc, &table, Sort::Int, Items::new(alloc)),
     }
 }
 
@@ -159,4 +161,17 @@ fn grid(alloc: Global, asked: &[(u32, bool)]) -> Result<Pattern, NoMemory> {
         rows.push(truths(alloc, ROW, FIELDS * row, FIELDS, asked)?)?;
     }
     Ok(Pattern::Ctor(CtorId(GRID), rows))
+}
+
+/// A pair whose first value is true, or false, each under so many names.
+fn names(alloc: Global, size: u32) -> Result<Patterns, NoMemory> {
+    let mut patterns = Items::new(alloc);
+    for value in [true, false] {
+        let mut pattern = truths(alloc, PAIR, 0, 2, &[(0, value)])?;
+        for _ in 0..size {
+            pattern = Pattern::Bind(Boxed::new(alloc, pattern)?);
+        }
+        patterns.push(pattern)?;
+    }
+    Ok(patterns)
 }

@@ -58,6 +58,14 @@ pub either_extends : {A : Type 0} (t : Bool) (a b c d : Part A) → Extends a b 
 either_extends true a b c d e f = e
 either_extends false a b c d e f = f
 
+pub taken_extends : (t : Bool) (r s : Part Value) → Extends r s → Extends (taken t r) (taken t s)
+taken_extends true r s e = then_extends r s _ _ e (λ v. refl)
+taken_extends false r s e = refl
+
+pub next_extends : (o : Option Value) (r s : Part Value) → Extends r s → Extends (or_next o r) (or_next o s)
+next_extends None r s e = e
+next_extends (Some v) r s e = refl
+
 -- one meaning extends the other, in each frame
 abbrev pub Covers : Meaning → Meaning → Type 0
 Covers m n = (frame : Frame) (env : List Value) → Extends (m frame env) (n frame env)
@@ -93,19 +101,11 @@ module _ (c d : CallMeaning) (more : CallsCover c d) where
   all_extends (y ∷ ys) done frame env = then_extends _ _ _ _ (y.1 frame env)
       (λ v. all_extends ys (done ++ v ∷ []) frame env)
 
-  taken_extends : (t : Bool) (r s : Part Value) → Extends r s → Extends (taken t r) (taken t s)
-  taken_extends true r s e = then_extends r s _ _ e (λ v. refl)
-  taken_extends false r s e = refl
-
   attempt_extends : (o : Option (List Value)) (a b : Arm) (frame : Frame) (env : List Value) → CoversArm a b
       → Extends (attempt_with o a frame env) (attempt_with o b frame env)
   attempt_extends None a b frame env h = refl
   attempt_extends (Some bound) a b frame env h =
       then_extends _ _ _ _ (h.1 frame (env ++ bound)) (λ t. taken_extends t _ _ (h.2 frame (env ++ bound)))
-
-  next_extends : (o : Option Value) (r s : Part Value) → Extends r s → Extends (or_next o r) (or_next o s)
-  next_extends None r s e = e
-  next_extends (Some v) r s e = refl
 
   cases_extend : (ys : List K) (check : Option CheckId) (v : Value) (frame : Frame) (env : List Value)
       → Extends (first_case (map (arm c) (map (λ z. z.0) ys)) check v frame env)
@@ -162,7 +162,8 @@ module _ (c d : CallMeaning) (more : CallsCover c d) where
       (subst (λ (m : Meaning). Extends (meaning_step c (map-Expr Expr Case Meaning Arm (meaning c) (arm c) z) frame env)
       (m frame env)) (sym two) (level y frame env))
 
-  at_parts : (p : Pattern) (o : Option E) (b : E) → let y : layer.Case-F E K = record { pattern = p; guard = o; body = b } in
+  at_parts : (p : Pattern) (o : Option E) (b : E) → let y : layer.Case-F E K =
+      record { pattern = p; guard = o; body = b } in
       let z = map-Case E K Expr Case (λ w. w.0) (λ w. w.0) y in
       CoversArm (arm_step (map-Case Expr Case Meaning Arm (meaning c) (arm c) z))
       (arm_step (map-Case Expr Case Meaning Arm (meaning d) (arm d) z))
@@ -215,7 +216,8 @@ pub calls_cover : (ctors : List Ctor) (fs : List Function) (n m : ℕ) → n ≤
 calls_cover ctors fs zero m le frame g pre measure args = tt
 calls_cover ctors fs (suc n) zero le frame g pre measure args = absurd (omega arith)
 calls_cover ctors fs (suc n) (suc m) le frame g pre measure args =
-    enters_cover (calls_to ctors fs n) (calls_to ctors fs m) (calls_cover ctors fs n m (omega arith)) ctors (slice_get fs g.0) frame g pre measure args
+    enters_cover (calls_to ctors fs n) (calls_to ctors fs m) (calls_cover ctors fs n m (omega arith)) ctors
+    (slice_get fs g.0) frame g pre measure args
 
 -- an outcome of an expression other than Deep stays the same with more fuel
 pub eval_extends : (ctors : List Ctor) (fs : List Function) (n m : ℕ) (frame : Frame) (env : List Value) (e : Expr)

@@ -1,3 +1,5 @@
+pub mod Ranges
+pub mod Alike
 pub mod Trees
 pub mod Uneven
 pub mod Width
@@ -5,4 +7,3 @@ pub mod Steps
 pub mod Extends
 pub mod Lasts
 pub mod Outcomes
-pub mod Samples

@@ -33,7 +33,8 @@ stops r h part whole go is e told = subst (λ q. Tells q whole) (sym is) (by h t
     by (Stopped s) told = e ∙ ap (λ q. and_then q go) told
 
 -- a turn at an expression x, place i of a list, after the values done: what is left comes to the whole
-module _ (m : Expr → Meaning) (xs : List Expr) (i : ℕ) (x : Expr) (done : List Value) (frame : Frame) (env here : List Value) (whole : Part (List Value)) where
+module _ (m : Expr → Meaning) (xs : List Expr) (i : ℕ) (x : Expr) (done : List Value) (frame : Frame)
+    (env here : List Value) (whole : Part (List Value)) where
   values_step : i < length xs → x ≡ get_or xs i x → whole ≡ all_from done (map m (drop i xs)) frame env → here ≡ env
       → whole ≡ and_then (m x frame here) (λ v. all_from (done ++ v ∷ []) (map m (drop (i + 1) xs)) frame env)
   values_step lt is left same =
@@ -54,7 +55,8 @@ module _ (m : Expr → Meaning) (xs : List Expr) (i : ℕ) (x : Expr) (done : Li
   values_stop r h lt is left same stopped told = stops r h _ whole _ stopped (values_step lt is left same) told
 
 -- a turn at a case c, place i of a list: what is left comes to the whole
-module _ (a : Case → Arm) (cs : List Case) (i : ℕ) (c : Case) (check : Option CheckId) (v : Value) (frame : Frame) (env here : List Value) (whole : Part Value) where
+module _ (a : Case → Arm) (cs : List Case) (i : ℕ) (c : Case) (check : Option CheckId) (v : Value) (frame : Frame)
+    (env here : List Value) (whole : Part Value) where
   case_step : i < length cs → c ≡ get_or cs i c → whole ≡ first_case (map a (drop i cs)) check v frame env → here ≡ env
       → whole ≡ and_then (attempt (a c) v frame here) (λ o. or_next o
       (first_case (map a (drop (i + 1) cs)) check v frame env))

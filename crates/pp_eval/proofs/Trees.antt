@@ -72,7 +72,8 @@ level (layer.Tree c ys) (layer.Tree d ws) h =
     let same = ctor_same c d p.0 in
     let fields = all_same ys ws p.1 in cc
 
-self_level : (y : layer.Value-F S) → let z = map-Value S Value (λ v. v.0) y in equal_layer (map-Value Value (Value → Bool) equal z) z ≡ true
+self_level : (y : layer.Value-F S) → let z = map-Value S Value (λ v. v.0) y in
+    equal_layer (map-Value Value (Value → Bool) equal z) z ≡ true
 self_level (layer.Int n) = int_self n
 self_level (layer.Bool a) = truth_self a
 self_level (layer.Tree c ys) = rw (eq-eqb c.0 c.0 refl, all_self ys) refl

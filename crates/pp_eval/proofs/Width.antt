@@ -34,9 +34,12 @@ reach = most function_size
 abbrev pub width : List Function → ℕ
 width fs = 4 * reach fs + 8
 
-case_of_parts : (p : Pattern) (g : Option Expr) (b : Expr) → let c : Case = record { pattern = p; guard = g; body = b } in (option_size g < size-Case c) × (size-Expr b < size-Case c)
-case_of_parts p None b = let e = size_is-Case (record { pattern = p; guard = None; body = b }) in (omega (arith, e), omega (arith, e))
-case_of_parts p (Some g) b = let e = size_is-Case (record { pattern = p; guard = Some g; body = b }) in (omega (arith, e), omega (arith, e))
+case_of_parts : (p : Pattern) (g : Option Expr) (b : Expr) → let c : Case =
+    record { pattern = p; guard = g; body = b } in (option_size g < size-Case c) × (size-Expr b < size-Case c)
+case_of_parts p None b = let e = size_is-Case (record { pattern = p; guard = None; body = b }) in
+    (omega (arith, e), omega (arith, e))
+case_of_parts p (Some g) b = let e = size_is-Case (record { pattern = p; guard = Some g; body = b }) in
+    (omega (arith, e), omega (arith, e))
 
 -- a case is deeper than its guard and its body
 pub case_deeper : (c : Case) → (option_size c.guard < size-Case c) × (size-Expr c.body < size-Case c)

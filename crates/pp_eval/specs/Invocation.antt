@@ -35,15 +35,21 @@ module _ (calls : CallMeaning) where
   frame_of [] args = Ok None
   frame_of (e ∷ es) args = and_then (all (map (meaning calls) (e ∷ es)) None args) (λ values. Ok (Some values))
 
+  -- the measure list, and then the body in the frame of its values: `own` says what is made of a measure list that
+  -- stops, `asks` what is asked of the frame before the body, and `ends` what is made of the body
+  abbrev pub framed : {A : Type 0} → (Part Frame → Part Frame) → (Frame → Part ⊤) → (Frame → Part Value → Part A)
+      → Function → List Value → Part A
+  framed own asks ends f args =
+      and_then (own (frame_of f.measure args)) (λ new.
+      and_then (asks new) (λ _. ends new (meaning calls f.body new args)))
+
   -- a call of the function, which has the number g: its precondition, its measure list, which is compared, and its
   -- body. A call of a function that isn't there has no meaning.
   abbrev pub enters : List Ctor → Option Function → CallMeaning
   enters ctors None frame g pre measure args = Err Stuck
   enters ctors (Some f) frame g pre measure args =
       and_then (admits g f.pre pre args) (λ _.
-      and_then (inside g (frame_of f.measure args)) (λ new.
-      and_then (descends ctors measure frame new) (λ _.
-      inside g (meaning calls f.body new args))))
+      framed (inside g) (descends ctors measure frame) (λ new body. inside g body) f args)
 
 -- calls nested at most n deep, where those that are nested deeper do what is said first
 abbrev pub calls_over : CallMeaning → List Ctor → List Function → ℕ → CallMeaning

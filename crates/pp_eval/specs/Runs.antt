@@ -11,7 +11,7 @@ use Rattle.pp_prog.specs.Sorts.{have_sorts, param_sorts}
 use Rattle.pp_eval.specs.declared.outcome.Outcome.{Outcome}
 use Rattle.pp_eval.specs.declared.outcome.Outcome.TheVariants.{Done, Outside, Fails, Inner, Deep}
 use Rattle.pp_eval.specs.declared.outcome.Stop.TheVariants as stop
-use Rattle.pp_eval.specs.Invocation.{allowed, calls_to, frame_of}
+use Rattle.pp_eval.specs.Invocation.{allowed, calls_to, framed}
 use Rattle.pp_eval.specs.Meaning.{CallMeaning, Frame, meaning}
 use Rattle.pp_eval.specs.Operators.{truth}
 use Rattle.pp_eval.specs.Part.{Part, and_then, either}
@@ -36,8 +36,8 @@ module _ (calls : CallMeaning) where
   -- the measure list, the body and the postcondition, where the precondition is true
   abbrev pub started : Function → List Value → Part Outcome
   started f args =
-      and_then (frame_of calls f.measure args)
-      (λ frame. and_then (meaning calls f.body frame args) (λ v. finished f.post frame args v))
+      framed calls (λ frame. frame) (λ frame. Ok tt)
+      (λ frame body. and_then body (λ v. finished f.post frame args v)) f args
 
   -- the run of f, where this is what calls do
   abbrev pub run_with : Function → List Value → Part Outcome

@@ -21,6 +21,3 @@ pub use laws::{compare_trees, lasts_with_fuel, parts_last_with_fuel};
 pub use outcome::{Halt, Outcome, Stop};
 pub use runs::run;
 pub use std::alloc::AllocError as NoMemory;
-
-#[cfg(test)]
-mod tests;

@@ -1,5 +1,6 @@
 -- Whether one function reaches another can be decided, so a group that is known to be is at hand.
-use Rattle.std.proofs.Common.{◌≡◌, ◌≢◌, ◌==◌, nat_eq, ◌⊎◌, ◌<◌, ℕ, zero, suc, Bool, true, false, List, length, Contains, Decides, refl, subst, arith, inl, inr, ⊎_elim}
+use Rattle.std.proofs.Common.{◌≡◌, ◌≢◌, ◌==◌, nat_eq, ◌⊎◌, ◌<◌, ℕ, zero, suc, Bool, true, false, List, length, Contains}
+use Rattle.std.proofs.Common.{Decides, refl, subst, arith, inl, inr, ⊎_elim}
 use Rattle.std.proofs.Math.Bridge.{le_prop}
 use Rattle.std.proofs.Math.Logic.{∥∥₁_elim}
 use Rattle.std.proofs.Props.{props}
@@ -62,7 +63,8 @@ module _ (calls : List (List ℕ)) where
       below less join (inr v) (inl w) = inr (v.0, join k g h less v.1 w)
       below less join (inr v) (inr w) = inr (v.0, w.1)
 
-      by : ((nat_eq g k ≡ true) × (g ≡ k)) ⊎ ((nat_eq g k ≡ false) × (g ≢ k)) → Joins k → Via (suc k) f g → Via (suc k) g h → Via (suc k) f h
+      by : ((nat_eq g k ≡ true) × (g ≡ k)) ⊎ ((nat_eq g k ≡ false) × (g ≢ k)) → Joins k → Via (suc k) f g
+          → Via (suc k) g h → Via (suc k) f h
       by (inl e) join v w =
           inr (to_last k f (subst (λ n. Via (suc k) f n) e.1 v), from_last k h (subst (λ n. Via (suc k) n h) e.1 w))
       by (inr e) join v w = below (omega (arith, e.1)) join v w
@@ -78,7 +80,8 @@ module _ (calls : List (List ℕ)) where
 
   pub reaches_or_not : (f g : ℕ) → Reaches calls f g ⊎ (Reaches calls f g → ⊥)
   reaches_or_not f g =
-      elim (via_or_not (length calls) f g) [ inl v ↦ inl (via_reaches (length calls) f g v) | inr never ↦ inr (λ r. never (reaches_via f g r)) ]
+      elim (via_or_not (length calls) f g)
+      [ inl v ↦ inl (via_reaches (length calls) f g v) | inr never ↦ inr (λ r. never (reaches_via f g r)) ]
 
   same_or_not : (f g : ℕ) → (f ≡ g) ⊎ (f ≡ g → ⊥)
   same_or_not f g = or_not (f == g) (Decides-eqb f g)
@@ -92,7 +95,8 @@ module _ (calls : List (List ℕ)) where
   groups_sure groups known = record {
     size = ∥∥₁_elim known nat_prop (λ a. a.size);
     each = λ f n is. record {
-      inside = elim (group_or_not f n) [ inl s ↦ s | inr never ↦ absurd (∥∥₁_elim known ⊥_prop (λ a. never (a.each f n is).inside)) ];
+      inside = elim (group_or_not f n)
+          [ inl s ↦ s | inr never ↦ absurd (∥∥₁_elim known ⊥_prop (λ a. never (a.each f n is).inside)) ];
       least = λ g s. ∥∥₁_elim known le_prop (λ a. (a.each f n is).least g s);
     };
   }

@@ -1,5 +1,6 @@
 -- The first function of a group, read from the table of rows.
-use Rattle.std.proofs.Common.{◌≡◌, ◌⊎◌, ◌<◌, ◌≤◌, ◌+◌, ◌-◌, ℕ, zero, suc, Bool, true, false, ◌&&◌, List, length, refl, sym, ap, ◌∙◌, subst, arith, inl, inr, ⊎_elim}
+use Rattle.std.proofs.Common.{◌≡◌, ◌⊎◌, ◌<◌, ◌≤◌, ◌+◌, ◌-◌, ℕ, zero, suc, Bool, true, false, ◌&&◌, List, length, refl}
+use Rattle.std.proofs.Common.{sym, ap, ◌∙◌, subst, arith, inl, inr, ⊎_elim}
 use Rattle.std.proofs.lemmas.Bool.Decides.{eqb_tells}
 use Rattle.pp_graph.specs.Reaches.{Reaches, SameGroup, IsGroup, AreGroups}
 use Rattle.pp_graph.specs.Rows.{Tells, Grouped, mutual_at, first_or, first_from, group}
@@ -9,7 +10,8 @@ both : (a b : Bool) → a && b ≡ true → (a ≡ true) × (b ≡ true)
 both true b h = (refl, h)
 both false b h = cc
 
-pub first_on : (rows : List (List Bool)) (f g : ℕ) → g < f → mutual_at rows f g ≡ false → first_from rows f g (f - g) ≡ first_from rows f (g + 1) (f - (g + 1))
+pub first_on : (rows : List (List Bool)) (f g : ℕ) → g < f → mutual_at rows f g ≡ false
+    → first_from rows f g (f - g) ≡ first_from rows f (g + 1) (f - (g + 1))
 first_on rows f g lt h =
     let one : f - g ≡ suc (f - (g + 1)) = omega arith in
     let two : suc g ≡ g + 1 = omega arith in
@@ -27,7 +29,8 @@ pub group_least : (rows : List (List Bool)) (f : ℕ) → group rows f ≤ f
 group_least rows f = first_least rows f 0 f (omega arith)
 
 module _ (calls : List (List ℕ)) (rows : List (List Bool)) (t : Tells calls (length calls) rows) where
-  related : (f g : ℕ) → f < length calls → g < length calls → mutual_at rows f g ≡ true → Reaches calls f g × Reaches calls g f
+  related : (f g : ℕ) → f < length calls → g < length calls → mutual_at rows f g ≡ true → Reaches calls f g
+      × Reaches calls g f
   related f g inf ing h = let p = both _ _ h in ((t.tells f g inf ing).0 p.0, (t.tells g f ing inf).0 p.1)
 
   tested : (f g : ℕ) → Reaches calls f g → Reaches calls g f → mutual_at rows f g ≡ true
@@ -42,7 +45,8 @@ module _ (calls : List (List ℕ)) (rows : List (List Bool)) (t : Tells calls (l
   first_inside f g (suc k) inf e =
       by (mutual_at rows f g) refl (first_inside f (suc g) k inf (omega arith))
     where
-      by : (b : Bool) → mutual_at rows f g ≡ b → SameGroup calls f (first_from rows f (suc g) k) → SameGroup calls f (first_or b g (first_from rows f (suc g) k))
+      by : (b : Bool) → mutual_at rows f g ≡ b → SameGroup calls f (first_from rows f (suc g) k)
+          → SameGroup calls f (first_or b g (first_from rows f (suc g) k))
       by true h more = inr (related f g inf (omega arith) h)
       by false h more = more
 
@@ -56,7 +60,8 @@ module _ (calls : List (List ℕ)) (rows : List (List Bool)) (t : Tells calls (l
       same : h ≡ g → mutual_at rows f g ≡ true
       same is = subst (λ n. mutual_at rows f n ≡ true) is m
 
-      by : (b : Bool) → mutual_at rows f g ≡ b → h < first_or b g (first_from rows f (suc g) k) → (suc g ≤ h → h < first_from rows f (suc g) k → mutual_at rows f h ≡ true → ⊥) → ⊥
+      by : (b : Bool) → mutual_at rows f g ≡ b → h < first_or b g (first_from rows f (suc g) k)
+          → (suc g ≤ h → h < first_from rows f (suc g) k → mutual_at rows f h ≡ true → ⊥) → ⊥
       by true e1 lt more = absurd (omega arith)
       by false e1 lt more =
           ⊎_elim (λ is. let x : false ≡ true = sym e1 ∙ same is in cc) (λ gt. more gt lt m) (equal_or g h le)
@@ -80,5 +85,6 @@ module _ (calls : List (List ℕ)) (rows : List (List Bool)) (t : Tells calls (l
   pub are_groups : (groups : List ℕ) → Grouped rows (length rows) groups → AreGroups calls groups
   are_groups groups g = record {
     size = g.size ∙ t.size;
-    each = λ f n is. let p = g.each f n is in subst (λ m. IsGroup calls f m) (sym p.1) (group_is f (omega (arith, p.0, t.size)));
+    each = λ f n is. let p = g.each f n is in
+        subst (λ m. IsGroup calls f m) (sym p.1) (group_is f (omega (arith, p.0, t.size)));
   }

@@ -14,7 +14,8 @@ module _ (calls : List (List ℕ)) where
   -- a function that calls is one of the graph
   calls_within : (f g : ℕ) → Contains (calls_of calls f) g → f < length calls
   calls_within f g c =
-      elim (slice_get_cases calls f).1 [ inl here ↦ here.1 | inr past ↦ absurd (nothing g (subst (λ o. Contains (called_by o) g) past.1 c)) ]
+      elim (slice_get_cases calls f).1
+      [ inl here ↦ here.1 | inr past ↦ absurd (nothing g (subst (λ o. Contains (called_by o) g) past.1 c)) ]
 
   pub source_within : (f g : ℕ) → Reaches calls f g → f < length calls
   source_within _ _ (by_call f g c) = calls_within f g c

@@ -1,5 +1,6 @@
 -- What was found from a function on: a mark for each function, and the list of the marked ones. Source: own.
-use Rattle.std.specs.Prelude.{◌≡◌, ◌⊎◌, ◌<◌, ◌+◌, ℕ, Bool, true, false, not, List, [], ◌∷◌, ◌++◌, Option, Some, None, length, slice_get, Contains}
+use Rattle.std.specs.Prelude.{◌≡◌, ◌⊎◌, ◌<◌, ◌+◌, ℕ, Bool, true, false, not, List, [], ◌∷◌, ◌++◌, Option, Some, None}
+use Rattle.std.specs.Prelude.{length, slice_get, Contains}
 use Rattle.pp_graph.specs.declared.Front.{Front}
 use Rattle.pp_graph.specs.Rows.{marked}
 

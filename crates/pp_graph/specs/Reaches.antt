@@ -1,5 +1,6 @@
--- Which functions of a call graph reach which, and their groups. A graph is a list: at each function's place the numbers
--- of the functions that it calls. A number that is no place of the list names nothing, and calls nothing. Source: own.
+-- Which functions of a call graph reach which, and their groups. A graph is a list: at each function's place the
+-- numbers of the functions that it calls. A number that is no place of the list names nothing, and calls nothing.
+-- Source: own.
 use Rattle.std.specs.Prelude.{◌≡◌, ◌⊎◌, ◌≤◌, ℕ, List, [], Option, Some, None, length, slice_get, Contains}
 
 abbrev pub called_by : Option (List ℕ) → List ℕ

@@ -1,5 +1,6 @@
 -- The table of a call graph: a row of marks for each function, which says what the function reaches. Source: own.
-use Rattle.std.specs.Prelude.{◌≡◌, ◌↔◌, ◌<◌, ℕ, zero, suc, Bool, true, false, ◌&&◌, List, [], Option, Some, None, length, slice_get, IsTrue}
+use Rattle.std.specs.Prelude.{◌≡◌, ◌↔◌, ◌<◌, ℕ, zero, suc, Bool, true, false, ◌&&◌, List, [], Option, Some, None}
+use Rattle.std.specs.Prelude.{length, slice_get, IsTrue}
 use Rattle.pp_graph.specs.Reaches.{Reaches}
 
 abbrev pub is_set : Option Bool → Bool

@@ -1,11 +1,12 @@
 //! Call graphs: which functions reach which, and their groups.
 //!
 //! A graph is a list of lists of numbers: at each function's place, from 0, the functions that it calls. `row_of` says
-//! which functions one function reaches, and `groups_of` gives each function the number of its group, the least function
-//! that is the same, or that it reaches and is reached by. A number that is no place of the list names nothing.
+//! which functions one function reaches, and `groups_of` gives each function the number of its group, the least
+//! function that is the same, or that it reaches and is reached by. A number that is no place of the list names
+//! nothing.
 //!
-//! `specs/Reaches` says what a path is and what a group is, `specs/Rows` what a table of rows tells, `specs/Fronts` what a
-//! search has found on its way.
+//! `specs/Reaches` says what a path is and what a group is, `specs/Rows` what a table of rows tells, `specs/Fronts`
+//! what a search has found on its way.
 #![tactic(auto)]
 
 ghost use Rattle.std.specs.Prelude.{◌≡◌, ◌<◌, ◌^◌, IfOk, [], ◌∷◌, length};
@@ -159,6 +160,3 @@ pub fn groups_of(alloc: Global, calls: &[Items<u32>]) -> Result<Items<u32>, Allo
     let groups = groups_in(alloc, rows.as_slice())?;
     Ok(groups)
 }
-
-#[cfg(test)]
-mod tests;

@@ -26,7 +26,7 @@ use Rattle.pp_eval.specs.Part.{Part}
 use Rattle.pp_eval.specs.Runs.{run, run_at, run_with}
 use Rattle.pp_sound.specs.Sound.{IsCalled}
 use Rattle.pp_sound.proofs.Calls.{condition_fine, frame_fine, whole}
-use Rattle.pp_sound.proofs.Env.{Has, Have, have_more, have_one}
+use Rattle.pp_prog.proofs.ValueSorts.{Has, Have, have_more, have_one}
 use Rattle.pp_sound.proofs.Exprs.{AreGood, expr_sound}
 use Rattle.pp_sound.proofs.Laws.{keep_sorts}
 use Rattle.pp_sound.proofs.Operators.{judged}
@@ -34,7 +34,7 @@ use Rattle.pp_sound.proofs.Parts.{IsAny, IsFine, IsOwn, IsSorted, MayStop, fine_
 use Rattle.pp_sound.proofs.Parts.{fine_stop, fine_then, fine_value}
 use Rattle.pp_sound.proofs.Runs.{run_fine}
 use Rattle.pp_sound.proofs.Sites.{AreMet, met_left}
-use Rattle.pp_sound.proofs.Sorting.{has_the_sort_is}
+use Rattle.pp_prog.proofs.PartSorts.{has_the_sort_is}
 use Rattle.pp_run_laws.proofs.MeasureSorts.{told_value}
 use Rattle.pp_guess_runs.specs.Answers.{Answering, Answers, IsAnswering, answers_of, table, truth, value_done}
 use Rattle.pp_guess_runs.specs.Guess.{agreed, called, compared, done, fails, guess, guessed, held, skip, is_check}

@@ -5,8 +5,7 @@ use Rattle.std.specs.Prelude.{nat_eq}
 use Rattle.std.proofs.lemmas.Bool.{and_from}
 use Rattle.std.proofs.lemmas.Option.{slice_get_cases, slice_get_within}
 use Rattle.pp_prog.specs.declared.program.Program.{Program}
-use Rattle.pp_checks.specs.declared.tables.Plan.{Plan}
-use Rattle.pp_checks.specs.Plan.{IsPlanOf}
+use Rattle.pp_checks.specs.Plan.{IsPlanOf, Plan}
 use Rattle.pp_induction.specs.Ends.{AreSettled, IsExhausted, IsProved, IsSettled}
 use Rattle.pp_induction.proofs.Ranks.{settled_are_good}
 use Rattle.pp_induct.specs.declared.concluding.Unsettled.TheVariants as way

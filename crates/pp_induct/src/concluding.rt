@@ -38,7 +38,7 @@ pub fn conclude(
 {
     let undone = undone_functions(alloc, program, ends)?;
     let mut verdicts = Items::new(alloc);
-    for f in 0..program.functions() {
+    for f in 0..program.function_count() {
         verdicts.push(verdict_of(program, plan, ends, undone.as_slice(), FunctionId(f)))?;
     }
     Ok(verdicts)
@@ -78,14 +78,14 @@ fn undone_functions(
     ensures { IfOk result (λ marks. MarkUndone program.now ends.now marks (length program.now.functions)) }
 {
     let mut marks = Items::new(alloc);
-    for f in 0..program.functions() {
+    for f in 0..program.function_count() {
         marks.push(is_undone(program.checks(), ends, FunctionId(f)))?;
     }
     Ok(marks)
 }
 
 /// Whether f has a check which isn't settled.
-pub(crate) fn is_undone(checks: &[Check], ends: &[CheckEnd], f: FunctionId) -> bool
+fn is_undone(checks: &[Check], ends: &[CheckEnd], f: FunctionId) -> bool
     requires few { length checks.now < 2 ^ 32 }
     ensures { IsTrue result ↔ HasUndone checks.now ends.now f.0 }
 {
@@ -94,7 +94,7 @@ pub(crate) fn is_undone(checks: &[Check], ends: &[CheckEnd], f: FunctionId) -> b
 }
 
 /// The first check of f that ended so.
-pub(crate) fn first_check(
+fn first_check(
     checks: &[Check],
     ends: &[CheckEnd],
     f: FunctionId,
@@ -166,7 +166,7 @@ fn first_undone(
     ensures { MatchOption result (NoneMarked program.now undone.now f.0)
         (λ g. IsFirstMarked program.now undone.now f.0 g.0) }
 {
-    for g in 0..program.functions() {
+    for g in 0..program.function_count() {
         if undone[g as usize] && plan.in_cone(f, FunctionId(g)) {
             return Some(FunctionId(g));
         }

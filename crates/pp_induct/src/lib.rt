@@ -18,6 +18,3 @@ pub use laws::{closed_are_decided, failing_are_found};
 pub use limits::Limits;
 pub use std::alloc::AllocError as NoMemory;
 pub use verdict::{Report, Verdict, Verdicts};
-
-#[cfg(test)]
-mod tests;

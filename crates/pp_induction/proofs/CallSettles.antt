@@ -22,7 +22,7 @@ use Rattle.pp_eval.specs.Runs.{finished, run, run_at, started}
 use Rattle.pp_eval.proofs.Trees.{equal_self}
 use Rattle.pp_sound.specs.Sound.{IsCalled, IsCheckOf}
 use Rattle.pp_sound.proofs.Calls.{condition_fine, whole}
-use Rattle.pp_sound.proofs.Env.{Has, have_more, have_one}
+use Rattle.pp_prog.proofs.ValueSorts.{Has, have_more, have_one}
 use Rattle.pp_sound.proofs.Exprs.{AreGood, expr_sound}
 use Rattle.pp_sound.proofs.Parts.{IsAny, IsFine, MayStop, fine_value}
 use Rattle.pp_sound.proofs.Sites.{AreMet, met_head, met_left, met_right}

@@ -19,14 +19,15 @@ use Rattle.pp_eval.specs.Meaning.{CallMeaning, Frame}
 use Rattle.pp_eval.specs.Measure.{is_below}
 use Rattle.pp_eval.specs.Part.{Part, and_then, either, failed}
 use Rattle.pp_sound.specs.Sound.{AnswersSorted}
-use Rattle.pp_sound.proofs.Env.{Have}
+use Rattle.pp_prog.proofs.ValueSorts.{Have}
 use Rattle.pp_sound.proofs.Exprs.{AreGood}
 use Rattle.pp_sound.proofs.Laws.{keep_sorts}
 use Rattle.pp_sound.proofs.Parts.{IsAny, IsFine, IsOwn, IsSorted, MayStop, fine_failed, fine_stop, fine_then}
 use Rattle.pp_sound.proofs.Parts.{fine_value}
 use Rattle.pp_sound.proofs.Sites.{IsMet}
 use Rattle.pp_run_laws.specs.Laws.{SameAt}
-use Rattle.pp_run_laws.proofs.Known.{answers_good, contains_or_not}
+use Rattle.pp_sound.proofs.Laws.{answers_good}
+use Rattle.pp_run_laws.proofs.Known.{contains_or_not}
 use Rattle.pp_guess_runs.specs.Guess.{or_deep}
 use Rattle.pp_induction.proofs.Fates.{Fate, FailsDescent, IsContract, IsTold, IsToldCall, descent, fate_part, reaches}
 use Rattle.pp_induction.proofs.Fates.{refused}

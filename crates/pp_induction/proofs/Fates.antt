@@ -18,7 +18,7 @@ use Rattle.pp_eval.specs.Runs.{run}
 use Rattle.pp_run_laws.proofs.Eventually.{Eventually, both_eventually, mapped}
 use Rattle.pp_run_laws.proofs.Follows.{Comes, Follows, Stops, comes_inside, follows_comes, follows_eventually}
 use Rattle.pp_run_laws.proofs.Follows.{follows_later, follows_lost, follows_same, follows_then}
-use Rattle.pp_run_laws.proofs.Parts.{entered_call, refused_call}
+use Rattle.pp_run_laws.proofs.Parts.{entered_call, failed_stays, refused_call}
 use Rattle.pp_run_laws.proofs.Stops.{failed_stops}
 use Rattle.pp_guess_runs.specs.Guess.{compared, is_check, one_less, or_deep, own_call}
 use Rattle.pp_induction.proofs.Views.{IsKept, NotInner, View, called_over, calls_in, deep_lost, frame_in, in_called}
@@ -149,11 +149,7 @@ module _ (ctors : List Ctor) (fs : List Function) where
 
         own_refused : allowed contracts h.pre args ≡ Ok false
             → own_call ctors c contracts outer (Some h) old g pre down args ≡ failed pre
-        own_refused e = goes_on false e ∙ stays pre _
-          where
-            stays : (check : Option CheckId) (go : ⊤ → Part Value) → and_then (failed check) go ≡ failed check
-            stays None go = refl
-            stays (Some d) go = refl
+        own_refused e = goes_on false e ∙ failed_stays pre _
 
         own_reached : (new : Frame) → allowed contracts h.pre args ≡ Ok true
             → frame_of contracts h.measure args ≡ Ok new

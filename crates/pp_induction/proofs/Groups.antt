@@ -11,8 +11,7 @@ use Rattle.pp_prog.specs.declared.program.Program.{Program}
 use Rattle.pp_prog.specs.Calls.{OneGroup, call_table, calls, function_calls, post_calls}
 use Rattle.pp_prog.specs.Cone.{InCone}
 use Rattle.pp_prog.specs.Valid.{is_written}
-use Rattle.pp_checks.specs.declared.tables.Plan.{Plan}
-use Rattle.pp_checks.specs.Plan.{IsPlanOf}
+use Rattle.pp_checks.specs.Plan.{IsPlanOf, Plan}
 use Rattle.pp_checks.specs.Ranks.{IsRank}
 use Rattle.pp_checks.specs.Rules.{contract_calls}
 use Rattle.pp_checks.proofs.Ruling.{calls_at}

@@ -19,9 +19,8 @@ use Rattle.pp_eval.specs.Meaning.{Frame}
 use Rattle.pp_eval.specs.Measure.{is_below}
 use Rattle.pp_eval.specs.Runs.{IsGood, run}
 use Rattle.pp_sound.specs.Sound.{IsCalled}
-use Rattle.pp_sound.proofs.Env.{Have}
-use Rattle.pp_checks.specs.declared.tables.Plan.{Plan}
-use Rattle.pp_checks.specs.Plan.{IsPlanOf}
+use Rattle.pp_prog.proofs.ValueSorts.{Have}
+use Rattle.pp_checks.specs.Plan.{IsPlanOf, Plan}
 use Rattle.pp_checks.specs.Ranks.{IsRank}
 use Rattle.pp_checks.proofs.Cones.{one_rank}
 use Rattle.pp_checks.proofs.Plans.{lower_called, lower_in_contract}

@@ -6,7 +6,7 @@ use Rattle.pp_prog.specs.declared.id.FunctionId.{FunctionId}
 use Rattle.pp_prog.specs.declared.types.Ctor.{Ctor}
 use Rattle.pp_prog.specs.declared.value.Value.{Value}
 use Rattle.pp_prog.specs.Sorts.{have_sorts, param_sorts}
-use Rattle.pp_sound.proofs.Env.{Have}
+use Rattle.pp_prog.proofs.ValueSorts.{Have}
 use Rattle.pp_run_laws.proofs.Known.{contains_or_not}
 
 module _ (ctors : List Ctor) (fs : List Function) (gs : List ℕ) where

@@ -10,9 +10,8 @@ use Rattle.pp_eval.specs.declared.outcome.Outcome.TheVariants.{Fails}
 use Rattle.pp_eval.specs.Runs.{IsGood, run}
 use Rattle.pp_sound.specs.Counterexample.{AreLow}
 use Rattle.pp_sound.specs.Sound.{IsCalled, IsCheckOf}
-use Rattle.pp_checks.specs.declared.tables.Plan.{Plan}
 use Rattle.pp_checks.specs.Closed.{Closed}
-use Rattle.pp_checks.specs.Plan.{IsPlanOf}
+use Rattle.pp_checks.specs.Plan.{IsPlanOf, Plan}
 use Rattle.pp_guess_runs.specs.Answers.{Answering, IsAnswering}
 use Rattle.pp_guess_runs.specs.Guess.{fails, guess}
 

@@ -5,7 +5,7 @@ use Rattle.std.specs.Prelude.{Some, None, All, Contains, if◌then◌else◌, sl
 use Rattle.std.specs.List.{sum_by}
 use Rattle.std.proofs.lemmas.List.{take-map}
 use Rattle.std.proofs.lemmas.List.Elements.{All-contains, All-contains_itself, All-filter}
-use Rattle.std.proofs.lemmas.Option.{slice_get-get_or}
+use Rattle.std.proofs.lemmas.Option.{same_Some, slice_get-get_or}
 use Rattle.pp_instances.specs.Same.{place_of}
 use Rattle.pp_instances.specs.Uses.{ctor_mentions, function_at, root_at, types_in, types_of}
 use Rattle.pp_instances.specs.declared.member.Decl.TheVariants.{Root}
@@ -31,7 +31,7 @@ use Rattle.pp_typed.specs.declared.typed.TypedCtor.{TypedCtor}
 use Rattle.pp_typed.specs.declared.typed.TypedDef.{TypedDef}
 use Rattle.pp_typed.specs.declared.typed.TypedRoot.{TypedRoot}
 use Rattle.pp_validity.proofs.Known.{HasTypes, IsFunctionAt, IsKnown, IsOnlyAt}
-use Rattle.pp_validity.proofs.Placed.{at_rank, ctor_found, data_found, datatype, some_same}
+use Rattle.pp_validity.proofs.Placed.{at_rank, ctor_found, data_found, datatype}
 use Rattle.pp_validity.proofs.Signatures.{IsSignature, signatures}
 use Rattle.pp_validity.proofs.Types.{types_put}
 
@@ -122,7 +122,7 @@ module _ (typed : Typed) (ms : List Member) (fs rs : List Instance) (set : Setti
       → Contains ms (root_at r args) → length args ≡ root.type_params
   all_args r root args at has =
       let o = root_of_member typed ms fs rs set s r args has in
-      o.all ∙ ap (λ (z : TypedRoot). z.type_params) (some_same (sym o.declared ∙ at))
+      o.all ∙ ap (λ (z : TypedRoot). z.type_params) (same_Some _ _ (sym o.declared ∙ at))
 
   module _ (texts : List (List ℕ)) (all : List ProgramFunction) (cs : List CheckAt)
       (t : AreTranslated typed texts fs set all cs) where

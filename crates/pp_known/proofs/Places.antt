@@ -2,7 +2,7 @@
 use Rattle.std.proofs.Common.{◌≡◌, ◌<◌, ℕ, zero, suc, List, [], ◌∷◌, map, length, refl, sym, ap, ◌∙◌, subst, arith}
 use Rattle.std.specs.Prelude.{Option, Some, None, slice_get, Contains}
 use Rattle.std.specs.Option.{option_map}
-use Rattle.std.proofs.lemmas.Option.{slice_get-map}
+use Rattle.std.proofs.lemmas.Option.{same_Some, slice_get-map}
 use Rattle.pp_instances.specs.Order.{IsListing, MemberOf}
 use Rattle.pp_instances.specs.Same.{place_of}
 use Rattle.pp_instances.specs.declared.member.Instance.{Instance}
@@ -10,7 +10,7 @@ use Rattle.pp_instances.specs.declared.member.Member.{Member}
 use Rattle.pp_members.proofs.Lists.{mapped_in}
 use Rattle.pp_translation.specs.Numbers.{stands_for}
 use Rattle.pp_typed.specs.declared.typed.Typed.{Typed}
-use Rattle.pp_validity.proofs.Placed.{placed, some_same}
+use Rattle.pp_validity.proofs.Placed.{placed}
 
 -- what stands at a place
 pub record HasAt {A : Type 0} (xs : List A) (n : ℕ) : Type 0 where
@@ -42,7 +42,7 @@ placed_by : (kind : MemberOf) (listed : List Instance) (members : List Member) (
     → slice_get listed (place_of members m) ≡ o → option_map (stands_for kind) o ≡ Some m
     → IsPlaced kind listed members m
 placed_by kind listed members m None at is = let no : None ≡ Some m = is in cc
-placed_by kind listed members m (Some i) at is = record { i = i; at = at; is = some_same is }
+placed_by kind listed members m (Some i) at is = record { i = i; at = at; is = same_Some _ _ is }
 
 -- a member of the listing has its place
 pub place_found : (typed : Typed) (kind : MemberOf) (ms : List Member) (listed : List Instance) (members : List Member)

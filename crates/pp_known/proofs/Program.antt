@@ -3,7 +3,7 @@ use Rattle.std.proofs.Common.{◌≡◌, ℕ, zero, suc, ◌+◌, ◌<◌, ◌^�
 use Rattle.std.proofs.Common.{arith}
 use Rattle.std.specs.Prelude.{Some, None, slice_get}
 use Rattle.std.proofs.lemmas.List.{append-nil}
-use Rattle.std.proofs.lemmas.Option.{slice_get_within}
+use Rattle.std.proofs.lemmas.Option.{same_Some, slice_get_within}
 use Rattle.pp_instances.specs.declared.member.Decl.TheVariants.{Function, Root}
 use Rattle.pp_instances.specs.declared.member.Instance.{Instance}
 use Rattle.pp_instances.specs.declared.member.Member.{Member}
@@ -25,7 +25,6 @@ use Rattle.pp_translation.specs.Places.{places_of}
 use Rattle.pp_translation.specs.Setting.{Setting}
 use Rattle.pp_translation.specs.declared.frame.CheckAt.{CheckAt}
 use Rattle.pp_typed.specs.declared.typed.Typed.{Typed}
-use Rattle.pp_validity.proofs.Placed.{some_same}
 use Rattle.pp_validity.proofs.Whole.{AreWhole, place_of, whole}
 
 as_many : (texts : List (List ℕ)) (n : ℕ) (cs : List CheckAt) → length (checks_from texts n cs) ≡ length cs
@@ -37,7 +36,7 @@ numbered_from : (texts : List (List ℕ)) (n : ℕ) (cs : List CheckAt) (i : ℕ
     → slice_get (checks_from texts n cs) i ≡ Some c → c.id.0 ≡ n + i
 numbered_from texts n [] i c h = let no : None ≡ Some c = h in cc
 numbered_from texts n (d ∷ cs) zero c h =
-    let e : n ≡ n + 0 = omega arith in ap (λ (z : Check). z.id.0) (sym (some_same h)) ∙ e
+    let e : n ≡ n + 0 = omega arith in ap (λ (z : Check). z.id.0) (sym (same_Some _ _ h)) ∙ e
 numbered_from texts n (d ∷ cs) (suc i) c h =
     let e : suc n + i ≡ n + suc i = omega arith in numbered_from texts (suc n) cs i c h ∙ e
 

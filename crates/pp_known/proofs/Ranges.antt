@@ -3,8 +3,8 @@ use Rattle.std.proofs.Common.{◌≡◌, ℕ, suc, ◌+◌, nat_lt, Bool, true, 
 use Rattle.std.proofs.Common.{ap, ◌∙◌, subst, arith}
 use Rattle.std.specs.Prelude.{Some, Contains, slice_get}
 use Rattle.std.specs.List.{list_all}
-use Rattle.std.proofs.lemmas.Bool.{lt-ltb}
-use Rattle.std.proofs.lemmas.Option.{slice_get_within}
+use Rattle.std.proofs.lemmas.Bool.{and_from, lt-ltb}
+use Rattle.std.proofs.lemmas.Option.{same_Some, slice_get_within}
 use Rattle.pp_instances.proofs.Mentioned.{types_root}
 use Rattle.pp_instances.specs.Same.{joined, place_of}
 use Rattle.pp_instances.specs.Uses.{function_at, param_types, root_at, types_in, types_of}
@@ -35,19 +35,14 @@ use Rattle.pp_typed.specs.declared.typed.TypedDef.{TypedDef}
 use Rattle.pp_typed.specs.declared.typed.TypedParam.{TypedParam}
 use Rattle.pp_validity.proofs.Ground.{ground_int, ground_bool, ground_root}
 use Rattle.pp_validity.proofs.Known.{HasTypes}
-use Rattle.pp_validity.proofs.Placed.{some_same}
 use Rattle.pp_validity.proofs.Types.{types_put}
 use Rattle.pp_validity.proofs.Within.{Within, in_left, in_right}
-
-both_true : (a b : Bool) → a ≡ true → b ≡ true → a && b ≡ true
-both_true true b h k = k
-both_true false b h k = let no : false ≡ true = h in cc
 
 -- what holds at each place holds of all
 pub all_pass : {A : Type 0} (p : A → Bool) (xs : List A) → ((n : ℕ) (x : A) → slice_get xs n ≡ Some x → p x ≡ true)
     → list_all p xs ≡ true
 all_pass p [] h = refl
-all_pass p (x ∷ xs) h = both_true (p x) (list_all p xs) (h 0 x refl) (all_pass p xs (λ n y at. h (suc n) y at))
+all_pass p (x ∷ xs) h = and_from (p x) (list_all p xs) (h 0 x refl) (all_pass p xs (λ n y at. h (suc n) y at))
 
 as_many : (all : List TypedCtor) (first : ℕ) (rs : List Instance) → length (datatypes_from all first rs) ≡ length rs
 as_many all first [] = refl
@@ -89,7 +84,7 @@ module _ (typed : Typed) (ms : List Member) (fs rs : List Instance) (set : Setti
     sort_of_function p range within =
         let m = function_of_member typed ms fs rs set s f args has in
         let count : length args ≡ d.type_params =
-        m.all ∙ ap (λ (z : TypedDef). z.type_params) (some_same (sym m.declared ∙ at)) in
+        m.all ∙ ap (λ (z : TypedDef). z.type_params) (same_Some _ _ (sym m.declared ∙ at)) in
         ground_is_sort (put_in_range args typed.roots d.type_params 0 m.ground count range)
         (types_put ms args (args_have_types typed ms fs rs set s (function_at f args) has) p within)
 
@@ -98,7 +93,7 @@ module _ (typed : Typed) (ms : List Member) (fs rs : List Instance) (set : Setti
         → list_all (is_sort set.types.datatypes) (map (sort_at set.roots args) (param_sorts ps)) ≡ true
     sorts_of_function [] h within = refl
     sorts_of_function (p ∷ ps) (more_in_range here more) within =
-        both_true _ _ (sort_of_function p.of here
+        and_from _ _ (sort_of_function p.of here
         (in_left ms args (types_in p.of) (joined (map param_types ps)) within))
         (sorts_of_function ps more (in_right ms args (types_in p.of) (joined (map param_types ps)) within))
 
@@ -116,8 +111,9 @@ module _ (typed : Typed) (ms : List Member) (fs rs : List Instance) (set : Setti
         let within = signature_within typed ms fs rs set s i.number d i.args e.1 has in
         let params = joined (map param_types d.params) in
         let result = types_in d.result in
-        subst (λ (z : ProgramFunction). is_in_range set.types.datatypes z ≡ true) (some_same (sym sig.found ∙ found))
-        (both_true _ _
+        subst (λ (z : ProgramFunction). is_in_range set.types.datatypes z ≡ true)
+        (same_Some _ _ (sym sig.found ∙ found))
+        (and_from _ _
         (ap (list_all (is_sort set.types.datatypes)) sig.params
         ∙ sorts_of_function i.number d i.args e.1 has d.params def.params (in_left ms i.args params result within))
         (ap (is_sort set.types.datatypes) sig.result ∙ sort_of_function i.number d i.args e.1 has d.result def.result

@@ -44,7 +44,8 @@ guard_nodes (Some guard) = nodes guard
 abbrev nodes_of_case : TypedCase → ℕ
 nodes_of_case = fold-TypedCase ℕ ℕ ℕ kind_nodes case_nodes expr_nodes
 
--- the most checks of a function with so many nodes, and of each function of small typed units, which has fewer than 2^22
+-- the most checks of a function with so many nodes, and of each function of small typed units, which has fewer than
+-- 2^22
 abbrev most_checks : ℕ → ℕ
 most_checks n = 2 * n + 1
 

@@ -87,7 +87,8 @@ root_types r (k ∷ ks) m c =
 uses_types : (typed : Typed) (d : Decl) (r : ℕ) (args : List GenericSort) → d ≡ Root r
     → AreTypes (map (at_args args) (decl_mentions typed d))
 uses_types typed d r args is m c =
-    let from : IsMapped (at_args args) (decl_mentions typed d) m = in_mapped (at_args args) (decl_mentions typed d) m c in
+    let from : IsMapped (at_args args) (decl_mentions typed d) m =
+    in_mapped (at_args args) (decl_mentions typed d) m c in
     let one = root_types r typed.ctors from.from
     (subst (λ z. Contains (decl_mentions typed z) from.from) is from.has) in
     (one.0, ap (λ z. z.of) from.is ∙ one.1)

@@ -1,7 +1,7 @@
 //! From typed units to the one program of their instances.
 //!
-//! `specs/Concrete` says which program belongs to typed units, in the words of `pp_translation`, and `specs/Limits` how
-//! large typed units may be.
+//! `specs/Concrete` says which program belongs to typed units, in the words of `pp_translation`, and
+//! `pp_typed/specs/Limits` how large typed units may be.
 #![tactic(auto)]
 
 mod fault;

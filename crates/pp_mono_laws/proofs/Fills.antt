@@ -3,7 +3,7 @@ use Rattle.std.proofs.Common.{◌≡◌, ◌⊎◌, ◌↔◌, ◌<◌, ◌≤�
 use Rattle.std.proofs.Common.{slice_get, refl, sym, ap, ◌∙◌, subst, inl, inr, ⊎_elim, arith}
 use Rattle.std.proofs.lemmas.Bool.{cases_lt}
 use Rattle.std.proofs.lemmas.List.Elements.{Contains-append_left}
-use Rattle.std.proofs.lemmas.Option.{slice_get_within}
+use Rattle.std.proofs.lemmas.Option.{same_Some, slice_get_within}
 use Rattle.pp_instances.proofs.Kept.{nothing_in}
 use Rattle.pp_instances.specs.Closure.{AreInstances, Distinct, Filled, FillsOver, HasInstance, Used, at_first}
 use Rattle.pp_instances.specs.Closure.{at_start, by_use, has_none, has_some}
@@ -45,9 +45,6 @@ fit_in (x ∷ xs) ys once more =
     let size = w.size in
     omega arith
 
-same_some : {A : Type 0} {x y : A} → Some x ≡ Some y → x ≡ y
-same_some e = cc
-
 module _ (typed : Typed) where
   -- the seeds are told by how many functions have been looked at
   one_filling : {f g : ℕ} {s t : List Member} → Filled typed f s → Filled typed g t → f ≡ g → s ≡ t
@@ -66,7 +63,7 @@ module _ (typed : Typed) where
       (subst (λ l. HasInstance typed l g) (sym (one_filling p q n)) j)))
   one_filling (has_none f s d p lacks at) (has_none g t k q nor there) e =
       let n : f ≡ g = omega (arith, e) in
-      let same : d ≡ k = same_some (sym at ∙ ap (slice_get typed.defs) n ∙ there) in
+      let same : d ≡ k = same_Some _ _ (sym at ∙ ap (slice_get typed.defs) n ∙ there) in
       ap (λ l. l ++ at_ints f d ∷ []) (one_filling p q n) ∙ ap (λ i. t ++ at_ints i d ∷ []) n
       ∙ ap (λ z. t ++ at_ints g z ∷ []) same
 

@@ -5,7 +5,6 @@ pub mod Tables
 mod Slots
 mod Refill
 mod Refunction
-mod Parts
 mod Slotted
 mod BareSorts
 mod BareSites

@@ -27,9 +27,8 @@ use Rattle.pp_prog.specs.declared.expr.Pattern.{Pattern}
 use Rattle.pp_prog.specs.declared.id.CheckId.{CheckId}
 use Rattle.pp_prog.specs.declared.sort.Sort.{Sort}
 use Rattle.pp_prog.specs.declared.types.TypeTable.{TypeTable}
-use Rattle.pp_sound.proofs.Sorting.{alike_are, bool_then, call_sort_is, has_the_sort_is, sort_then, tree_sort_is}
-use Rattle.pp_sound.proofs.Sorting.{tree_then}
-use Rattle.pp_mono_laws.proofs.Parts.{binary_parts, sort_there, unary_part}
+use Rattle.pp_prog.proofs.PartSorts.{alike_are, binary_parts, bool_then, call_sort_is, has_the_sort_is, some_sort}
+use Rattle.pp_prog.proofs.PartSorts.{sort_then, tree_sort_is, tree_then, unary_part}
 use Rattle.pp_mono_laws.proofs.Slots.{Slots, case_slots, case_step, function_slots, post_slots, pre_slots, slot_of}
 use Rattle.pp_mono_laws.proofs.Slots.{slot_step, slots}
 
@@ -243,7 +242,7 @@ module _ (types : TypeTable) (fs : List Function) where
   measure_has [] scope h = refl
   measure_has (e ∷ es) scope h =
       let parts = and_parts _ _ h in
-      let s = sort_there (S e scope) parts.0 in
+      let s = some_sort (S e scope) parts.0 in
       both_slotted (In e scope) (measure_sites types fs es scope)
       (sites_slots e scope s.0 s.1) (measure_has es scope parts.1)
 

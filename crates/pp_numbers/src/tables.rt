@@ -1,6 +1,7 @@
 //! Tables of numbers are made.
 
-ghost use Rattle.std.specs.Prelude.{◌≡◌, ◌<◌, ◌≤◌, ◌^◌, ◌+◌, ℕ, Some, IfOk, All, length, map, replicate, slice_get, slice_set};
+ghost use Rattle.std.specs.Prelude.{◌≡◌, ◌<◌, ◌≤◌, ◌^◌, ◌+◌, ℕ, Some, IfOk, All, length, map, replicate, slice_get};
+ghost use Rattle.std.specs.Prelude.{slice_set};
 ghost use Rattle.pp_instances.specs.Closure.{Distinct};
 ghost use Rattle.pp_instances.specs.Same.{with_member};
 ghost use Rattle.pp_instances.specs.declared.member.Decl.TheVariants.{Function, Root};
@@ -42,7 +43,8 @@ pub(crate) fn count_of(ctors: &[TypedCtor], r: u32) -> u32
 /// At each datatype's place its first constructor, and one more for the end.
 fn firsts_of(alloc: Global, ctors: &[TypedCtor], roots: &[Member]) -> Result<Items<u32>, NoMemory>
     requires { HasRoom ctors.now roots.now }
-    ensures { IfOk result (λ firsts. (d : ℕ) → d ≤ length roots.now → slice_get firsts d ≡ Some (first_of ctors.now roots.now d)) }
+    ensures { IfOk result (λ firsts. (d : ℕ) → d ≤ length roots.now
+        → slice_get firsts d ≡ Some (first_of ctors.now roots.now d)) }
 {
     let mut firsts = Items::new(alloc);
     let mut first = 0;

@@ -19,12 +19,11 @@ use Rattle.pp_eval.specs.Meaning.{CallMeaning, Frame, meaning}
 use Rattle.pp_eval.specs.Operators.{truth}
 use Rattle.pp_eval.specs.Part.{Part, and_then, either, inside}
 use Rattle.pp_sound.proofs.Calls.{whole}
-use Rattle.pp_sound.proofs.Env.{Have}
+use Rattle.pp_prog.proofs.ValueSorts.{Have}
 use Rattle.pp_sound.proofs.Exprs.{AreGood}
 use Rattle.pp_sound.proofs.Sites.{IsMet}
-use Rattle.pp_checks.specs.declared.tables.Plan.{Plan}
 use Rattle.pp_checks.specs.Plain.{first_param_of}
-use Rattle.pp_checks.specs.Plan.{IsPlanOf}
+use Rattle.pp_checks.specs.Plan.{IsPlanOf, Plan}
 use Rattle.pp_checks.specs.Rules.{measure_sorts}
 use Rattle.pp_checks.proofs.Plans.{shared_sorts}
 use Rattle.pp_run_laws.proofs.MeasureSorts.{calls_to_good, component_sorts, frame_sorted, told_value}

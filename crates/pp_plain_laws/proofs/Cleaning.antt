@@ -24,10 +24,10 @@ use Rattle.pp_eval.specs.Meaning.{CallMeaning, Frame, Meaning, all_from, arm, at
 use Rattle.pp_eval.specs.Meaning.{first_case, guarded, meaning, meaning_step, or_next, taken}
 use Rattle.pp_eval.specs.Meaning as mean
 use Rattle.pp_eval.specs.Part.{Part}
-use Rattle.pp_sound.proofs.Env.{Has, Have, have_more}
+use Rattle.pp_prog.proofs.ValueSorts.{Has, Have, have_more}
 use Rattle.pp_sound.proofs.Patterns.{pattern_fine}
 use Rattle.pp_sound.proofs.Sites.{AreMet, met_left, met_right}
-use Rattle.pp_sound.proofs.Sorting.{bool_then}
+use Rattle.pp_prog.proofs.PartSorts.{bool_then}
 use Rattle.pp_checks.specs.Plain.{CaseDescents, Seen, case_step, in_guard, marks_of, seen_step}
 use Rattle.pp_plain_laws.proofs.Counts.{count_append, places_append}
 use Rattle.pp_plain_laws.proofs.Patterns.{pattern_marked}

@@ -1,6 +1,6 @@
 -- The measures of a plain descent: the first component goes down to a proper subtree, and the sorts are the same.
 use Rattle.std.proofs.Common.{◌≡◌, ℕ, Bool, true, false, ◌&&◌, ◌||◌, List, [], ◌∷◌, map, Option, Some, None, Ok}
-use Rattle.std.proofs.Common.{slice_get, length, refl, sym, ap, ◌∙◌, eq-eqb}
+use Rattle.std.proofs.Common.{slice_get, length, refl, sym, ap, ◌∙◌}
 use Rattle.std.specs.Prelude.{if◌then◌else◌, nat_lt}
 use Rattle.std.proofs.lemmas.Bool.{and_from, and_parts}
 use Rattle.pp_prog.specs.declared.expr.Case.{Case}
@@ -11,63 +11,27 @@ use Rattle.pp_prog.specs.declared.expr.Expr.TheViews.{out-Expr}
 use Rattle.pp_prog.specs.declared.expr.Function.{Function}
 use Rattle.pp_prog.specs.declared.id.CtorId.{CtorId}
 use Rattle.pp_prog.specs.declared.sort.Sort.{Sort}
-use Rattle.pp_prog.specs.declared.sort.Sort.TheVariants as sort
 use Rattle.pp_prog.specs.declared.types.Ctor.{Ctor}
 use Rattle.pp_prog.specs.declared.value.Value.{Value}
-use Rattle.pp_prog.specs.declared.value.Value.TheFolds.{map-Value}
 use Rattle.pp_prog.specs.declared.value.Value.TheOpen as value
 use Rattle.pp_prog.specs.declared.value.Value.TheVariants.{Tree, outs-Tree}
 use Rattle.pp_prog.specs.declared.value.Value.TheViews.{out-Value}
-use Rattle.pp_prog.specs.Sorts.{has_sort, has_step, is_int, same_sort}
+use Rattle.pp_prog.specs.Sorts.{has_sort}
 use Rattle.pp_prog.specs.Values.{IsBelow, is_deeper, is_field}
 use Rattle.pp_eval.specs.Invocation.{frame_of}
 use Rattle.pp_eval.specs.Equality.{equal}
-use Rattle.pp_eval.specs.Measure.{falls, goes_down, is_below, layer_down, of_one_shape, one_datatype, one_sort}
+use Rattle.pp_eval.specs.Measure.{falls, goes_down, is_below, layer_down, of_one_shape, one_sort}
 use Rattle.pp_eval.specs.Meaning.{Arm, CallMeaning, Frame, Meaning, all_from, arm_step, meaning, meaning_step}
 use Rattle.pp_eval.specs.Meaning as mean
 use Rattle.pp_eval.specs.Part.{found}
 use Rattle.pp_eval.proofs.Trees.{below_true}
-use Rattle.pp_sound.proofs.Env.{Has, Have, level_has, tree_is}
-use Rattle.pp_sound.proofs.Env as sorts
+use Rattle.pp_eval.proofs.Alike.{alike}
+use Rattle.pp_prog.proofs.ValueSorts.{Has, Have}
 use Rattle.pp_checks.specs.Plain.{first_param, if_below, variable_first, variable_in, variable_of}
 use Rattle.pp_guess_runs.proofs.Truth.{then_value}
 use Rattle.pp_plain_laws.proofs.Scope.{found_some, values_behind}
 
 module _ (ctors : List Ctor) where
-  abbrev Level : value.Value-F Value → Sort → Type 0
-  Level o s = has_step ctors (map-Value Value (Sort → Bool) (has_sort ctors) o) s ≡ true
-
-  number_sorted : (n : _) (s : Sort) → Level (value.Int n) s → sort.Int ≡ s
-  number_sorted n s h = sorts.one_sort sort.Int s (and_parts (same_sort sort.Int s) (is_int n) h).0
-
-  truth_sorted : (b : Bool) (s : Sort) → Level (value.Bool b) s → sort.Bool ≡ s
-  truth_sorted b s h = sorts.one_sort sort.Bool s h
-
-  tree_sorted : (c : CtorId) (fields : List Value) (s : Sort) → Level (value.Tree c fields) s
-      → (k : Ctor) × (slice_get ctors c.0 ≡ Some k) × (sort.Tree k.of ≡ s)
-  tree_sorted c fields s h = let k = tree_is (slice_get ctors c.0) (map (has_sort ctors) fields) s h in (k.0, k.1, k.2)
-
-  layers_one_sort : (x y : value.Value-F Value) (s : Sort) → Level x s → Level y s → one_sort ctors x y ≡ true
-  layers_one_sort (value.Int a) (value.Int b) s h k = refl
-  layers_one_sort (value.Int a) (value.Bool b) s h k = let e = number_sorted a s h ∙ sym (truth_sorted b s k) in cc
-  layers_one_sort (value.Int a) (value.Tree d gs) s h k =
-      let t = tree_sorted d gs s k in let e = number_sorted a s h ∙ sym t.2 in cc
-  layers_one_sort (value.Bool a) (value.Int b) s h k = let e = truth_sorted a s h ∙ sym (number_sorted b s k) in cc
-  layers_one_sort (value.Bool a) (value.Bool b) s h k = refl
-  layers_one_sort (value.Bool a) (value.Tree d gs) s h k =
-      let t = tree_sorted d gs s k in let e = truth_sorted a s h ∙ sym t.2 in cc
-  layers_one_sort (value.Tree c fs) (value.Int b) s h k =
-      let t = tree_sorted c fs s h in let e = t.2 ∙ sym (number_sorted b s k) in cc
-  layers_one_sort (value.Tree c fs) (value.Bool b) s h k =
-      let t = tree_sorted c fs s h in let e = t.2 ∙ sym (truth_sorted b s k) in cc
-  layers_one_sort (value.Tree c fs) (value.Tree d gs) s h k =
-      let t = tree_sorted c fs s h in
-      let u = tree_sorted d gs s k in
-      let both : sort.Tree t.0.of ≡ sort.Tree u.0.of = t.2 ∙ sym u.2 in
-      let same : t.0.of ≡ u.0.of = cc in
-      ap (λ o. one_datatype o (slice_get ctors d.0)) t.1 ∙ ap (λ o. one_datatype (Some t.0) o) u.1
-      ∙ eq-eqb t.0.of.0 u.0.of.0 (ap (λ (n : _). n.0) same)
-
   -- values of the same sorts have one shape
   shaped : (ss : List Sort) (new old : List Value) → Have ctors ss new → Have ctors ss old
       → of_one_shape ctors new old ≡ true
@@ -80,7 +44,7 @@ module _ (ctors : List Ctor) where
       let a = and_parts (has_sort ctors x s) _ h in
       let b = and_parts (has_sort ctors y s) _ k in
       and_from (one_sort ctors (out-Value x) (out-Value y)) _
-      (layers_one_sort (out-Value x) (out-Value y) s (level_has ctors x s a.0) (level_has ctors y s b.0))
+      (alike ctors s x y a.0 b.0)
       (shaped ss xs ys a.1 b.1)
 
   down_layers : (x y : Value) (a b : value.Value-F Value) → one_sort ctors a b ≡ true
@@ -100,7 +64,7 @@ module _ (ctors : List Ctor) where
   goes_to_subtree s x y h k below =
       let t = tree_above x y below in
       down_layers x y (out-Value x) (out-Value y)
-      (layers_one_sort (out-Value x) (out-Value y) s (level_has ctors x s h) (level_has ctors y s k))
+      (alike ctors s x y h k)
       t.0 t.1 (ap out-Value t.2 ∙ outs-Tree t.0 t.1) below
 
   -- measure values of the same sorts, whose first goes down to a proper subtree

@@ -25,16 +25,15 @@ use Rattle.pp_eval.specs.Runs as runs
 use Rattle.pp_eval.specs.Runs.{run_with}
 use Rattle.pp_sound.specs.Sound.{IsCalled, IsCheckOf}
 use Rattle.pp_sound.proofs.Calls.{whole}
-use Rattle.pp_sound.proofs.Env.{have_at}
+use Rattle.pp_prog.proofs.ValueSorts.{have_at}
 use Rattle.pp_sound.proofs.Exprs.{AreGood}
 use Rattle.pp_sound.proofs.Listed.{function_met}
 use Rattle.pp_sound.proofs.Parts.{IsOwn}
 use Rattle.pp_sound.proofs.Runs.{IsEnd, run_fine}
 use Rattle.pp_sound.proofs.Sites.{AreMet, IsMet, met_head, met_tail}
-use Rattle.pp_checks.specs.declared.tables.Plan.{Plan}
 use Rattle.pp_checks.specs.Plain.{IsPlain, descents_at, descents_from, first_param, if_tree, is_tree_param}
 use Rattle.pp_checks.specs.Plain.{plain_descents}
-use Rattle.pp_checks.specs.Plan.{IsPlanOf}
+use Rattle.pp_checks.specs.Plan.{IsPlanOf, Plan}
 use Rattle.pp_run_laws.proofs.MeasureSorts.{calls_to_good, frame_sorted, told_value}
 use Rattle.pp_guess_runs.specs.Answers.{Answering, IsAnswering, answers_of}
 use Rattle.pp_guess_runs.specs.Guess.{fails, guessed, own, skip}

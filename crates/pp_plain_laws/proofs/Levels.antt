@@ -29,9 +29,9 @@ use Rattle.pp_eval.specs.Meaning as mean
 use Rattle.pp_eval.specs.Operators.{truth}
 use Rattle.pp_eval.specs.Part.{found}
 use Rattle.pp_sound.proofs.Cases.{each_arm}
-use Rattle.pp_sound.proofs.Env.{Have, have_more, have_one}
+use Rattle.pp_prog.proofs.ValueSorts.{Have, have_more, have_one}
 use Rattle.pp_sound.proofs.Sites.{AreMet, met_head, met_left, met_right, met_tail}
-use Rattle.pp_sound.proofs.Sorting.{alike_are, bool_then, call_sort_is, sort_then, tree_sort_is, tree_then}
+use Rattle.pp_prog.proofs.PartSorts.{alike_are, bool_then, call_sort_is, sort_then, tree_sort_is, tree_then}
 use Rattle.pp_checks.specs.Plain.{CaseDescents, Seen, as_check, first_param_of, goes_down, in_all, in_cases, inside_at}
 use Rattle.pp_checks.specs.Plain.{is_inside, is_live, seen_step, when}
 use Rattle.pp_sound.proofs.Operands.{operand, operands}

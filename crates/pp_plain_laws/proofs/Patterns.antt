@@ -1,8 +1,8 @@
 -- What a pattern binds below its top lies below the matched value.
-use Rattle.std.proofs.Common.{◌≡◌, ◌⊎◌, ℕ, zero, suc, Bool, true, false, List, [], ◌∷◌, ◌++◌, map, Option, Some, None}
+use Rattle.std.proofs.Common.{◌≡◌, ◌⊎◌, ℕ, zero, suc, Bool, true, List, [], ◌∷◌, ◌++◌, map, Some}
 use Rattle.std.proofs.Common.{length, slice_get, refl, sym, ap, ◌∙◌, subst, arith, inl, inr, ⊎_elim, Contains}
 use Rattle.std.proofs.Common.{length-append}
-use Rattle.std.specs.Prelude.{if◌then◌else◌, nat_eq, ℤ}
+use Rattle.std.specs.Prelude.{nat_eq}
 use Rattle.pp_graph.specs.Rows.{marked}
 use Rattle.pp_prog.specs.declared.expr.Pattern.{Pattern}
 use Rattle.pp_prog.specs.declared.expr.Pattern.TheFolds.{fold-roll-Pattern, ind-Pattern, map-Pattern}
@@ -14,39 +14,10 @@ use Rattle.pp_prog.specs.declared.value.Value.TheOpen as value
 use Rattle.pp_prog.specs.declared.value.Value.TheVariants.{Tree, rolls-Tree}
 use Rattle.pp_prog.specs.declared.value.Value.TheViews.{out-Value, roll-Value, roll-out-Value}
 use Rattle.pp_prog.specs.Calls.{joined}
-use Rattle.pp_prog.specs.Fits.{Fitting, bound_before, bound_both, fit, fit_bool, fit_fields, fit_int, fit_step}
-use Rattle.pp_prog.specs.Fits.{fit_tree, fits_if, same_truth}
+use Rattle.pp_prog.specs.Fits.{Fitting, fit, fit_fields, fit_step, fit_tree}
+use Rattle.pp_prog.proofs.PatternFits.{before_is, both_are, if_some, int_binds, truth_binds}
 use Rattle.pp_prog.specs.Values.{IsBelow, is_deeper, is_field}
 use Rattle.pp_checks.specs.Plain.{Marking, marking_step, marks_of}
-
-before_is : (here : List Value) (r : Option (List Value)) (vs : List Value) → bound_before here r ≡ Some vs
-    → (more : List Value) × (r ≡ Some more) × (here ++ more ≡ vs)
-before_is here None vs h = cc
-before_is here (Some more) vs h = (more, refl, cc)
-
-both_are : (a b : Option (List Value)) (vs : List Value) → bound_both a b ≡ Some vs
-    → (here : List Value) × (more : List Value) × (a ≡ Some here) × (b ≡ Some more) × (here ++ more ≡ vs)
-both_are None b vs h = cc
-both_are (Some here) b vs h = let q = before_is here b vs h in (here, q.0, refl, q.1, q.2)
-
-empty_if : (b : Bool) (vs : List Value) → fits_if b ≡ Some vs → [] ≡ vs
-empty_if true vs h = cc
-empty_if false vs h = cc
-
-if_some : (b : Bool) (o : Option (List Value)) (x : List Value) → (if b then o else None) ≡ Some x
-    → (b ≡ true) × (o ≡ Some x)
-if_some true o x h = (refl, h)
-if_some false o x h = cc
-
-int_binds : (n : ℤ) (o : value.Value-F Value) (vs : List Value) → fit_int n o ≡ Some vs → [] ≡ vs
-int_binds n (value.Int m) vs h = empty_if _ vs h
-int_binds n (value.Bool b) vs h = cc
-int_binds n (value.Tree c fs) vs h = cc
-
-truth_binds : (a : Bool) (o : value.Value-F Value) (vs : List Value) → fit_bool a o ≡ Some vs → [] ≡ vs
-truth_binds a (value.Int m) vs h = cc
-truth_binds a (value.Bool b) vs h = empty_if (same_truth a b) vs h
-truth_binds a (value.Tree c fs) vs h = cc
 
 -- a place in two lists, one after another, is one in the first or one in the second
 pub split_at : (ms ns : List Bool) (vs ws : List Value) → length ms ≡ length vs → (j : ℕ) (w : Value)

@@ -22,10 +22,10 @@ use Rattle.pp_eval.specs.Part.{and_then}
 use Rattle.pp_eval.specs.Runs.{finished, run_with}
 use Rattle.pp_sound.specs.Sound.{IsCalled}
 use Rattle.pp_sound.proofs.Calls.{IsWhole, whole}
-use Rattle.pp_sound.proofs.Env.{Has, Have, have_more, have_one}
+use Rattle.pp_prog.proofs.ValueSorts.{Has, Have, have_more, have_one}
 use Rattle.pp_sound.proofs.Exprs.{AreGood, expr_sound}
 use Rattle.pp_sound.proofs.Sites.{AreMet, met_left, met_right}
-use Rattle.pp_sound.proofs.Sorting.{has_the_sort_is}
+use Rattle.pp_prog.proofs.PartSorts.{has_the_sort_is, some_sort}
 use Rattle.pp_checks.specs.Plain.{descents_from, in_all, post_descents, pre_descents, seen}
 use Rattle.pp_run_laws.proofs.MeasureSorts.{told_value}
 use Rattle.pp_run_laws.proofs.Stops.{truth_stops}
@@ -34,7 +34,7 @@ use Rattle.pp_plain_laws.proofs.Setting.{CallsClean, IsExpr, Setting}
 use Rattle.pp_plain_laws.proofs.Counts.{count, count_append, places, places_append, uncounted}
 use Rattle.pp_plain_laws.proofs.Scope.{AreInScope, IsClean, IsOther, clean_either, clean_stop, clean_then, clean_value}
 use Rattle.pp_plain_laws.proofs.Scope.{one_in_scope, other_stuck}
-use Rattle.pp_plain_laws.proofs.Tight.{AreTight, are_tight, measure_few, some_sort}
+use Rattle.pp_plain_laws.proofs.Tight.{AreTight, are_tight, measure_few}
 
 none_marked : (n k : ℕ) → marked (replicate n false) k ≡ true → ⊥
 none_marked zero k e = cc
@@ -121,7 +121,7 @@ module _ (p : Program) (i : ℕ) (f : Function) (args : List Value) (called : Is
   measures_clean [] sorted met tight done = clean_value
   measures_clean (e ∷ es) sorted met tight done =
       let h = and_parts (is_some (sort_of p.types p.functions e scope)) _ sorted in
-      let s = some_sort p i f called.function c pp (sort_of p.types p.functions e scope) h.0 in
+      let s = some_sort (sort_of p.types p.functions e scope) h.0 in
       let one = (none_expr e).few scope s.0 s.1 marks in
       let more = measure_few p i f called.function c pp es h.1 in
       let a = count_append c.0 ((seen p.functions pp e).1 marks) (in_all (map (seen p.functions pp) es) marks) in

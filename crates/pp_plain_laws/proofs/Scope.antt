@@ -17,7 +17,7 @@ use Rattle.pp_eval.specs.declared.outcome.Stop.{Stop}
 use Rattle.pp_eval.specs.declared.outcome.Stop.TheVariants.{Deep, Fails, Stuck}
 use Rattle.pp_eval.specs.Meaning.{Frame, Meaning, all_from}
 use Rattle.pp_eval.specs.Part.{Part, and_then, either, found}
-use Rattle.pp_sound.proofs.Sorting.{alike_are, bool_then, int_then, sort_then}
+use Rattle.pp_prog.proofs.PartSorts.{alike_are, bool_then, int_then, sort_then}
 use Rattle.pp_run_laws.proofs.Follows.{Stops}
 use Rattle.pp_guess_runs.proofs.Truth.{then_value}
 use Rattle.pp_plain_laws.proofs.Patterns.{split_at}

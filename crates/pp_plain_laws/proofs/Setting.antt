@@ -24,7 +24,7 @@ use Rattle.pp_eval.specs.Meaning.{first_case, guarded, meaning, meaning_step, or
 use Rattle.pp_eval.specs.Meaning as mean
 use Rattle.pp_eval.specs.Part.{Part, failed, found}
 use Rattle.pp_sound.proofs.Cases.{EachArm}
-use Rattle.pp_sound.proofs.Env.{Has, Have, have_more, have_one}
+use Rattle.pp_prog.proofs.ValueSorts.{Has, Have, have_more, have_one}
 use Rattle.pp_sound.proofs.Exprs.{AreGood, expr_sound}
 use Rattle.pp_sound.proofs.Sites.{AreMet, IsMet, met_left, met_right}
 use Rattle.pp_checks.specs.Plain.{CaseDescents, Seen, descents_in_case, first_param_of, in_all, in_cases, seen}
@@ -44,11 +44,12 @@ pub record GoesBelow (functions : List Function) (v0 : Value) (g : FunctionId) (
   pub below : IsBelow value v0
 
 -- a call fails the check only where it is the site's precondition check, or its measure check and no plain descent
-pub record CallsClean (p : Program) (i : ℕ) (c : CheckId) (calls0 : CallMeaning) (old : Frame) (v0 : Value) : Type 0 where
-  pub clean : (g : FunctionId) (pre down : Option CheckId) (args : List Value) (h : Function)
-      → slice_get p.functions g.0 ≡ Some h → Have p.types.ctors (param_sorts h.params) args
-      → IsMet p i (precondition g pre) → IsMet p i (measure g down) → (pre ≡ Some c → ⊥)
-      → (down ≡ Some c → GoesBelow p.functions v0 g args) → IsClean c (calls0 old g pre down args)
+pub record CallsClean (p : Program) (i : ℕ) (c : CheckId) (calls0 : CallMeaning) (old : Frame) (v0 : Value) : Type 0
+  where
+    pub clean : (g : FunctionId) (pre down : Option CheckId) (args : List Value) (h : Function)
+        → slice_get p.functions g.0 ≡ Some h → Have p.types.ctors (param_sorts h.params) args
+        → IsMet p i (precondition g pre) → IsMet p i (measure g down) → (pre ≡ Some c → ⊥)
+        → (down ≡ Some c → GoesBelow p.functions v0 g args) → IsClean c (calls0 old g pre down args)
 
 pub below_trans : (w v u : Value) → IsBelow w v → IsBelow v u → IsBelow w u
 below_trans w v u b (is_field d fields e has) = is_deeper d fields e has b

@@ -1,6 +1,6 @@
 -- Each part of a function carries a plain descent exactly as often as it is among the part's descents.
 use Rattle.std.proofs.Common.{◌≡◌, ℕ, ◌≤◌, Bool, true, false, List, [], ◌∷◌, ◌++◌, map, Option, Some, None, is_some}
-use Rattle.std.proofs.Common.{pos, length, replicate, slice_get, refl, arith, Contains}
+use Rattle.std.proofs.Common.{pos, length, replicate, slice_get, arith, Contains}
 use Rattle.std.proofs.lemmas.Bool.{and_parts}
 use Rattle.pp_prog.specs.declared.expr.Expr.{Expr}
 use Rattle.pp_prog.specs.declared.expr.Function.{Function}
@@ -14,9 +14,9 @@ use Rattle.pp_prog.specs.Listing.{function_sites, measure_sites, post_sites, pos
 use Rattle.pp_prog.specs.Sorts.{param_sorts}
 use Rattle.pp_eval.specs.Invocation.{no_fuel}
 use Rattle.pp_sound.proofs.Calls.{IsWhole, whole}
-use Rattle.pp_sound.proofs.Sorting.{has_the_sort_is}
+use Rattle.pp_prog.proofs.PartSorts.{has_the_sort_is, some_sort}
 use Rattle.pp_checks.specs.Plain.{descents, descents_from, in_all, post_descents, pre_descents, seen}
-use Rattle.pp_run_laws.proofs.MeasureSorts.{no_fuel_good}
+use Rattle.pp_sound.proofs.Laws.{no_fuel_good}
 use Rattle.pp_plain_laws.proofs.Cleaning.{expr_clean}
 use Rattle.pp_plain_laws.proofs.Setting.{CallsClean, IsExpr, Setting}
 use Rattle.pp_plain_laws.proofs.Counts.{carried_once, count, count_append, count_has, places, places_append}
@@ -54,10 +54,6 @@ module _ (p : Program) (i : ℕ) (f : Function) (function : slice_get p.function
 
   none_expr : (e : Expr) → IsExpr none_known e
   none_expr e = expr_clean none_known e
-
-  pub some_sort : (o : Option Sort) → is_some o ≡ true → (s : Sort) × (o ≡ Some s)
-  some_sort None h = cc
-  some_sort (Some s) h = (s, refl)
 
   -- ---- how often the check is among the descents of each part, and carried by its sites
 

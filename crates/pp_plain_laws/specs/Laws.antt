@@ -3,9 +3,8 @@ use Rattle.std.specs.Prelude.{ℕ}
 use Rattle.pp_prog.specs.declared.id.CheckId.{CheckId}
 use Rattle.pp_prog.specs.declared.program.Program.{Program}
 use Rattle.pp_sound.specs.Sound.{IsCheckOf}
-use Rattle.pp_checks.specs.declared.tables.Plan.{Plan}
 use Rattle.pp_checks.specs.Plain.{IsPlain}
-use Rattle.pp_checks.specs.Plan.{IsPlanOf}
+use Rattle.pp_checks.specs.Plan.{IsPlanOf, Plan}
 use Rattle.pp_induction.specs.Ends.{NoGuessFails, NoRunFails}
 
 -- in a program that has a plan, no run and no guess run fails a measure check that is a plain descent

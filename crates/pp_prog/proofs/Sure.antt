@@ -5,7 +5,8 @@ use Rattle.std.proofs.Props.{props}
 use Rattle.std.specs.Coded.{Coded, Coded-set, code_by, coded×, coded_list, coded_ℕ}
 use Rattle.pp_graph.proofs.Decided.{group_or_not}
 use Rattle.pp_prog.specs.declared.check.CheckKind.{CheckKind}
-use Rattle.pp_prog.specs.declared.check.CheckKind.TheVariants.{Precondition, Postcondition, Match, Division, Measure, Assertion}
+use Rattle.pp_prog.specs.declared.check.CheckKind.TheVariants.{Precondition, Postcondition, Match, Division, Measure}
+use Rattle.pp_prog.specs.declared.check.CheckKind.TheVariants.{Assertion}
 use Rattle.pp_prog.specs.declared.expr.Function.{Function}
 use Rattle.pp_prog.specs.declared.program.Program.{Program}
 use Rattle.pp_prog.specs.declared.types.TypeTable.{TypeTable}
@@ -27,14 +28,19 @@ bool_prop = hlevel props
 
 module _ (types : TypeTable) (functions : List Function) where
   -- what follows for a site from a fact that there is
-  carries_sure : (V : Type 0) → ∥ V ∥₁ → (f : ℕ) (site : Site) → (V → Carries types functions f site) → Carries types functions f site
+  carries_sure : (V : Type 0) → ∥ V ∥₁ → (f : ℕ) (site : Site) → (V → Carries types functions f site)
+      → Carries types functions f site
   carries_sure V known f (plain check) told = ∥∥₁_elim known true_prop told
   carries_sure V known f (division check) told = ∥∥₁_elim known true_prop told
   carries_sure V known f (assertion check) told = tt
   carries_sure V known f (precondition g check) told = ∥∥₁_elim known bool_prop told
   carries_sure V known f (measure g check) told = (
     λ some. (
-      elim (group_or_not (call_table functions) f g.0) [ inl same ↦ same | inr never ↦ absurd (∥∥₁_elim known ⊥_prop (λ v. never ((told v).0 some).0)) ],
+      elim (group_or_not (call_table functions) f g.0) [
+        | inl same ↦ same
+        | inr never ↦ absurd
+            (∥∥₁_elim known ⊥_prop (λ v. never ((told v).0 some).0))
+      ],
       ∥∥₁_elim known true_prop (λ v. ((told v).0 some).1),
       ∥∥₁_elim known true_prop (λ v. ((told v).0 some).2),
     ),
@@ -72,7 +78,9 @@ kind_back Assertion = refl
 
 entry_coded : Coded Entry
 entry_coded =
-    code_by (ℕ × (ℕ × CheckKind)) (coded× coded_ℕ (coded× coded_ℕ (code_by ℕ coded_ℕ number_of_kind kind_of_number kind_back))) (λ e. (e.0, (e.1, e.2))) (λ p. (p.0, p.1.0, p.1.1)) (λ _. refl)
+    code_by (ℕ × (ℕ × CheckKind)) (coded× coded_ℕ (coded× coded_ℕ
+    (code_by ℕ coded_ℕ number_of_kind kind_of_number kind_back))) (λ e. (e.0, (e.1, e.2)))
+    (λ p. (p.0, p.1.0, p.1.1)) (λ _. refl)
 
 listing_prop : {xs ys : List Entry} → IsProp (xs ≡ ys)
 listing_prop {xs = xs} {ys = ys} = Coded-set (coded_list entry_coded) xs ys
@@ -84,7 +92,8 @@ is_valid p = record {
   few_checks = p.few_checks;
   in_range = ∥∥₁_elim p.valid true_prop (λ v. v.in_range);
   sorted = p.sorted;
-  carried = λ f function is site has. carries_sure p.types p.functions (IsValid p.types p.functions p.checks) p.valid f site (λ v. v.carried f function is site has);
+  carried = λ f function is site has. carries_sure p.types p.functions (IsValid p.types p.functions p.checks) p.valid f
+      site (λ v. v.carried f function is site has);
   listed = ∥∥₁_elim p.valid listing_prop (λ v. v.listed);
   numbered = λ i c is. ∥∥₁_elim p.valid nat_prop (λ v. v.numbered i c is);
 }

@@ -1,5 +1,6 @@
 -- The cone of a function, recursive functions, and word functions, which meet no datatype. Source: own.
-use Rattle.std.specs.Prelude.{◌≡◌, ◌⊎◌, ℕ, Bool, true, false, ◌&&◌, List, [], ◌∷◌, ◌++◌, Option, Some, None, slice_get, IsTrue}
+use Rattle.std.specs.Prelude.{◌≡◌, ◌⊎◌, ℕ, Bool, true, false, ◌&&◌, List, [], ◌∷◌, ◌++◌, Option, Some, None, slice_get}
+use Rattle.std.specs.Prelude.{IsTrue}
 use Rattle.std.specs.List.{list_all}
 use Rattle.std.specs.Option.{option_map}
 use Rattle.pp_prog.specs.declared.expr.Case.{Case}
@@ -62,7 +63,8 @@ module _ (types : TypeTable) (functions : List Function) where
   -- one level, with the sorts of the parts' parts beside them
   abbrev pub case_parts : layer.Case-F (Expr × Parts) (Case × CaseParts) → CaseParts
   case_parts c s scope =
-      or_none (option_map (λ bound. guard_part c.guard (scope ++ bound) ++ part c.body (scope ++ bound)) (bound_sorts types.ctors c.pattern s))
+      or_none (option_map (λ bound. guard_part c.guard (scope ++ bound) ++ part c.body (scope ++ bound))
+      (bound_sorts types.ctors c.pattern s))
 
   abbrev pub part_step : layer.Expr-F (Expr × Parts) (Case × CaseParts) → Parts
   part_step (layer.Int n) scope = []
@@ -76,7 +78,8 @@ module _ (types : TypeTable) (functions : List Function) where
   part_step (layer.Match e cases check) scope =
       part e scope ++ or_none (option_map (λ s. each_case cases s scope) (sort_of types functions e.0 scope))
   part_step (layer.Val bound rest) scope =
-      part bound scope ++ or_none (option_map (λ s. part rest (scope ++ s ∷ [])) (sort_of types functions bound.0 scope))
+      part bound scope ++ or_none (option_map (λ s. part rest (scope ++ s ∷ []))
+      (sort_of types functions bound.0 scope))
   part_step (layer.Assert check c rest) scope = part c scope ++ part rest scope
   part_step (layer.Call g args pre measure) scope = each_part args scope
 
@@ -100,10 +103,12 @@ module _ (types : TypeTable) (functions : List Function) where
   abbrev pub has_words : Function → Bool
   has_words f =
       let scope = param_sorts f.params in
-      list_all is_word scope && (is_word f.result && (is_word_pre f.pre scope && (list_all (is_word_expr scope) f.measure
+      list_all is_word scope && (is_word f.result && (is_word_pre f.pre scope &&
+      (list_all (is_word_expr scope) f.measure
       && (is_word_expr scope f.body && is_word_post f.post (scope ++ f.result ∷ [])))))
 
   -- f is a word function: each function of its cone has words alone
   abbrev pub IsWordFunction : ℕ → Type 0
   IsWordFunction f =
-      (g : ℕ) (function : Function) → InCone functions f g → slice_get functions g ≡ Some function → IsTrue (has_words function)
+      (g : ℕ) (function : Function) → InCone functions f g → slice_get functions g ≡ Some function
+      → IsTrue (has_words function)

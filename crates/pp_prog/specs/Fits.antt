@@ -1,6 +1,7 @@
 -- Which values fit a pattern, and what the pattern binds. Source: Scala Language Specification 8.1; the order of the
 -- bound values is own: the outer before the inner, from left to right.
-use Rattle.std.specs.Prelude.{ℤ, nat_eq, Bool, true, false, not, ◌||◌, if◌then◌else◌, List, [], ◌∷◌, ◌++◌, Option, Some, None, is_some}
+use Rattle.std.specs.Prelude.{ℤ, nat_eq, Bool, true, false, not, ◌||◌, if◌then◌else◌, List, [], ◌∷◌, ◌++◌, Option, Some}
+use Rattle.std.specs.Prelude.{None, is_some}
 use Rattle.std.specs.Ordering.{int_eq}
 use Rattle.pp_prog.specs.declared.expr.Pattern.{Pattern}
 use Rattle.pp_prog.specs.declared.expr.Pattern.TheFolds.{fold-Pattern}

@@ -7,7 +7,6 @@ pub mod ExprSorts
 pub mod Calls
 pub mod Listing
 pub mod Names
-pub mod Boolean
 pub mod Valid
 pub mod Cone
 pub mod Sizes

@@ -20,8 +20,8 @@ use Rattle.pp_prog.specs.PatternSorts.{bound_sorts}
 use Rattle.pp_prog.specs.ExprSorts.{sort_of}
 use Rattle.pp_prog.specs.Calls.{joined}
 
--- a site, with the check that it carries: an operator that can't fail; `/` or `%`; an assertion; the precondition of the
--- called function; its measure; a match on a value of a sort, with the patterns of its cases without a guard; a
+-- a site, with the check that it carries: an operator that can't fail; `/` or `%`; an assertion; the precondition of
+-- the called function; its measure; a match on a value of a sort, with the patterns of its cases without a guard; a
 -- postcondition
 pub data Site : Type 0 where
   plain : Option CheckId → Site
@@ -92,7 +92,8 @@ module _ (types : TypeTable) (functions : List Function) where
   -- one level, with the sites of the parts beside them
   abbrev pub case_sites : layer.Case-F (Expr × Sites) (Case × CaseSites) → CaseSites
   case_sites c s scope =
-      with_bound (bound_sorts types.ctors c.pattern s) (λ bound. guard_sites c.guard (scope ++ bound) ++ c.body.1 (scope ++ bound))
+      with_bound (bound_sorts types.ctors c.pattern s) (λ bound. guard_sites c.guard (scope ++ bound) ++ c.body.1
+      (scope ++ bound))
 
   abbrev pub site_step : layer.Expr-F (Expr × Sites) (Case × CaseSites) → Sites
   site_step (layer.Int n) scope = []
@@ -104,7 +105,8 @@ module _ (types : TypeTable) (functions : List Function) where
   site_step (layer.Field e k) scope = e.1 scope
   site_step (layer.If c a b) scope = c.1 scope ++ a.1 scope ++ b.1 scope
   site_step (layer.Match e cases check) scope =
-      e.1 scope ++ at_sort (sort_of types functions e.0 scope) (λ s. matching s (unguarded cases) check ∷ sites_of_cases cases s scope)
+      e.1 scope ++ at_sort (sort_of types functions e.0 scope)
+      (λ s. matching s (unguarded cases) check ∷ sites_of_cases cases s scope)
   site_step (layer.Val bound rest) scope =
       bound.1 scope ++ at_sort (sort_of types functions bound.0 scope) (λ s. rest.1 (scope ++ s ∷ []))
   site_step (layer.Assert check c rest) scope = c.1 scope ++ assertion check ∷ rest.1 scope

@@ -1,5 +1,6 @@
 -- Which patterns have which sort, and the sorts of the variables that they bind. Source: own.
-use Rattle.std.specs.Prelude.{Bool, true, false, ◌&&◌, if◌then◌else◌, List, [], ◌∷◌, ◌++◌, Option, Some, None, slice_get}
+use Rattle.std.specs.Prelude.{Bool, true, false, ◌&&◌, if◌then◌else◌, List, [], ◌∷◌, ◌++◌, Option, Some, None}
+use Rattle.std.specs.Prelude.{slice_get}
 use Rattle.pp_prog.specs.declared.expr.Pattern.{Pattern}
 use Rattle.pp_prog.specs.declared.expr.Pattern.TheFolds.{fold-Pattern}
 use Rattle.pp_prog.specs.declared.expr.Pattern.TheOpen as pattern

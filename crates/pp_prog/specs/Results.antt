@@ -2,7 +2,8 @@
 -- this one: `proofs/Results` has that lemma. Source: own.
 use Rattle.std.specs.Prelude.{ℕ, List, [], ◌∷◌, ◌++◌, Option, Some, None, slice_get}
 use Rattle.pp_prog.specs.declared.expr.BinaryOp.{BinaryOp}
-use Rattle.pp_prog.specs.declared.expr.BinaryOp.TheVariants.{Equal, Differ, Less, AtMost, More, AtLeast, AndAlso, OrElse, And, Or, Xor}
+use Rattle.pp_prog.specs.declared.expr.BinaryOp.TheVariants.{Equal, Differ, Less, AtMost, More, AtLeast, AndAlso}
+use Rattle.pp_prog.specs.declared.expr.BinaryOp.TheVariants.{OrElse, And, Or, Xor}
 use Rattle.pp_prog.specs.declared.expr.Expr.{Expr}
 use Rattle.pp_prog.specs.declared.expr.Case.{Case}
 use Rattle.pp_prog.specs.declared.expr.Expr.TheFolds.{fold-Case, fold-Expr}

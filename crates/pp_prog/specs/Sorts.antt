@@ -1,5 +1,6 @@
 -- Which values have which sort. Source: Scala Language Specification 12.2.1 for the range of `Int`; the rest is own.
-use Rattle.std.specs.Prelude.{◌^◌, ℤ, pos, neg_ℤ, int_le, int_lt, nat_eq, Bool, true, false, ◌&&◌, List, [], ◌∷◌, Option, Some, None, map, slice_get}
+use Rattle.std.specs.Prelude.{◌^◌, ℤ, pos, neg_ℤ, int_le, int_lt, nat_eq, Bool, true, false, ◌&&◌, List, [], ◌∷◌}
+use Rattle.std.specs.Prelude.{Option, Some, None, map, slice_get}
 use Rattle.pp_prog.specs.declared.expr.Param.{Param}
 use Rattle.pp_prog.specs.declared.sort.Sort.{Sort}
 use Rattle.pp_prog.specs.declared.sort.Sort.TheVariants as sort

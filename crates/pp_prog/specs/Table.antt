@@ -1,5 +1,6 @@
 -- Which tables of datatypes and constructors agree. Source: own.
-use Rattle.std.specs.Prelude.{◌≡◌, ◌<◌, ◌^◌, ℕ, ◌+◌, nat_eq, nat_le, nat_lt, Bool, true, false, ◌&&◌, List, Option, Some, None, length, slice_get, IsTrue}
+use Rattle.std.specs.Prelude.{◌≡◌, ◌<◌, ◌^◌, ℕ, ◌+◌, nat_eq, nat_le, nat_lt, Bool, true, false, ◌&&◌, List, Option}
+use Rattle.std.specs.Prelude.{Some, None, length, slice_get, IsTrue}
 use Rattle.std.specs.List.{list_all}
 use Rattle.pp_prog.specs.declared.sort.Sort.{Sort}
 use Rattle.pp_prog.specs.declared.sort.Sort.TheVariants as sort
@@ -32,7 +33,8 @@ pub record Agree (datatypes : List Datatype) (ctors : List Ctor) : Type 0 where
   -- a constructor stands among those of the datatype that it names
   pub stands : (c : ℕ) (k : Ctor) → slice_get ctors c ≡ Some k → IsTrue (in_block_of (slice_get datatypes k.of.0) c)
   -- a datatype has as many constructors as it counts, which name it
-  pub block : (d : ℕ) (t : Datatype) → slice_get datatypes d ≡ Some t → (c : ℕ) → IsTrue (in_block t c) → IsTrue (is_of d (slice_get ctors c))
+  pub block : (d : ℕ) (t : Datatype) → slice_get datatypes d ≡ Some t → (c : ℕ) → IsTrue (in_block t c)
+      → IsTrue (is_of d (slice_get ctors c))
   -- the sort of each field is in range
   pub fields : (c : ℕ) (k : Ctor) → slice_get ctors c ≡ Some k → IsTrue (list_all (is_sort datatypes) k.fields)
 

@@ -1,5 +1,6 @@
 -- Which programs are valid. Source: own.
-use Rattle.std.specs.Prelude.{◌≡◌, ◌↔◌, ◌<◌, ◌^◌, ℕ, suc, Bool, true, false, ◌&&◌, List, [], ◌∷◌, ◌++◌, map, Option, Some, None, is_none, is_some, length, slice_get, Contains, IsTrue}
+use Rattle.std.specs.Prelude.{◌≡◌, ◌↔◌, ◌<◌, ◌^◌, ℕ, suc, Bool, true, false, ◌&&◌, List, [], ◌∷◌, ◌++◌, map, Option}
+use Rattle.std.specs.Prelude.{Some, None, is_none, is_some, length, slice_get, Contains, IsTrue}
 use Rattle.std.specs.List.{list_all}
 use Rattle.pp_prog.specs.declared.check.Check.{Check}
 use Rattle.pp_prog.specs.declared.check.CheckKind.{CheckKind}
@@ -17,7 +18,8 @@ use Rattle.pp_prog.specs.Table.{is_sort}
 use Rattle.pp_prog.specs.Fits.{fits_one}
 use Rattle.pp_prog.specs.ExprSorts.{is_sorted}
 use Rattle.pp_prog.specs.Calls.{OneGroup}
-use Rattle.pp_prog.specs.Listing.{Site, plain, division, assertion, precondition, measure, matching, postcondition, function_sites, function_checks}
+use Rattle.pp_prog.specs.Listing.{Site, plain, division, assertion, precondition, measure, matching, postcondition}
+use Rattle.pp_prog.specs.Listing.{function_sites, function_checks}
 
 -- the sorts of a function's parameters and of its result are in range
 abbrev pub is_in_range : List Datatype → Function → Bool
@@ -39,8 +41,8 @@ abbrev pub has_measure : Option Function → Bool
 has_measure None = false
 has_measure (Some g) = is_written g.measure
 
--- a check without its place, which whoever makes the program tells: its number, the function that it belongs to, and its
--- kind
+-- a check without its place, which whoever makes the program tells: its number, the function that it belongs to, and
+-- its kind
 abbrev pub Entry : Type 0
 Entry = ℕ × ℕ × CheckKind
 
@@ -51,22 +53,24 @@ abbrev pub entry_of : ℕ → CheckId × CheckKind → Entry
 entry_of f c = (c.0.0, f, c.1)
 
 module _ (types : TypeTable) (functions : List Function) where
-  -- the site of function f carries a check exactly where it can fail: a division always; a call's precondition where the
-  -- called function has one; a call's measure where both are of one group and have measures; a match where the patterns
-  -- of its cases without a guard don't cover the sort of the matched value
+  -- the site of function f carries a check exactly where it can fail: a division always; a call's precondition where
+  -- the called function has one; a call's measure where both are of one group and have measures; a match where the
+  -- patterns of its cases without a guard don't cover the sort of the matched value
   abbrev pub Carries : ℕ → Site → Type 0
   Carries f (plain check) = IsTrue (is_none check)
   Carries f (division check) = IsTrue (is_some check)
   Carries f (assertion check) = Unit {0}
   Carries f (precondition g check) = is_some check ≡ has_precondition (slice_get functions g.0)
   Carries f (measure g check) =
-      IsTrue (is_some check) ↔ (OneGroup functions f g.0 × IsTrue (has_measure (slice_get functions f)) × IsTrue (has_measure (slice_get functions g.0)))
+      IsTrue (is_some check) ↔ (OneGroup functions f g.0 × IsTrue (has_measure (slice_get functions f))
+      × IsTrue (has_measure (slice_get functions g.0)))
   Carries f (matching s patterns check) = IsTrue (is_none check) ↔ Covers types.ctors s patterns
   Carries f (postcondition check) = Unit {0}
 
   -- each site of each function carries a check exactly where it can fail
   abbrev pub AllCarry : Type 0
-  AllCarry = (f : ℕ) (function : Function) → slice_get functions f ≡ Some function → (site : Site) → Contains (function_sites types functions function) site → Carries f site
+  AllCarry = (f : ℕ) (function : Function) → slice_get functions f ≡ Some function → (site : Site)
+      → Contains (function_sites types functions function) site → Carries f site
 
   -- the checks of functions, the first of which has the number f, in order
   abbrev pub listing_from : ℕ → List Function → List Entry

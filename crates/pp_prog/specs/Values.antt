@@ -25,4 +25,5 @@ height = fold-Value ℕ height_step
 -- t is a field of u, or below a field of u
 pub data IsBelow : Value → Value → Type 0 where
   is_field : {t u : Value} (c : CtorId) (fields : List Value) → u ≡ Tree c fields → Contains fields t → IsBelow t u
-  is_deeper : {t v u : Value} (c : CtorId) (fields : List Value) → u ≡ Tree c fields → Contains fields v → IsBelow t v → IsBelow t u
+  is_deeper : {t v u : Value} (c : CtorId) (fields : List Value) → u ≡ Tree c fields → Contains fields v → IsBelow t v
+      → IsBelow t u

@@ -3,13 +3,13 @@
 ghost use Rattle.std.specs.Prelude.{◌≡◌, ◌++◌, IfOk, map};
 ghost use Rattle.pp_prog.specs.Calls.{call_table, calls, calls_in_case, function_calls, joined, pre_calls};
 
-use crate::{Case, Expr, Function};
+use crate::{Case, Expr, Function, NoMemory};
 use pp_list::Items;
-use std::alloc::{AllocError, Global};
+use std::alloc::Global;
 
 /// Adds the functions that the expression calls.
 #[cycle(calls)]
-fn add_calls(e: &Expr, found: &mut Items<u32>) -> Result<(), AllocError>
+fn add_calls(e: &Expr, found: &mut Items<u32>) -> Result<(), NoMemory>
     ensures { IfOk result (λ _. found.new ≡ found.old ++ calls e.now) }
 {
     match e {
@@ -55,7 +55,7 @@ fn add_calls(e: &Expr, found: &mut Items<u32>) -> Result<(), AllocError>
 
 /// Adds the functions that the expressions call.
 #[cycle(calls)]
-fn add_all(es: &[Expr], found: &mut Items<u32>) -> Result<(), AllocError>
+fn add_all(es: &[Expr], found: &mut Items<u32>) -> Result<(), NoMemory>
     ensures { IfOk result (λ _. found.new ≡ found.old ++ joined (map calls es.now)) }
 {
     for e in es {
@@ -66,7 +66,7 @@ fn add_all(es: &[Expr], found: &mut Items<u32>) -> Result<(), AllocError>
 
 /// Adds the functions that the cases call, in their guards and their bodies.
 #[cycle(calls)]
-fn add_cases(cases: &[Case], found: &mut Items<u32>) -> Result<(), AllocError>
+fn add_cases(cases: &[Case], found: &mut Items<u32>) -> Result<(), NoMemory>
     ensures { IfOk result (λ _. found.new ≡ found.old ++ joined (map calls_in_case cases.now)) }
 {
     for c in cases {
@@ -77,7 +77,7 @@ fn add_cases(cases: &[Case], found: &mut Items<u32>) -> Result<(), AllocError>
 
 /// Adds the functions that the case calls.
 #[cycle(calls)]
-fn add_case(c: &Case, found: &mut Items<u32>) -> Result<(), AllocError>
+fn add_case(c: &Case, found: &mut Items<u32>) -> Result<(), NoMemory>
     ensures { IfOk result (λ _. found.new ≡ found.old ++ calls_in_case c.now) }
 {
     add_guard(&c.guard, found)?;
@@ -87,7 +87,7 @@ fn add_case(c: &Case, found: &mut Items<u32>) -> Result<(), AllocError>
 
 /// Adds the functions that the expression calls, if one is written.
 #[cycle(calls)]
-fn add_guard(e: &Option<Expr>, found: &mut Items<u32>) -> Result<(), AllocError>
+fn add_guard(e: &Option<Expr>, found: &mut Items<u32>) -> Result<(), NoMemory>
     ensures { IfOk result (λ _. found.new ≡ found.old ++ pre_calls e.now) }
 {
     match e {
@@ -96,13 +96,22 @@ fn add_guard(e: &Option<Expr>, found: &mut Items<u32>) -> Result<(), AllocError>
     }
 }
 
-/// The functions that the function calls, contracts included.
-fn calls_of(alloc: Global, f: &Function) -> Result<Items<u32>, AllocError>
-    ensures { IfOk result (λ found. found ≡ function_calls f.now) }
+/// The functions that the function's contract calls before its body: in its precondition and in its measure list. The
+/// only error is want of memory.
+pub fn contract_calls(alloc: Global, f: &Function) -> Result<Items<u32>, NoMemory>
+    ensures { IfOk result (λ found. found ≡ pre_calls f.now.pre ++ joined (map calls f.now.measure)) }
 {
     let mut found = Items::new(alloc);
     add_guard(&f.pre, &mut found)?;
     add_all(f.measure.as_slice(), &mut found)?;
+    Ok(found)
+}
+
+/// The functions that the function calls, contracts included.
+fn calls_of(alloc: Global, f: &Function) -> Result<Items<u32>, NoMemory>
+    ensures { IfOk result (λ found. found ≡ function_calls f.now) }
+{
+    let mut found = contract_calls(alloc, f)?;
     add_calls(&f.body, &mut found)?;
     match &f.post {
         None => {}
@@ -111,11 +120,8 @@ fn calls_of(alloc: Global, f: &Function) -> Result<Items<u32>, AllocError>
     Ok(found)
 }
 
-/// The functions that each function calls, contracts included.
-pub(crate) fn call_table(
-    alloc: Global,
-    functions: &[Function],
-) -> Result<Items<Items<u32>>, AllocError>
+/// The functions that each function calls, contracts included. The only error is want of memory.
+pub fn call_table(alloc: Global, functions: &[Function]) -> Result<Items<Items<u32>>, NoMemory>
     ensures { IfOk result (λ calls. calls ≡ call_table functions.now) }
 {
     let mut calls = Items::new(alloc);

@@ -4,8 +4,8 @@ use crate::{CheckId, FunctionId, Place};
 use pp_list::Items;
 
 /// What a check demands: that the precondition of a called function is true; that the postcondition is true of the
-/// result; that some case of a match is taken; that a divisor isn't 0; that the measure of a called function is below the
-/// caller's; that an asserted condition is true.
+/// result; that some case of a match is taken; that a divisor isn't 0; that the measure of a called function is below
+/// the caller's; that an asserted condition is true.
 #[derive(Clone, Copy, PartialEq, Eq, Debug)]
 pub enum CheckKind {
     Precondition,

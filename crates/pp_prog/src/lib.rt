@@ -7,8 +7,9 @@
 //! tables agree, `specs/Fits` which values fit a pattern, `specs/PatternSorts` and `specs/ExprSorts` which patterns and
 //! expressions have which sort, `specs/Calls` which functions reach which, `specs/Listing` the sites of a function that
 //! may carry checks, `specs/Names` which function has a name, and `specs/Valid` which programs are valid. `proofs/Sure`
-//! gives the whole validity of a program from its type. `specs/Boolean` says which functions are Boolean, and
-//! `proofs/Boolean` that one Boolean function with its check is a valid program.
+//! gives the whole validity of a program from its type, `proofs/SortForms` the sort of each form of an expression, and
+//! `proofs/SiteForms` its sites. `proofs/PartSorts` says what follows for the parts of an expression from its sort,
+//! `proofs/ValueSorts` and `proofs/Fields` what a value of a sort is, and `proofs/PatternFits` what a pattern binds.
 //!
 //! `specs/Cone` says what the cone of a function is, which functions are recursive and which meet no datatype,
 //! `specs/Sizes` how large the values of a sort are up to a height, and `specs/Results` how the sort of an expression
@@ -25,6 +26,7 @@ mod sort;
 mod types;
 mod value;
 
+pub use calls::{call_table, contract_calls};
 pub use check::{Check, CheckKind, Checks};
 pub use expr::{
     BinaryOp, Case, Cases, Expr, Exprs, Function, Functions, Param, Params, Pattern, Patterns,
@@ -37,6 +39,3 @@ pub use sort::{Sort, Sorts};
 pub use std::alloc::AllocError as NoMemory;
 pub use types::{Ctor, Ctors, Datatype, Datatypes, TypeTable};
 pub use value::{Value, Values};
-
-#[cfg(test)]
-mod tests;

@@ -66,7 +66,7 @@ impl Program {
     }
 
     /// How many functions the program has. It takes no memory.
-    pub fn functions(&self) -> u32
+    pub fn function_count(&self) -> u32
         ensures { result ≡ length self.now.functions }
     {
         self.functions.len() as u32
@@ -99,7 +99,8 @@ impl Program {
     pub fn group_of(&self, f: FunctionId) -> u32
         requires { f.0 < length self.now.functions }
         ensures least { IsGroup (call_table self.now.functions) f.0 result }
-        ensures shared { (g n : ℕ) → IsGroup (call_table self.now.functions) g n → (n ≡ result) ↔ OneGroup self.now.functions g f.0 }
+        ensures shared { (g n : ℕ) → IsGroup (call_table self.now.functions) g n
+            → (n ≡ result) ↔ OneGroup self.now.functions g f.0 }
     {
         self.groups.as_slice()[f.0 as usize]
     }

@@ -23,14 +23,14 @@ use Rattle.pp_eval.specs.Part.{Part}
 use Rattle.pp_eval.specs.Runs.{outcome, run_with}
 use Rattle.pp_sound.specs.Sound.{AnswersSorted, IsCalled}
 use Rattle.pp_sound.proofs.Answered.{can_answer_sorted}
-use Rattle.pp_sound.proofs.Env.{Have}
+use Rattle.pp_prog.proofs.ValueSorts.{Have}
 use Rattle.pp_sound.proofs.Exprs.{AreGood}
-use Rattle.pp_sound.proofs.Parts.{IsFine, IsOwn, IsSorted, MayStop, fine_value}
+use Rattle.pp_sound.proofs.Laws.{answers_good, no_fuel_good}
+use Rattle.pp_sound.proofs.Parts.{IsFine, IsOwn, IsSorted, MayStop}
 use Rattle.pp_sound.proofs.Runs.{IsEnd, run_fine}
 use Rattle.pp_sound.proofs.Sites.{IsMet}
 use Rattle.pp_run_laws.specs.Laws.{AnsweredCallsSuffice, CallsAnswered, IsAnswered, IsAnsweredRun, IsOwnCheck, SameAt}
 use Rattle.pp_run_laws.proofs.Depends.{run_same}
-use Rattle.pp_run_laws.proofs.MeasureSorts.{no_fuel_good}
 
 or_not : {P : Type 0} (b : Bool) → Decides b P → P ⊎ (P → ⊥)
 or_not true d = inl (d.0 refl)
@@ -38,14 +38,6 @@ or_not false d = inr (λ p. let e : false ≡ true = d.1 p in cc)
 
 pub contains_or_not : (gs : List ℕ) (g : ℕ) → Contains gs g ⊎ (Contains gs g → ⊥)
 contains_or_not gs g = or_not (is_member (λ x y. x == y) gs g) (is_member-Decides Decides-eqb gs g)
-
--- calls of values of the sorts are good, so that none is Deep
-pub answers_good : (p : Program) (deeper : CallMeaning) → AnswersSorted p deeper → (i : ℕ) → AreGood p ⊥ i deeper
-answers_good p deeper answers i = record {
-  part = λ frame g pre down args f is have met_pre met_down.
-      let v = answers.answers frame g pre down args f is have in
-      subst (IsSorted p ⊥ i f.result) (sym v.1) (fine_value v.2);
-}
 
 module _ (p : Program) (i : ℕ) (f : Function) (calls : CallMeaning) (answered : CallsAnswered p i f calls) where
   own_check : (check : Option CheckId) → IsOwn p i check → IsOwnCheck p i check

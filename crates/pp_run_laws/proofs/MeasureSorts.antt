@@ -1,5 +1,5 @@
 -- The measure values of a frame have the sorts of the function's measure.
-use Rattle.std.proofs.Common.{◌≡◌, ℕ, true, List, [], ◌∷◌, ◌++◌, map, Option, Some, None, is_some, Ok, refl, sym, subst}
+use Rattle.std.proofs.Common.{◌≡◌, ℕ, true, List, [], ◌∷◌, ◌++◌, map, Some, None, is_some, Ok, refl, sym, subst}
 use Rattle.std.proofs.Common.{append_assoc, append-nil}
 use Rattle.std.proofs.lemmas.Bool.{and_parts}
 use Rattle.pp_prog.specs.declared.expr.Expr.{Expr}
@@ -14,20 +14,15 @@ use Rattle.pp_eval.specs.declared.outcome.Stop.{Stop}
 use Rattle.pp_eval.specs.Invocation.{calls_to, frame_of, no_fuel}
 use Rattle.pp_eval.specs.Meaning.{CallMeaning, Frame, all_from, meaning}
 use Rattle.pp_eval.specs.Part.{Part}
+use Rattle.pp_sound.proofs.Laws.{no_fuel_good}
 use Rattle.pp_sound.proofs.Calls.{calls_good, whole}
-use Rattle.pp_sound.proofs.Env.{Has, Have, have_more, have_one}
+use Rattle.pp_prog.proofs.ValueSorts.{Has, Have, have_more, have_one}
 use Rattle.pp_sound.proofs.Exprs.{AreGood, expr_sound}
-use Rattle.pp_sound.proofs.Parts.{IsFine, MayStop, fine_stop, fine_then, fine_value}
+use Rattle.pp_sound.proofs.Parts.{IsFine, MayStop, fine_then, fine_value}
 use Rattle.pp_sound.proofs.Sites.{AreMet, met_left, met_right}
-use Rattle.pp_sound.proofs.Sorting.{some_sort}
+use Rattle.pp_prog.proofs.PartSorts.{some_sort}
 use Rattle.pp_checks.proofs.Called.{read_off}
 use Rattle.pp_run_laws.specs.Laws.{MeasuresKeepSorts}
-
--- calls with no fuel left are Deep, which is all that is asked of them
-pub no_fuel_good : (p : Program) (i : ℕ) → AreGood p (Unit {0}) i no_fuel
-no_fuel_good p i = record {
-  part = λ frame g pre down args f is have met_pre met_down. fine_stop tt;
-}
 
 pub calls_to_good : (p : Program) (n i : ℕ) → AreGood p (Unit {0}) i (calls_to p.types.ctors p.functions n)
 calls_to_good p n i = calls_good p (Unit {0}) no_fuel (no_fuel_good p) n i

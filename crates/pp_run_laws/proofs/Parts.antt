@@ -35,6 +35,11 @@ then_ended (Err (stop.Inner g c)) go o ended e = absurd (subst IsEnded (sym e) e
 then_ended (Err stop.Deep) go o ended e = absurd (subst IsEnded (sym e) ended)
 then_ended (Err stop.Stuck) go o ended e = absurd (subst IsEnded (sym e) ended)
 
+-- a check that failed stays the failure
+pub failed_stays : (check : Option CheckId) (go : ⊤ → Part Value) → and_then (failed check) go ≡ failed check
+failed_stays None go = refl
+failed_stays (Some c) go = refl
+
 module _ (c : CallMeaning) where
   either_done : (t : Bool) (v w : Value) (check : CheckId)
       → outcome (either t (Ok (Done v)) (Err (stop.Fails check))) ≡ Done w → (v ≡ w) × (t ≡ true)
@@ -125,12 +130,7 @@ module _ (c : CallMeaning) where
   refused_call ctors f args e frame g pre down =
       ap (λ q. and_then q (λ _. and_then (inside g (frame_of c f.measure args))
       (λ new. and_then (descends ctors down frame new) (λ _. inside g (meaning c f.body new args)))))
-      (ap (λ q. and_then (inside g q) (λ t. either t (Ok tt) (failed pre))) e) ∙ stays
-      pre _
-    where
-      stays : (check : Option CheckId) (go : ⊤ → Part Value) → and_then (failed check) go ≡ failed check
-      stays None go = refl
-      stays (Some c) go = refl
+      (ap (λ q. and_then (inside g q) (λ t. either t (Ok tt) (failed pre))) e) ∙ failed_stays pre _
 
   pub entered_call : (ctors : List Ctor) (f : Function) (args : List Value) (new : Frame)
       → allowed c f.pre args ≡ Ok true → frame_of c f.measure args ≡ Ok new

@@ -20,14 +20,15 @@ use Rattle.pp_eval.specs.declared.outcome.Stop.TheVariants.{Deep}
 use Rattle.pp_eval.specs.Meaning.{CallMeaning}
 use Rattle.pp_eval.specs.Part.{Part}
 use Rattle.pp_sound.specs.Sound.{AnswersSorted, CanAnswerSorted}
-use Rattle.pp_sound.proofs.Env.{Has, int_has, truth_has}
+use Rattle.pp_prog.proofs.ValueSorts.{Has, int_has, truth_has}
 use Rattle.pp_sound.proofs.Listed.{all_at}
 
 value_of : (datatypes : List Datatype) (ctors : List Ctor) → HaveValues datatypes ctors → (s : Sort)
     → is_sort datatypes s ≡ true → HasValue ctors s
 value_of datatypes ctors values sort.Int h = (Int (pos 0), int_has ctors (pos 0) refl)
 value_of datatypes ctors values sort.Bool h = (Truth true, truth_has ctors true)
-value_of datatypes ctors values (sort.Tree d) h = let lt : d.0 < length datatypes = ltb-true d.0 (length datatypes) h in values d.0 lt
+value_of datatypes ctors values (sort.Tree d) h = let lt : d.0 < length datatypes = ltb-true d.0 (length datatypes) h in
+    values d.0 lt
 
 module _ (p : Program) (values : HaveValues p.types.datatypes p.types.ctors) where
   abbrev reply_if : (s : Sort) (b : Bool) → is_sort p.types.datatypes s ≡ b → Part Value
@@ -48,7 +49,8 @@ module _ (p : Program) (values : HaveValues p.types.datatypes p.types.ctors) whe
     λ frame g pre down args. reply (slice_get p.functions g.0),
     record {
       answers = λ frame g pre down args f is have.
-          let within = and_parts (list_all (is_sort p.types.datatypes) (param_sorts f.params)) _ (all_at (is_in_range p.types.datatypes) p.functions g.0 f (is_valid p).in_range is) in
+          let within = and_parts (list_all (is_sort p.types.datatypes) (param_sorts f.params)) _
+          (all_at (is_in_range p.types.datatypes) p.functions g.0 f (is_valid p).in_range is) in
           let v = replied f.result (is_sort p.types.datatypes f.result) refl within.1 in
           (v.0, ap reply is ∙ v.1, v.2);
     },

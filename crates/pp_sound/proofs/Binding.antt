@@ -6,7 +6,7 @@ use Rattle.pp_prog.specs.declared.sort.Sort.TheVariants as sort
 use Rattle.pp_prog.specs.declared.types.Ctor.{Ctor}
 use Rattle.pp_prog.specs.PatternSorts.{Binding, bind_fields, bind_tree, binds_none, then_bind}
 use Rattle.pp_prog.specs.Sorts.{same_sort}
-use Rattle.pp_sound.proofs.Env.{one_sort}
+use Rattle.pp_prog.proofs.ValueSorts.{one_sort}
 
 pub bind_then : (r : Option (List Sort)) (go : List Sort → Option (List Sort)) (ss : List Sort)
     → then_bind r go ≡ Some ss

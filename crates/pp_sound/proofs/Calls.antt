@@ -1,4 +1,5 @@
--- Calls of a valid program's functions are good, however deep they are nested, where those that are nested too deep are.
+-- Calls of a valid program's functions are good, however deep they are nested, where those that are nested too deep
+-- are.
 use Rattle.std.proofs.Common.{◌≡◌, ℕ, zero, suc, ◌<◌, Bool, true, List, [], ◌∷◌, ◌++◌, map, length, Option, Some, None}
 use Rattle.std.proofs.Common.{is_some, slice_get, sym, ap, ◌∙◌, subst}
 use Rattle.std.specs.Prelude.{⊤}
@@ -21,14 +22,14 @@ use Rattle.pp_eval.specs.Measure.{is_below}
 use Rattle.pp_eval.specs.Meaning.{CallMeaning, Frame, all_from, meaning}
 use Rattle.pp_eval.specs.Operators.{truth}
 use Rattle.pp_eval.specs.Part.{and_then}
-use Rattle.pp_sound.proofs.Env.{Have}
+use Rattle.pp_prog.proofs.ValueSorts.{Have}
 use Rattle.pp_sound.proofs.Exprs.{AreGood, expr_sound}
 use Rattle.pp_sound.proofs.Listed.{function_met, function_sorted}
 use Rattle.pp_sound.proofs.Operators.{condition}
 use Rattle.pp_sound.proofs.Parts.{IsAny, IsFine, IsOwn, IsSorted, MayStop, fine_either, fine_failed, fine_inside}
 use Rattle.pp_sound.proofs.Parts.{fine_stop, fine_then, fine_value}
 use Rattle.pp_sound.proofs.Sites.{AreMet, IsMet, met_left, met_right}
-use Rattle.pp_sound.proofs.Sorting.{has_the_sort_is, some_sort}
+use Rattle.pp_prog.proofs.PartSorts.{has_the_sort_is, some_sort}
 
 -- what holds of function number i: its parts have their sorts, and the sites of each are met
 pub record IsWhole (p : Program) (i : ℕ) (f : Function) : Type 0 where
@@ -98,31 +99,32 @@ module _ (p : Program) (D : Type 0) (i : ℕ) where
   descends_fine (Some c) (Some old) (Some new) own = fine_either (is_below p.types.ctors new old) (fine_value tt)
       (fine_stop own)
 
-  module _ (calls : CallMeaning) (g : FunctionId) (good : AreGood p D g.0 calls) (within : g.0 < length p.functions) where
-    admits_fine : (pre : Option Expr) (check : Option CheckId) (scope : List Sort)
-        → is_sorted_pre p.types p.functions pre scope ≡ true → AreMet p g.0 (pre_sites p.types p.functions pre scope)
-        → is_some check ≡ is_some pre → IsOwn p i check → (args : List Value) → Have p.types.ctors scope args
-        → IsFine (MayStop p D i) (IsAny {A = ⊤}) (admits calls g pre check args)
-    admits_fine None check scope sorted met some own args have = fine_value tt
-    admits_fine (Some pre) check scope sorted met some own args have =
-        fine_then (fine_inside p D i g within (condition_fine p D g.0 calls good pre scope sorted met None args have))
-        (λ t _. fine_either t (fine_value tt) (fine_failed p D i check some own))
+  module _ (calls : CallMeaning) (g : FunctionId) (good : AreGood p D g.0 calls) (within : g.0 < length p.functions)
+    where
+      admits_fine : (pre : Option Expr) (check : Option CheckId) (scope : List Sort)
+          → is_sorted_pre p.types p.functions pre scope ≡ true → AreMet p g.0 (pre_sites p.types p.functions pre scope)
+          → is_some check ≡ is_some pre → IsOwn p i check → (args : List Value) → Have p.types.ctors scope args
+          → IsFine (MayStop p D i) (IsAny {A = ⊤}) (admits calls g pre check args)
+      admits_fine None check scope sorted met some own args have = fine_value tt
+      admits_fine (Some pre) check scope sorted met some own args have =
+          fine_then (fine_inside p D i g within (condition_fine p D g.0 calls good pre scope sorted met None args have))
+          (λ t _. fine_either t (fine_value tt) (fine_failed p D i check some own))
 
-    enters_fine : (f : Function) → slice_get p.functions g.0 ≡ Some f
-        → (frame : Frame) (pre down : Option CheckId) (args : List Value)
-        → Have p.types.ctors (param_sorts f.params) args
-        → IsMet p i (precondition g pre) → IsMet p i (measure g down)
-        → IsSorted p D i f.result (enters calls p.types.ctors (Some f) frame g pre down args)
-    enters_fine f is frame pre down args have pre_site down_site =
-        let w = whole p g.0 f is in
-        let scope = param_sorts f.params in
-        fine_then (admits_fine f.pre pre scope w.pre_sorted w.pre_met (pre_site.carries ∙ ap has_precondition is)
-        pre_site.own args have)
-        (λ _ _. fine_then (fine_inside p D i g within (frame_fine p D g.0 calls good f.measure scope w.measure_sorted
-        w.measure_met args have))
-        (λ new _. fine_then (descends_fine down frame new down_site.own)
-        (λ _ _. fine_inside p D i g within (expr_sound p D g.0 calls good f.body scope f.result w.body_sorted w.body_met
-        new args have))))
+      enters_fine : (f : Function) → slice_get p.functions g.0 ≡ Some f
+          → (frame : Frame) (pre down : Option CheckId) (args : List Value)
+          → Have p.types.ctors (param_sorts f.params) args
+          → IsMet p i (precondition g pre) → IsMet p i (measure g down)
+          → IsSorted p D i f.result (enters calls p.types.ctors (Some f) frame g pre down args)
+      enters_fine f is frame pre down args have pre_site down_site =
+          let w = whole p g.0 f is in
+          let scope = param_sorts f.params in
+          fine_then (admits_fine f.pre pre scope w.pre_sorted w.pre_met (pre_site.carries ∙ ap has_precondition is)
+          pre_site.own args have)
+          (λ _ _. fine_then (fine_inside p D i g within (frame_fine p D g.0 calls good f.measure scope w.measure_sorted
+          w.measure_met args have))
+          (λ new _. fine_then (descends_fine down frame new down_site.own)
+          (λ _ _. fine_inside p D i g within (expr_sound p D g.0 calls good f.body scope f.result w.body_sorted w.body_met
+          new args have))))
 
 -- calls nested at most n deep are good, where those that are nested deeper are
 pub calls_good : (p : Program) (D : Type 0) (deeper : CallMeaning) → ((i : ℕ) → AreGood p D i deeper) → (n i : ℕ)

@@ -13,10 +13,10 @@ use Rattle.pp_prog.specs.Listing.{matching, unless_guarded}
 use Rattle.pp_eval.specs.Meaning.{or_next, taken}
 use Rattle.pp_eval.specs.Part.{Part}
 use Rattle.pp_sound.specs.Sound.{IsCheckOf}
-use Rattle.pp_sound.proofs.Env.{Has}
+use Rattle.pp_prog.proofs.ValueSorts.{Has}
 use Rattle.pp_sound.proofs.Parts.{IsFine, IsSorted, MayStop, fine_then, fine_value}
 use Rattle.pp_sound.proofs.Sites.{IsMet}
-use Rattle.pp_sound.proofs.Sorting.{alike_are}
+use Rattle.pp_prog.proofs.PartSorts.{alike_are}
 
 or_rest : (a b : Bool) → a ≡ false → (a || b) ≡ true → b ≡ true
 or_rest false b e h = h
@@ -46,8 +46,8 @@ module _ (p : Program) (s u : Sort) (scope : List Sort) where
   each_arm (arm ∷ arms) h = each_like (arm_sort p.types p.functions arm s scope) arms h
 
 module _ (p : Program) (i : ℕ) where
-  -- what holds of a value that reaches the cases with these unguarded patterns: one fits, or the match's check is one of
-  -- function number i
+  -- what holds of a value that reaches the cases with these unguarded patterns: one fits, or the match's check is one
+  -- of function number i
   abbrev pub MayReach : Option CheckId → List Pattern → Value → Type 0
   MayReach None patterns v = fits_one patterns v ≡ true
   MayReach (Some c) patterns v = IsCheckOf p i c.0

@@ -30,13 +30,13 @@ use Rattle.pp_eval.specs.Meaning as mean
 use Rattle.pp_eval.specs.Part.{Part, found}
 use Rattle.pp_sound.proofs.Cases.{EachArm, IsMissed, IsTaken, MayReach, each_arm, or_next_fine, reaches_first}
 use Rattle.pp_sound.proofs.Cases.{reaches_next, taken_fine}
-use Rattle.pp_sound.proofs.Env.{Has, Have, have_at, have_more, have_one, int_has, tree_has_sort, truth_has}
+use Rattle.pp_prog.proofs.ValueSorts.{Has, Have, have_at, have_more, have_one, int_has, tree_has_sort, truth_has}
 use Rattle.pp_sound.proofs.Fields.{field_is}
 use Rattle.pp_sound.proofs.Operators.{at_sort as at_its_sort, binary_fine, condition, judged, unary_fine}
 use Rattle.pp_sound.proofs.Parts.{IsFine, IsSorted, MayStop, fine_either, fine_stop, fine_then, fine_value}
 use Rattle.pp_sound.proofs.Patterns.{pattern_fine}
 use Rattle.pp_sound.proofs.Sites.{AreMet, IsMet, met_head, met_left, met_right, met_tail}
-use Rattle.pp_sound.proofs.Sorting.{alike_are, bool_then, call_sort_is, sort_then, sort_there, tree_sort_is, tree_then}
+use Rattle.pp_prog.proofs.PartSorts.{alike_are, bool_then, call_sort_is, sort_then, sort_there, tree_sort_is, tree_then}
 
 -- what a call comes to at a site of function number i that is met, on arguments of the parameters' sorts, is fine
 pub record AreGood (p : Program) (D : Type 0) (i : ℕ) (calls : CallMeaning) : Type 0 where
@@ -156,11 +156,13 @@ module _ (p : Program) (D : Type 0) (i : ℕ) (calls : CallMeaning) where
       → AreMet p i (placed y scope) → (frame : Frame) (env : List Value) → Have p.types.ctors scope env
       → IsSorted p D i s (meant y frame env)
   level good (layer.Int n) scope s h met frame env have =
-      let e = sort_there (is_int n) sort.Int s h in is_sort sort.Int s (Ok (Int n)) e.1 (fine_value (int_has p.types.ctors n e.0))
+      let e = sort_there (is_int n) sort.Int s h in
+      is_sort sort.Int s (Ok (Int n)) e.1 (fine_value (int_has p.types.ctors n e.0))
   level good (layer.Bool b) scope s h met frame env have = at_its_sort p D i sort.Bool (Ok (Truth b))
       (fine_value (truth_has p.types.ctors b)) s h
   level good (layer.Var k) scope s h met frame env have =
-      let v = have_at p.types.ctors scope env k s have h in subst (λ o. IsSorted p D i s (found o)) (sym v.1) (fine_value v.2)
+      let v = have_at p.types.ctors scope env k s have h in
+      subst (λ o. IsSorted p D i s (found o)) (sym v.1) (fine_value v.2)
   level good (layer.Unary op a) scope s h met frame env have =
       unary_fine p D i op (Sorted a.0 scope) (Meant a.0 frame env) (λ t e. a.1 scope t e met frame env have) s h
   level good (layer.Binary op a b check) scope s h met frame env have =
@@ -188,13 +190,16 @@ module _ (p : Program) (D : Type 0) (i : ℕ) (calls : CallMeaning) where
       let placed_cases = with_case_sites (cases ys) in
       let t = sort_then (Sorted e.0 scope) (λ t. arms_sort p.types p.functions arms t scope) s h in
       let after : AreMet p i (matching t.0 (unguarded placed_cases) check ∷ sites_of_cases placed_cases t.0 scope) =
-      subst (λ o. AreMet p i (at_sort o (λ t. matching t (unguarded placed_cases) check ∷ sites_of_cases placed_cases t scope))) t.1 (met_right _ _ met) in
+      subst (λ o. AreMet p i (at_sort o
+      (λ t. matching t (unguarded placed_cases) check ∷ sites_of_cases placed_cases t scope))) t.1
+      (met_right _ _ met) in
       fine_then (e.1 scope t.0 t.1 (met_left _ _ met) frame env have)
       (λ v has. cases_fine ys t.0 s scope (each_arm p t.0 s scope arms t.2) (met_tail after) frame env have v has check
       (reaches_first p i t.0 (unguarded placed_cases) check (met_head after) v has))
   level good (layer.Val bound rest) scope s h met frame env have =
       let t = sort_then (Sorted bound.0 scope) (λ t. Sorted rest.0 (scope ++ t ∷ [])) s h in
-      let after : AreMet p i (Placed rest.0 (scope ++ t.0 ∷ [])) = subst (λ o. AreMet p i (at_sort o (λ t. Placed rest.0 (scope ++ t ∷ [])))) t.1 (met_right _ _ met) in
+      let after : AreMet p i (Placed rest.0 (scope ++ t.0 ∷ [])) =
+      subst (λ o. AreMet p i (at_sort o (λ t. Placed rest.0 (scope ++ t ∷ [])))) t.1 (met_right _ _ met) in
       fine_then (bound.1 scope t.0 t.1 (met_left _ _ met) frame env have)
       (λ v has. rest.1 (scope ++ t.0 ∷ []) s t.2 after frame (env ++ v ∷ [])
       (have_more p.types.ctors scope (t.0 ∷ []) env (v ∷ []) have (have_one p.types.ctors t.0 v has)))
@@ -254,7 +259,8 @@ module _ (p : Program) (D : Type 0) (i : ℕ) (calls : CallMeaning) where
   case_under y = map-Case E K Expr Case (λ z. z.0) (λ z. z.0) y
 
   -- a case by its parts
-  by_parts : (pattern : Pattern) (guard : Option E) (b : E) (s u : Sort) (scope : List Sort) → let z = case_under (record { pattern = pattern; guard = guard; body = b }) in
+  by_parts : (pattern : Pattern) (guard : Option E) (b : E) (s u : Sort) (scope : List Sort) → let z =
+      case_under (record { pattern = pattern; guard = guard; body = b }) in
       sorts.arm_sort p.types p.functions (sorts.arm_step (map-Case Expr Case Sorting sorts.Arm Sorted SortedArm z)) s
       scope ≡ Some u
       → AreMet p i (case_sites p.types p.functions (map-Case Expr Case (Expr × Sites) (Case × CaseSites)
@@ -273,7 +279,8 @@ module _ (p : Program) (D : Type 0) (i : ℕ) (calls : CallMeaning) where
   at_case y s u scope h met frame env have v has =
       let z = case_under y in
       let sort_is = fold-roll-Case Sorting sorts.Arm (sort_step p.types p.functions) sorts.arm_step z in
-      let sites_are = para-roll-Case Sites CaseSites (site_step p.types p.functions) (case_sites p.types p.functions) z in
+      let sites_are = para-roll-Case Sites CaseSites (site_step p.types p.functions) (case_sites p.types p.functions)
+      z in
       let meaning_is = fold-roll-Case Meaning mean.Arm (meaning_step calls) mean.arm_step z in
       subst (λ (a : mean.Arm). IsFine (MayStop p D i) (IsTaken p u (IsMissed (roll-Case z).guard y.pattern v))
       (attempt a v frame env)) (sym meaning_is)
@@ -287,7 +294,8 @@ module _ (p : Program) (D : Type 0) (i : ℕ) (calls : CallMeaning) where
   at_level good y scope s h met frame env have =
       let z = under y in
       let sort_is = fold-roll-Expr Sorting sorts.Arm (sort_step p.types p.functions) sorts.arm_step z in
-      let sites_are = para-roll-Expr Sites CaseSites (site_step p.types p.functions) (case_sites p.types p.functions) z in
+      let sites_are = para-roll-Expr Sites CaseSites (site_step p.types p.functions) (case_sites p.types p.functions)
+      z in
       let meaning_is = fold-roll-Expr Meaning mean.Arm (meaning_step calls) mean.arm_step z in
       subst (λ (m : Meaning). IsSorted p D i s (m frame env)) (sym meaning_is)
       (level good y scope s (sym (ap (λ (a : Sorting). a scope) sort_is) ∙ h)

@@ -16,19 +16,21 @@ use Rattle.pp_eval.specs.Runs.{outcome, run_with}
 use Rattle.pp_sound.specs.Sound.{AnswersSorted, DeepByFuelAlone, FailListedChecks, IsCalled, IsCheckOf, KeepSorts}
 use Rattle.pp_sound.specs.Sound.{NeverStuck}
 use Rattle.pp_sound.proofs.Calls.{calls_good}
-use Rattle.pp_sound.proofs.Env.{Has}
+use Rattle.pp_prog.proofs.ValueSorts.{Has}
 use Rattle.pp_sound.proofs.Exprs.{AreGood}
 use Rattle.pp_sound.proofs.Parts.{IsFine, IsSorted, MayStop, fine_stop, fine_value}
 use Rattle.pp_sound.proofs.Runs.{IsEnd, run_fine}
 
-answers_good : (p : Program) (deeper : CallMeaning) → AnswersSorted p deeper → (i : ℕ) → AreGood p ⊥ i deeper
+-- calls of values of the sorts are good, so that none is Deep
+pub answers_good : (p : Program) (deeper : CallMeaning) → AnswersSorted p deeper → (i : ℕ) → AreGood p ⊥ i deeper
 answers_good p deeper answers i = record {
   part = λ frame g pre down args f is have met_pre met_down.
       let v = answers.answers frame g pre down args f is have in
       subst (IsSorted p ⊥ i f.result) (sym v.1) (fine_value v.2);
 }
 
-no_fuel_good : (p : Program) (i : ℕ) → AreGood p (Unit {0}) i no_fuel
+-- calls with no fuel left are Deep, which is all that is asked of them
+pub no_fuel_good : (p : Program) (i : ℕ) → AreGood p (Unit {0}) i no_fuel
 no_fuel_good p i = record {
   part = λ frame g pre down args f is have met_pre met_down. fine_stop tt;
 }

@@ -1,10 +1,8 @@
-pub mod Env
 pub mod Words
 pub mod Binding
 pub mod Patterns
 pub mod Parts
 pub mod Sites
-pub mod Sorting
 pub mod Operands
 pub mod Operators
 pub mod Fields

@@ -32,7 +32,8 @@ joined_has : {A B : Type 0} (f : A → List B) (xs : List A) (x : A) (y : B) (k 
 joined_has f [] x y k lt e has = absurd (omega arith)
 joined_has f (z ∷ zs) x y zero lt e has = Contains-append_left (f z) (joined (map f zs)) y
     (subst (λ w. Contains (f w) y) (sym e) has)
-joined_has f (z ∷ zs) x y (suc k) lt e has = Contains-append_right (f z) (joined (map f zs)) y (joined_has f zs x y k (omega arith) e has)
+joined_has f (z ∷ zs) x y (suc k) lt e has =
+    Contains-append_right (f z) (joined (map f zs)) y (joined_has f zs x y k (omega arith) e has)
 
 map_has : {A B : Type 0} (f : A → B) (xs : List A) (x : A) (k : ℕ) → k < length xs → get_or xs k x ≡ x
     → Contains (map f xs) (f x)
@@ -52,7 +53,8 @@ listing_has : (types : TypeTable) (functions fs : List Function) (m j : ℕ) (f 
 listing_has types functions [] m j f is c has = cc
 listing_has types functions (g ∷ fs) m zero f is c has =
     let e : g ≡ f = cc in
-    let here : Contains (function_checks types functions g) c = subst (λ h. Contains (function_checks types functions h) c) (sym e) has in
+    let here : Contains (function_checks types functions g) c =
+    subst (λ h. Contains (function_checks types functions h) c) (sym e) has in
     let n : m ≡ m + 0 = omega arith in
     subst (λ k. Contains (listing_from types functions m (g ∷ fs)) (entry_of k c)) n
     (Contains-append_left (map (entry_of m) (function_checks types functions g))
@@ -69,22 +71,31 @@ listing_has types functions (g ∷ fs) m (suc j) f is c has =
 carries_it : (site : Site) (c : CheckId) → check_of site ≡ Some c → (k : CheckKind) × Contains (carried site) (c, k)
 carries_it (plain check) c e = cc
 carries_it (division None) c e = cc
-carries_it (division (Some d)) c e = let same : d ≡ c = cc in (kind.Division, (0, omega arith, ap (λ (x : CheckId). (x, kind.Division)) same))
-carries_it (assertion d) c e = let same : d ≡ c = cc in (kind.Assertion, (0, omega arith, ap (λ (x : CheckId). (x, kind.Assertion)) same))
+carries_it (division (Some d)) c e = let same : d ≡ c = cc in
+    (kind.Division, (0, omega arith, ap (λ (x : CheckId). (x, kind.Division)) same))
+carries_it (assertion d) c e = let same : d ≡ c = cc in
+    (kind.Assertion, (0, omega arith, ap (λ (x : CheckId). (x, kind.Assertion)) same))
 carries_it (precondition g None) c e = cc
-carries_it (precondition g (Some d)) c e = let same : d ≡ c = cc in (kind.Precondition, (0, omega arith, ap (λ (x : CheckId). (x, kind.Precondition)) same))
+carries_it (precondition g (Some d)) c e = let same : d ≡ c = cc in
+    (kind.Precondition, (0, omega arith, ap (λ (x : CheckId). (x, kind.Precondition)) same))
 carries_it (measure g None) c e = cc
-carries_it (measure g (Some d)) c e = let same : d ≡ c = cc in (kind.Measure, (0, omega arith, ap (λ (x : CheckId). (x, kind.Measure)) same))
+carries_it (measure g (Some d)) c e = let same : d ≡ c = cc in
+    (kind.Measure, (0, omega arith, ap (λ (x : CheckId). (x, kind.Measure)) same))
 carries_it (matching s patterns None) c e = cc
-carries_it (matching s patterns (Some d)) c e = let same : d ≡ c = cc in (kind.Match, (0, omega arith, ap (λ (x : CheckId). (x, kind.Match)) same))
-carries_it (postcondition d) c e = let same : d ≡ c = cc in (kind.Postcondition, (0, omega arith, ap (λ (x : CheckId). (x, kind.Postcondition)) same))
+carries_it (matching s patterns (Some d)) c e = let same : d ≡ c = cc in
+    (kind.Match, (0, omega arith, ap (λ (x : CheckId). (x, kind.Match)) same))
+carries_it (postcondition d) c e = let same : d ≡ c = cc in
+    (kind.Postcondition, (0, omega arith, ap (λ (x : CheckId). (x, kind.Postcondition)) same))
 
 module _ (p : Program) (i : ℕ) (f : Function) (is : slice_get p.functions i ≡ Some f) where
   -- a check of the function is listed as its
   check_found : (c : CheckId × CheckKind) → Contains (function_checks p.types p.functions f) c → IsCheckOf p i c.0.0
   check_found c has =
-      let whole : Contains (listing p.types p.functions) (entry_of i c) = subst (λ n. Contains (listing p.types p.functions) (entry_of n c)) (omega arith) (listing_has p.types p.functions p.functions 0 i f is c has) in
-      let there : Contains (map entry p.checks) (entry_of i c) = subst (λ (l : List Entry). Contains l (entry_of i c)) (sym (is_valid p).listed) whole in
+      let whole : Contains (listing p.types p.functions) (entry_of i c) =
+      subst (λ n. Contains (listing p.types p.functions) (entry_of n c)) (omega arith)
+      (listing_has p.types p.functions p.functions 0 i f is c has) in
+      let there : Contains (map entry p.checks) (entry_of i c) =
+      subst (λ (l : List Entry). Contains l (entry_of i c)) (sym (is_valid p).listed) whole in
       let found = map_from entry p.checks (entry_of i c) there.0 there.1 there.2 in
       let numbered = (is_valid p).numbered there.0 found.0 found.1 in
       record {
@@ -100,7 +111,10 @@ module _ (p : Program) (i : ℕ) (f : Function) (is : slice_get p.functions i �
   site_met : (site : Site) → Contains (function_sites p.types p.functions f) site → IsMet p i site
   site_met site has = record {
     carries = (is_valid p).carried i f is site has;
-    own = own_from (check_of site) (λ c e. let k = carries_it site c e in check_found (c, k.0) (joined_has carried (function_sites p.types p.functions f) site (c, k.0) has.0 has.1 has.2 k.1));
+    own = own_from (check_of site)
+        (λ c e. let k = carries_it site c e in
+        check_found (c, k.0) (joined_has carried (function_sites p.types p.functions f) site (c, k.0) has.0 has.1 has.2
+        k.1));
   }
 
   -- the sites of the function are met

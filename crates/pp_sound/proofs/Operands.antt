@@ -7,7 +7,7 @@ use Rattle.pp_prog.specs.declared.expr.UnaryOp.TheVariants.{Neg, Not, Flip}
 use Rattle.pp_prog.specs.declared.sort.Sort.{Sort}
 use Rattle.pp_prog.specs.declared.sort.Sort.TheVariants as sort
 use Rattle.pp_prog.specs.ExprSorts.{a_bool, an_int, alike, binary_sort, bits_sort, unary_sort}
-use Rattle.pp_sound.proofs.Sorting.{alike_are, bool_then, int_then, sort_then}
+use Rattle.pp_prog.proofs.PartSorts.{alike_are, bool_then, int_then, sort_then}
 
 abbrev pub HasASort : Option Sort → Type 0
 HasASort o = (s : Sort) × (o ≡ Some s)

@@ -27,11 +27,11 @@ use Rattle.pp_eval.specs.Meaning.{Frame, Meaning, binary}
 use Rattle.pp_eval.specs.Operators.{divided, number, number_in, on_layers, on_numbers, on_truths, truth, truth_in}
 use Rattle.pp_eval.specs.Operators.{unary}
 use Rattle.pp_eval.specs.Part.{Part, and_then, either}
-use Rattle.pp_sound.proofs.Env.{Has, int_has, level_has, tree_is, truth_has}
+use Rattle.pp_prog.proofs.ValueSorts.{Has, int_has, level_has, tree_is, truth_has}
 use Rattle.pp_sound.proofs.Parts.{IsAny, IsFine, IsOwn, IsSorted, MayStop, fine_either, fine_failed, fine_then}
 use Rattle.pp_sound.proofs.Parts.{fine_value}
 use Rattle.pp_sound.proofs.Sites.{IsMet}
-use Rattle.pp_sound.proofs.Sorting.{alike_are, bool_then, int_then, sort_then}
+use Rattle.pp_prog.proofs.PartSorts.{alike_are, bool_then, int_then, sort_then}
 use Rattle.pp_sound.proofs.Words.{add_int, sub_int, mul_int, neg_int, div_int, rem_int, shl_int, shr_int, ushr_int}
 use Rattle.pp_sound.proofs.Words.{and_int, or_int, xor_int, not_int}
 use lib.IntN.{ℤ}
@@ -60,7 +60,8 @@ module _ (ctors : List Ctor) where
 module _ (p : Program) (D : Type 0) (i : ℕ) where
   truth_fine : (v : Value) → Has p.types.ctors sort.Bool v → IsFine (MayStop p D i) (IsAny {A = Bool}) (truth v)
   truth_fine v h =
-      let k = truth_is p.types.ctors v h in subst (λ o. IsFine (MayStop p D i) (IsAny {A = Bool}) (truth_in o)) (sym k.1) (fine_value tt)
+      let k = truth_is p.types.ctors v h in
+      subst (λ o. IsFine (MayStop p D i) (IsAny {A = Bool}) (truth_in o)) (sym k.1) (fine_value tt)
 
   -- a Boolean part comes to a truth value
   pub condition : (part : Part Value) → IsSorted p D i sort.Bool part
@@ -78,7 +79,8 @@ module _ (p : Program) (D : Type 0) (i : ℕ) where
       → ((n : ℤ) → is_int n ≡ true → IsFine (MayStop p D i) W (go n))
       → IsFine (MayStop p D i) W (and_then part (λ v. and_then (number v) go))
   counted {W = W} go h k =
-      fine_then h (λ v is. let n = number_is p.types.ctors v is in subst (λ o. IsFine (MayStop p D i) W (and_then (number_in o) go)) (sym n.1) (k n.0 n.2))
+      fine_then h (λ v is. let n = number_is p.types.ctors v is in
+      subst (λ o. IsFine (MayStop p D i) W (and_then (number_in o) go)) (sym n.1) (k n.0 n.2))
 
   -- the part is fine at the sort that there is
   abbrev pub IsAt : Option Sort → Part Value → Type 0
@@ -96,11 +98,16 @@ module _ (p : Program) (D : Type 0) (i : ℕ) where
   pub unary_fine : (op : UnaryOp) (o : Option Sort) (part : Part Value) → IsAt o part
       → IsAt (unary_sort op o) (and_then part (unary op))
   unary_fine Neg o part k s h =
-      let e = int_then o (Some sort.Int) s h in at_sort sort.Int _ (counted (λ n. Ok (Int (word_neg w32 n))) (k sort.Int e.0) (λ n is. an_int_value _ (neg_int n))) s e.1
+      let e = int_then o (Some sort.Int) s h in
+      at_sort sort.Int _ (counted (λ n. Ok (Int (word_neg w32 n))) (k sort.Int e.0)
+      (λ n is. an_int_value _ (neg_int n))) s e.1
   unary_fine Not o part k s h =
-      let e = bool_then o (Some sort.Bool) s h in at_sort sort.Bool _ (judged (k sort.Bool e.0) (λ b. a_truth_value (not b))) s e.1
+      let e = bool_then o (Some sort.Bool) s h in
+      at_sort sort.Bool _ (judged (k sort.Bool e.0) (λ b. a_truth_value (not b))) s e.1
   unary_fine Flip o part k s h =
-      let e = int_then o (Some sort.Int) s h in at_sort sort.Int _ (counted (λ n. Ok (Int (word_not w32 n))) (k sort.Int e.0) (λ n is. an_int_value _ (not_int n is))) s e.1
+      let e = int_then o (Some sort.Int) s h in
+      at_sort sort.Int _ (counted (λ n. Ok (Int (word_not w32 n))) (k sort.Int e.0)
+      (λ n is. an_int_value _ (not_int n is))) s e.1
 
   -- ---- two operands that were evaluated
 

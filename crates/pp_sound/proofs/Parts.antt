@@ -9,7 +9,7 @@ use Rattle.pp_eval.specs.declared.outcome.Stop.{Stop}
 use Rattle.pp_eval.specs.declared.outcome.Stop.TheVariants.{Deep, Fails, Inner, Stuck}
 use Rattle.pp_eval.specs.Part.{Part, and_then, either, failed, inside}
 use Rattle.pp_sound.specs.Sound.{IsCheckOf}
-use Rattle.pp_sound.proofs.Env.{Has}
+use Rattle.pp_prog.proofs.ValueSorts.{Has}
 
 -- by cases on the part: V holds of its value, or S of its stop
 abbrev pub Told : {A : Type 0} → (Stop → Type 0) → (A → Type 0) → Part A → Type 0

@@ -1,7 +1,7 @@
 -- What a pattern binds has the sorts that it says.
-use Rattle.std.proofs.Common.{◌≡◌, Bool, true, false, List, [], ◌∷◌, ◌++◌, map, Option, Some, None, slice_get, refl}
+use Rattle.std.proofs.Common.{◌≡◌, Bool, true, List, [], ◌∷◌, ◌++◌, map, Some, slice_get, refl}
 use Rattle.std.proofs.Common.{sym, ap, ◌∙◌, subst}
-use Rattle.std.specs.Prelude.{nat_eq, if◌then◌else◌}
+use Rattle.std.specs.Prelude.{nat_eq}
 use Rattle.std.proofs.lemmas.Bool.{and_parts, eqb-true}
 use Rattle.pp_prog.specs.declared.expr.Pattern.{Pattern}
 use Rattle.pp_prog.specs.declared.expr.Pattern.TheFolds.{fold-roll-Pattern, ind-Pattern, map-Pattern}
@@ -15,40 +15,12 @@ use Rattle.pp_prog.specs.declared.value.Value.{Value}
 use Rattle.pp_prog.specs.declared.value.Value.TheFolds.{map-Value}
 use Rattle.pp_prog.specs.declared.value.Value.TheOpen as value
 use Rattle.pp_prog.specs.declared.value.Value.TheViews.{out-Value}
-use Rattle.pp_prog.specs.Fits.{Fitting, bound_before, bound_both, fit, fit_bool, fit_fields, fit_int, fit_step}
-use Rattle.pp_prog.specs.Fits.{fit_tree, fits_if, same_truth}
+use Rattle.pp_prog.specs.Fits.{Fitting, fit, fit_fields, fit_step, fit_tree}
 use Rattle.pp_prog.specs.PatternSorts.{Binding, bind_fields, bind_step, bind_tree, bound_sorts, then_bind}
 use Rattle.pp_prog.specs.Sorts.{has_sort, has_step, same_sort}
-use Rattle.pp_sound.proofs.Env.{Has, Have, have_more, have_one, level_has, tree_is}
+use Rattle.pp_prog.proofs.PatternFits.{before_is, both_are, if_some, int_binds, truth_binds}
+use Rattle.pp_prog.proofs.ValueSorts.{Has, Have, have_more, have_one, level_has, tree_is}
 use Rattle.pp_sound.proofs.Binding.{bind_then, none_binds}
-
-before_is : (here : List Value) (r : Option (List Value)) (vs : List Value) → bound_before here r ≡ Some vs
-    → (more : List Value) × (r ≡ Some more) × (here ++ more ≡ vs)
-before_is here None vs h = cc
-before_is here (Some more) vs h = (more, refl, cc)
-
-both_are : (a b : Option (List Value)) (vs : List Value) → bound_both a b ≡ Some vs → (here : List Value)
-    × (more : List Value) × (a ≡ Some here) × (b ≡ Some more) × (here ++ more ≡ vs)
-both_are None b vs h = cc
-both_are (Some here) b vs h = let q = before_is here b vs h in (here, q.0, refl, q.1, q.2)
-
-empty_if : (b : Bool) (vs : List Value) → fits_if b ≡ Some vs → [] ≡ vs
-empty_if true vs h = cc
-empty_if false vs h = cc
-
-if_some : {A : Type 0} (b : Bool) (o : Option A) (x : A) → (if b then o else None) ≡ Some x → (b ≡ true) × (o ≡ Some x)
-if_some true o x h = (refl, h)
-if_some false o x h = cc
-
-int_binds : (n : _) (o : value.Value-F Value) (vs : List Value) → fit_int n o ≡ Some vs → [] ≡ vs
-int_binds n (value.Int m) vs h = empty_if _ vs h
-int_binds n (value.Bool b) vs h = cc
-int_binds n (value.Tree c fs) vs h = cc
-
-truth_binds : (a : Bool) (o : value.Value-F Value) (vs : List Value) → fit_bool a o ≡ Some vs → [] ≡ vs
-truth_binds a (value.Int m) vs h = cc
-truth_binds a (value.Bool b) vs h = empty_if (same_truth a b) vs h
-truth_binds a (value.Tree c fs) vs h = cc
 
 module _ (ctors : List Ctor) where
   -- what is bound at a value of the sort has the sorts that are said
@@ -93,7 +65,8 @@ module _ (ctors : List Ctor) where
       let m = if_some (nat_eq c.0 d.0) _ vs f in
       let k = tree_is (slice_get ctors d.0) (map (has_sort ctors) fields) s h in
       let known : slice_get ctors c.0 ≡ Some k.0 = ap (slice_get ctors) (eqb-true c.0 d.0 m.0) ∙ k.1 in
-      let bound = if_some (same_sort (sort.Tree k.0.of) s) _ ss (sym (ap (λ o. bind_tree o (map (bound_sorts ctors) (map (λ (z : P). z.0) ys)) s) known) ∙ b) in
+      let bound = if_some (same_sort (sort.Tree k.0.of) s) _ ss
+      (sym (ap (λ o. bind_tree o (map (bound_sorts ctors) (map (λ (z : P). z.0) ys)) s) known) ∙ b) in
       fields_fine ys k.0.fields ss bound.1 fields vs k.3 m.1
 
   level : (y : pattern.Pattern-F P) → Fine (fit_step (map-Pattern Pattern Fitting fit

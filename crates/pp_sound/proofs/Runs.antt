@@ -16,12 +16,12 @@ use Rattle.pp_eval.specs.Invocation.{allowed}
 use Rattle.pp_eval.specs.Meaning.{CallMeaning, Frame}
 use Rattle.pp_eval.specs.Runs.{finished, run_with, started}
 use Rattle.pp_sound.proofs.Calls.{IsWhole, condition_fine, frame_fine, whole}
-use Rattle.pp_sound.proofs.Env.{Has, Have, have_more, have_one}
+use Rattle.pp_prog.proofs.ValueSorts.{Has, Have, have_more, have_one}
 use Rattle.pp_sound.proofs.Exprs.{AreGood, expr_sound}
 use Rattle.pp_sound.proofs.Operators.{judged}
 use Rattle.pp_sound.proofs.Parts.{IsAny, IsFine, MayStop, fine_either, fine_stop, fine_then, fine_value}
 use Rattle.pp_sound.proofs.Sites.{AreMet, met_head, met_left, met_right}
-use Rattle.pp_sound.proofs.Sorting.{has_the_sort_is}
+use Rattle.pp_prog.proofs.PartSorts.{has_the_sort_is}
 
 -- a run that no check stops is done with a value of the sort, or isn't allowed
 abbrev pub IsEnd : Program → Sort → Outcome → Type 0
@@ -46,7 +46,8 @@ module _ (p : Program) (D : Type 0) (i : ℕ) (calls : CallMeaning) (good : AreG
       → IsFine (MayStop p D i) (IsEnd p s) (finished calls post frame args v)
   finished_fine None scope s sorted met frame args have v has = fine_value has
   finished_fine (Some post) scope s sorted met frame args have v has =
-      let is = has_the_sort_is p.types p.functions sort.Bool (sort_of p.types p.functions post.1 (scope ++ s ∷ [])) sorted in
+      let is = has_the_sort_is p.types p.functions sort.Bool (sort_of p.types p.functions post.1 (scope ++ s ∷ []))
+      sorted in
       let all_have = have_more p.types.ctors scope (s ∷ []) args (v ∷ []) have (have_one p.types.ctors s v has) in
       judged p D i (expr_sound p D i calls good post.1 (scope ++ s ∷ []) sort.Bool is (met_left _ _ met) frame
       (args ++ v ∷ []) all_have)

@@ -1,38 +1,17 @@
 -- The results of the operators on words are words: they lie in the range of Int.
 use Rattle.std.proofs.Common.{◌≡◌, ◌/◌, ◌^◌, ◌<◌, true, arith}
 use Rattle.std.specs.Int.{w32, int_wrap, cast_unsigned}
-use Rattle.std.specs.Int.RustNames.{int_le, int_lt}
 use Rattle.std.proofs.Math.Nat.{div-le_self}
-use Rattle.std.proofs.lemmas.Bool.{and_from, and_parts}
-use Rattle.std.proofs.lemmas.Int.{ints, SFits-int_wrap}
+use Rattle.std.proofs.lemmas.Int.{SFits-int_wrap}
 use Rattle.pp_word.specs.Word.{word_add, word_sub, word_mul, word_neg, word_div, word_rem, shift_distance, word_shl}
 use Rattle.pp_word.specs.Word.{word_shr, word_ushr, word_and, word_or, word_xor, word_not}
-use Rattle.pp_word.specs.Wrapping.{IsWord}
 use Rattle.pp_word.proofs.Digits.{and_fits, or_fits, xor_fits, not_fits}
 use Rattle.pp_word.proofs.Moves.{fits_shr}
 use Rattle.pp_word.proofs.Quotients.{fits_remainder}
 use Rattle.pp_word.proofs.Ranges.{IsWord-from_fits, IsWord-cast_signed, cast_unsigned_below}
 use Rattle.pp_prog.specs.Sorts.{is_int}
-use lib.Signed.{◌≤ℤ◌, ◌<ℤ◌}
+use Rattle.pp_eval.proofs.Ranges.{int_from, word_from}
 use lib.IntN.{ℤ}
-
-at_most : (a b : ℤ) → int_le a b ≡ true → a ≤ℤ b
-at_most a b h = grind (arith, ints)
-
-less : (a b : ℤ) → int_lt a b ≡ true → a <ℤ b
-less a b h = grind (arith, ints)
-
-at_most_true : (a b : ℤ) → a ≤ℤ b → int_le a b ≡ true
-at_most_true a b h = grind (arith, ints)
-
-less_true : (a b : ℤ) → a <ℤ b → int_lt a b ≡ true
-less_true a b h = grind (arith, ints)
-
-word_from : (n : ℤ) → is_int n ≡ true → IsWord w32 n
-word_from n h = let p = and_parts _ _ h in (at_most _ n p.0, less n _ p.1)
-
-int_from : (n : ℤ) → IsWord w32 n → is_int n ≡ true
-int_from n h = and_from _ _ (at_most_true _ n h.0) (less_true n _ h.1)
 
 wrapped : (z : ℤ) → is_int (int_wrap w32 z) ≡ true
 wrapped z = int_from _ (IsWord-from_fits w32 _ (SFits-int_wrap w32 z))
@@ -73,7 +52,8 @@ pub ushr_int : (a b : ℤ) → is_int a ≡ true → is_int (word_ushr w32 a b) 
 unfolding word_ushr
 ushr_int a b h =
     let u = cast_unsigned w32 a in
-    let below : u / 2 ^ shift_distance w32 b < 2 ^ 32 = omega (arith, div-le_self u (2 ^ shift_distance w32 b), cast_unsigned_below w32 a (word_from a h)) in
+    let below : u / 2 ^ shift_distance w32 b < 2 ^ 32 =
+    omega (arith, div-le_self u (2 ^ shift_distance w32 b), cast_unsigned_below w32 a (word_from a h)) in
     int_from _ (IsWord-cast_signed w32 (u / 2 ^ shift_distance w32 b) below)
 
 pub and_int : (a b : ℤ) → is_int a ≡ true → is_int (word_and w32 a b) ≡ true

@@ -1,5 +1,5 @@
--- Type soundness: what holds of the runs of a valid program on arguments of the parameters' sorts. Source: own; the idea
--- is that of Wright and Felleisen, A Syntactic Approach to Type Soundness.
+-- Type soundness: what holds of the runs of a valid program on arguments of the parameters' sorts. Source: own; the
+-- idea is that of Wright and Felleisen, A Syntactic Approach to Type Soundness.
 use Rattle.std.specs.Prelude.{◌≡◌, ◌≢◌, ◌<◌, ℕ, IsTrue, List, Option, Some, Ok, Err, length, slice_get}
 use Rattle.pp_prog.specs.declared.check.Check.{Check}
 use Rattle.pp_prog.specs.declared.expr.Function.{Function}

@@ -31,6 +31,3 @@ pub fn keep_sorts()
 pub fn fail_listed_checks()
     ensures { FailListedChecks }
 {}
-
-#[cfg(test)]
-mod tests;

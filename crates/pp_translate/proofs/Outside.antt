@@ -15,7 +15,8 @@ use Rattle.pp_prog.specs.declared.value.Value.{Value}
 past : (d n : ℕ) → nat_lt d n ≡ false → n ≤ d
 past d n h = grind (arith, nat_tests)
 
-pub no_value : (datatypes : List Datatype) (ctors : List Ctor) → Agree datatypes ctors → (s : Sort) → is_sort datatypes s ≡ false
+pub no_value : (datatypes : List Datatype) (ctors : List Ctor) → Agree datatypes ctors → (s : Sort)
+    → is_sort datatypes s ≡ false
     → (v : Value) → IsTrue (has_sort ctors v s) → ⊥
 no_value datatypes ctors agree sort.Int h v has = cc
 no_value datatypes ctors agree sort.Bool h v has = cc

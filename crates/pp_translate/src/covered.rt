@@ -19,8 +19,8 @@ fn is_sort(types: &TypeTable, sort: Sort) -> bool
     }
 }
 
-/// Whether each value of the sort fits one of the patterns. A sort that isn't one of the table has no value. There is no
-/// memory for 65,536 patterns and more.
+/// Whether each value of the sort fits one of the patterns. A sort that isn't one of the table has no value. There is
+/// no memory for 65,536 patterns and more.
 pub(crate) fn is_covered(
     alloc: Global,
     types: &TypeTable,

@@ -31,7 +31,8 @@ fn add_unguarded(
     patterns: &mut Patterns,
 ) -> Result<(), NoMemory>
     requires { AreTables typed.now.ctors target.now.numbers }
-    ensures { IfOk result (λ _. patterns.new ≡ patterns.old ++ spec.unguarded_case typed.now target.now.numbers.roots sort.now c.now) }
+    ensures { IfOk result (λ _. patterns.new ≡ patterns.old
+        ++ spec.unguarded_case typed.now target.now.numbers.roots sort.now c.now) }
 {
     match &c.guard {
         None => {
@@ -71,7 +72,8 @@ fn cover(
     cases: &[TypedCase],
 ) -> Result<bool, NoMemory>
     requires { AreTables typed.now.ctors target.now.numbers }
-    ensures { IfOk result (λ b. IsTrue b ↔ Covers target.now.types.ctors (sort_at target.now.numbers.roots own.now.args matched.now.of)
+    ensures { IfOk result (λ b. IsTrue b ↔ Covers target.now.types.ctors
+        (sort_at target.now.numbers.roots own.now.args matched.now.of)
         (spec.unguarded_at typed.now target.now.numbers.roots (put own.now.args matched.now.of) cases.now)) }
 {
     let args = own.args.as_slice();
@@ -109,7 +111,8 @@ fn ctor(
     sorts: &[GenericSort],
 ) -> Result<CtorId, NoMemory>
     requires { AreTables typed.now.ctors target.now.numbers }
-    ensures { IfOk result (λ k. k ≡ ctor_number typed.now.ctors target.now.numbers.roots c (map (put own.now.args) sorts.now)) }
+    ensures { IfOk result (λ k. k ≡ ctor_number typed.now.ctors target.now.numbers.roots c
+        (map (put own.now.args) sorts.now)) }
 {
     let args = puts(alloc, own.args.as_slice(), sorts)?;
     Ok(target.numbers.ctor(typed.ctors.as_slice(), c, args))
@@ -128,8 +131,12 @@ fn call(
     checks: &mut Items<CheckAt>,
 ) -> Result<Expr, NoMemory>
     requires { AreTables typed.now.ctors target.now.numbers }
-    ensures call { IfOk result (λ x. x ≡ spec.call typed.now (setting target.now) own.now e.now f (spec.callee typed.now (setting target.now) own.now f sorts.now) args checks.old) }
-    ensures listed { IfOk result (λ _. checks.new ≡ spec.after_call typed.now (setting target.now) own.now e.now f (spec.callee typed.now (setting target.now) own.now f sorts.now) checks.old) }
+    ensures call { IfOk result
+        (λ x. x ≡ spec.call typed.now (setting target.now) own.now e.now f
+        (spec.callee typed.now (setting target.now) own.now f sorts.now) args checks.old) }
+    ensures listed { IfOk result
+        (λ _. checks.new ≡ spec.after_call typed.now (setting target.now) own.now e.now f
+        (spec.callee typed.now (setting target.now) own.now f sorts.now) checks.old) }
 {
     let callee = callee(alloc, target, own, f, sorts)?;
     let pre = check_if(has_pre(typed, f), own, CheckKind::Precondition, e, checks)?;
@@ -244,7 +251,8 @@ pub(crate) fn exprs(
     checks: &mut Items<CheckAt>,
 ) -> Result<Exprs, NoMemory>
     requires { AreTables typed.now.ctors target.now.numbers }
-    ensures { IfOk result (λ xs. spec.TranslateAll typed.now (setting target.now) own.now es.now xs checks.old checks.new) }
+    ensures { IfOk result (λ xs. spec.TranslateAll typed.now (setting target.now) own.now es.now xs checks.old
+        checks.new) }
 {
     let mut done = Items::new(alloc);
     for e in es {
@@ -263,7 +271,8 @@ fn guard(
     checks: &mut Items<CheckAt>,
 ) -> Result<Option<Expr>, NoMemory>
     requires { AreTables typed.now.ctors target.now.numbers }
-    ensures { IfOk result (λ x. spec.TranslateGuard typed.now (setting target.now) own.now guard.now x checks.old checks.new) }
+    ensures { IfOk result (λ x. spec.TranslateGuard typed.now (setting target.now) own.now guard.now x checks.old
+        checks.new) }
 {
     match guard {
         None => Ok(None),
@@ -283,7 +292,8 @@ fn case(
     checks: &mut Items<CheckAt>,
 ) -> Result<Case, NoMemory>
     requires { AreTables typed.now.ctors target.now.numbers }
-    ensures { IfOk result (λ y. spec.TranslateCase typed.now (setting target.now) own.now sort.now c.now y checks.old checks.new) }
+    ensures { IfOk result (λ y. spec.TranslateCase typed.now (setting target.now) own.now sort.now c.now y checks.old
+        checks.new) }
 {
     let pattern = pattern_at(alloc, typed, &target.numbers, &c.pattern, sort)?;
     let guard = guard(alloc, typed, target, own, &c.guard, checks)?;
@@ -307,7 +317,8 @@ fn cases_of(
     checks: &mut Items<CheckAt>,
 ) -> Result<Cases, NoMemory>
     requires { AreTables typed.now.ctors target.now.numbers }
-    ensures { IfOk result (λ cs. spec.TranslateCases typed.now (setting target.now) own.now sort.now cases.now cs checks.old checks.new) }
+    ensures { IfOk result (λ cs. spec.TranslateCases typed.now (setting target.now) own.now sort.now cases.now cs
+        checks.old checks.new) }
 {
     let mut done = Items::new(alloc);
     for c in cases {

@@ -74,7 +74,8 @@ fn params_at(
 
 /// The condition, after those before it.
 fn and_also(alloc: Global, before: Option<Expr>, e: Expr) -> Result<Expr, NoMemory>
-    ensures { IfOk result (λ x. (parts : List Expr) → before ≡ bare.as_one parts → Some x ≡ bare.as_one (parts ++ e ∷ [])) }
+    ensures { IfOk result (λ x. (parts : List Expr) → before ≡ bare.as_one parts
+        → Some x ≡ bare.as_one (parts ++ e ∷ [])) }
 {
     match before {
         None => Ok(e),
@@ -95,7 +96,8 @@ fn conditions(
     checks: &mut Items<CheckAt>,
 ) -> Result<Option<Expr>, NoMemory>
     requires { AreTables typed.now.ctors target.now.numbers }
-    ensures { IfOk result (λ whole. spec.TranslateConditions typed.now (setting target.now) own.now es.now whole checks.old checks.new) }
+    ensures { IfOk result (λ whole. spec.TranslateConditions typed.now (setting target.now) own.now es.now whole
+        checks.old checks.new) }
 {
     let mut whole = None;
     for e in es {
@@ -113,7 +115,9 @@ fn add_post(
     checks: &mut Items<CheckAt>,
 ) -> Result<CheckId, NoMemory>
     ensures number { IfOk result (λ n. n.0 ≡ length checks.old) }
-    ensures listed { IfOk result (λ _. checks.new ≡ checks.old ++ record { function = own.now.number; kind = check.Postcondition; source = source; at = at } ∷ []) }
+    ensures listed { IfOk result
+        (λ _. checks.new ≡ checks.old
+        ++ record { function = own.now.number; kind = check.Postcondition; source = source; at = at } ∷ []) }
 {
     let number = checks.len();
     if number >= u32::MAX as usize {
@@ -138,7 +142,8 @@ fn post_of(
     checks: &mut Items<CheckAt>,
 ) -> Result<Option<(CheckId, Expr)>, NoMemory>
     requires { AreTables typed.now.ctors target.now.numbers }
-    ensures { IfOk result (λ p. spec.TranslatesPost typed.now (setting target.now) own.now source post.now p checks.old checks.new) }
+    ensures { IfOk result (λ p. spec.TranslatesPost typed.now (setting target.now) own.now source post.now p checks.old
+        checks.new) }
 {
     match post {
         None => Ok(None),
@@ -150,9 +155,9 @@ fn post_of(
     }
 }
 
-/// The function of the program that a function is at the arguments of an instance, with the numbers of its checks, which
-/// are listed behind those before. The only error is want of memory; there is none for 2^32 checks, nor for a match of
-/// 65,536 cases.
+/// The function of the program that a function is at the arguments of an instance, with the numbers of its checks,
+/// which are listed behind those before. The only error is want of memory; there is none for 2^32 checks, nor for a
+/// match of 65,536 cases.
 pub fn function_of(
     alloc: Global,
     typed: &Typed,
@@ -165,7 +170,8 @@ pub fn function_of(
 ) -> Result<Function, NoMemory>
     requires tables { AreTables typed.now.ctors target.now.numbers }
     requires stands { Stands texts.now (d.now.source, d.now.at) }
-    ensures { IfOk result (λ f. spec.TranslatesDef typed.now (setting target.now) own.now texts.now i.now d.now f checks.old checks.new) }
+    ensures { IfOk result (λ f. spec.TranslatesDef typed.now (setting target.now) own.now texts.now i.now d.now f
+        checks.old checks.new) }
 {
     let args = own.args.as_slice();
     let name = Name::of(alloc, i.name.as_str())?;
@@ -213,8 +219,11 @@ fn add_function(
     requires tables { AreTables typed.now.ctors target.now.numbers }
     requires stands { TypedStands texts.now typed.now }
     requires few { length functions.old < 2 ^ 31 }
-    ensures made { IfOk result (λ _. (is : List Instance) (start : List CheckAt) → spec.TranslatesDefs typed.now (setting target.now) texts.now is functions.old start checks.old
-        → spec.TranslatesDefs typed.now (setting target.now) texts.now (is ++ i.now ∷ []) functions.new start checks.new) }
+    ensures made { IfOk result
+        (λ _. (is : List Instance) (start : List CheckAt)
+        → spec.TranslatesDefs typed.now (setting target.now) texts.now is functions.old start checks.old
+        → spec.TranslatesDefs typed.now (setting target.now) texts.now (is ++ i.now ∷ []) functions.new start
+        checks.new) }
     ensures few { IfOk result (λ _. length functions.new ≤ length functions.old + 1) }
 {
     match at(typed.defs.as_slice(), i.number as usize) {
@@ -228,8 +237,8 @@ fn add_function(
     }
 }
 
-/// The functions of the program, in order; their checks are listed behind those before. The only error is want of memory,
-/// as of `function_of`.
+/// The functions of the program, in order; their checks are listed behind those before. The only error is want of
+/// memory, as of `function_of`.
 pub fn functions_of(
     alloc: Global,
     typed: &Typed,
@@ -241,7 +250,8 @@ pub fn functions_of(
     requires tables { AreTables typed.now.ctors target.now.numbers }
     requires stands { TypedStands texts.now typed.now }
     requires few { length instances.now < 2 ^ 31 }
-    ensures { IfOk result (λ fs. spec.TranslatesDefs typed.now (setting target.now) texts.now instances.now fs checks.old checks.new) }
+    ensures { IfOk result (λ fs. spec.TranslatesDefs typed.now (setting target.now) texts.now instances.now fs
+        checks.old checks.new) }
 {
     let mut functions = Items::new(alloc);
     for i in 0..instances.len() {

@@ -104,7 +104,8 @@ fn each_at(
     sorts: &[GenericSort],
 ) -> Result<Patterns, NoMemory>
     requires { AreTables typed.now.ctors numbers.now }
-    ensures { IfOk result (λ ps. ps ≡ spec.each_at (map (spec.pattern_at typed.now numbers.now.roots) patterns.now) sorts.now) }
+    ensures { IfOk result (λ ps. ps ≡ spec.each_at (map (spec.pattern_at typed.now numbers.now.roots) patterns.now)
+        sorts.now) }
 {
     let mut done = Items::new(alloc);
     let count = patterns.len().min(sorts.len());

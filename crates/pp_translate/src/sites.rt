@@ -115,7 +115,9 @@ pub(crate) fn check_if(
     checks: &mut Items<CheckAt>,
 ) -> Result<Option<CheckId>, NoMemory>
     ensures number { IfOk result (λ n. n ≡ spec.number_if is checks.old) }
-    ensures listed { IfOk result (λ _. checks.new ≡ spec.more_if is (record { function = own.now.number; kind = kind; source = e.now.source; at = e.now.at }) checks.old) }
+    ensures listed { IfOk result
+        (λ _. checks.new ≡ spec.more_if is
+        (record { function = own.now.number; kind = kind; source = e.now.source; at = e.now.at }) checks.old) }
 {
     if !is {
         return Ok(None);
@@ -132,7 +134,9 @@ pub(crate) fn add_check(
     checks: &mut Items<CheckAt>,
 ) -> Result<CheckId, NoMemory>
     ensures number { IfOk result (λ n. n.0 ≡ length checks.old) }
-    ensures listed { IfOk result (λ _. checks.new ≡ checks.old ++ record { function = own.now.number; kind = kind; source = e.now.source; at = e.now.at } ∷ []) }
+    ensures listed { IfOk result
+        (λ _. checks.new ≡ checks.old
+        ++ record { function = own.now.number; kind = kind; source = e.now.source; at = e.now.at } ∷ []) }
 {
     let number = checks.len();
     if number >= u32::MAX as usize {

@@ -1,6 +1,6 @@
--- Which functions of a program, with the numbers of their checks, are functions at the arguments of an instance: the checks
--- of the precondition, the measure, the body and the postcondition, in this order, and last the postcondition's own.
--- Source: own.
+-- Which functions of a program, with the numbers of their checks, are functions at the arguments of an instance: the
+-- checks of the precondition, the measure, the body and the postcondition, in this order, and last the postcondition's
+-- own. Source: own.
 use Rattle.std.specs.Prelude.{◌≡◌, ℕ, suc, List, [], ◌∷◌, ◌++◌, map, Option, Some, None, length, slice_get}
 use Rattle.pp_instances.specs.declared.member.Instance.{Instance}
 use Rattle.pp_prog.specs.declared.check.Check.{Check}
@@ -32,13 +32,17 @@ module _ (typed : Typed) (set : Setting) (own : Frame) where
   post_check source at = record { function = own.number; kind = check.Postcondition; source = source; at = at }
 
   -- the postcondition of a function in a source
-  pub data TranslatesPost (source : ℕ) : Option TypedPost → Option (CheckId × Expr) → List CheckAt → List CheckAt → Type 0 where
+  pub data TranslatesPost (source : ℕ) : Option TypedPost → Option (CheckId × Expr) → List CheckAt → List CheckAt
+      → Type 0 where
     no_post : {cs : List CheckAt} → TranslatesPost source None None cs cs
-    one_post : {post : TypedPost} {claim : Expr} {old new : List CheckAt} → Translates typed set own post.claim claim old new
-        → TranslatesPost source (Some post) (Some (record { 0 = length new }, claim)) old (new ++ post_check source post.at ∷ [])
+    one_post : {post : TypedPost} {claim : Expr} {old new : List CheckAt}
+        → Translates typed set own post.claim claim old new
+        → TranslatesPost source (Some post) (Some (record { 0 = length new }, claim)) old
+        (new ++ post_check source post.at ∷ [])
 
   -- the function is that of the instance
-  pub record TranslatesDef (texts : List (List ℕ)) (i : Instance) (d : TypedDef) (f : Function) (old new : List CheckAt) : Type 0 where
+  pub record TranslatesDef (texts : List (List ℕ)) (i : Instance) (d : TypedDef) (f : Function)
+      (old new : List CheckAt) : Type 0 where
     pub name : f.name ≡ i.name
     pub place : f.place ≡ place_at texts (d.source, d.at)
     pub params : f.params ≡ map (param_at set.roots own.args) d.params
@@ -52,13 +56,17 @@ module _ (typed : Typed) (set : Setting) (own : Frame) where
     pub post : TranslatesPost d.source d.post f.post after_body new
 
 -- the functions are those of the instances, in order; an instance of no function is none
-pub data TranslatesDefs (typed : Typed) (set : Setting) (texts : List (List ℕ)) : List Instance → List Function → List CheckAt → List CheckAt → Type 0 where
+pub data TranslatesDefs (typed : Typed) (set : Setting) (texts : List (List ℕ)) : List Instance → List Function
+    → List CheckAt → List CheckAt → Type 0 where
   no_defs : {cs : List CheckAt} → TranslatesDefs typed set texts [] [] cs cs
-  more_defs : {is : List Instance} {i : Instance} {fs : List Function} {f : Function} {old mid new : List CheckAt} (own : Frame) (d : TypedDef)
-      → own.number ≡ length fs → own.args ≡ i.args → own.measured ≡ is_written d.measure → slice_get typed.defs i.number ≡ Some d
+  more_defs : {is : List Instance} {i : Instance} {fs : List Function} {f : Function} {old mid new : List CheckAt}
+      (own : Frame) (d : TypedDef)
+      → own.number ≡ length fs → own.args ≡ i.args → own.measured ≡ is_written d.measure
+      → slice_get typed.defs i.number ≡ Some d
       → TranslatesDefs typed set texts is fs old mid → TranslatesDef typed set own texts i d f mid new
       → TranslatesDefs typed set texts (is ++ i ∷ []) (fs ++ f ∷ []) old new
-  none_more : {is : List Instance} (i : Instance) {fs : List Function} {old new : List CheckAt} → slice_get typed.defs i.number ≡ None
+  none_more : {is : List Instance} (i : Instance) {fs : List Function} {old new : List CheckAt}
+      → slice_get typed.defs i.number ≡ None
       → TranslatesDefs typed set texts is fs old new → TranslatesDefs typed set texts (is ++ i ∷ []) fs old new
 
 abbrev pub numbered : List (List ℕ) → ℕ → CheckAt → Check

@@ -1,5 +1,5 @@
--- The expression of a program that a typed expression is at type arguments, with the numbers of checks left out: where a
--- site may have none it has none, and where it has one it is 0. Source: own.
+-- The expression of a program that a typed expression is at type arguments, with the numbers of checks left out: where
+-- a site may have none it has none, and where it has one it is 0. Source: own.
 use Rattle.std.specs.Prelude.{List, map, None}
 use Rattle.std.specs.Option.{option_map}
 use Rattle.pp_instances.specs.declared.member.Member.{Member}
@@ -14,7 +14,9 @@ use Rattle.pp_prog.specs.declared.expr.UnaryOp.{UnaryOp}
 use Rattle.pp_prog.specs.declared.expr.UnaryOp.TheVariants as prog_unary
 use Rattle.pp_prog.specs.declared.id.CheckId.{CheckId}
 use Rattle.pp_tree.specs.declared.operator.BinaryOp.{BinaryOp as TreeBinary}
-use Rattle.pp_tree.specs.declared.operator.BinaryOp.TheVariants.{Add, Sub, Mul, Div, Rem, Equal, Differ, Less, AtMost, More, AtLeast, AndAlso, OrElse, And, Or, Xor, Shl, Shr, Ushr}
+use Rattle.pp_tree.specs.declared.operator.BinaryOp.TheVariants.{Add, Sub, Mul, Div, Rem, Equal, Differ, Less, AtMost}
+use Rattle.pp_tree.specs.declared.operator.BinaryOp.TheVariants.{More, AtLeast, AndAlso, OrElse, And, Or, Xor, Shl, Shr}
+use Rattle.pp_tree.specs.declared.operator.BinaryOp.TheVariants.{Ushr}
 use Rattle.pp_tree.specs.declared.operator.UnaryOp.{UnaryOp as TreeUnary}
 use Rattle.pp_tree.specs.declared.operator.UnaryOp.TheVariants.{Neg, Not, Flip}
 use Rattle.pp_typed.specs.Put.{put}
@@ -76,8 +78,10 @@ module _ (typed : Typed) (roots functions : List Member) (args : List GenericSor
   kind_step (layer.Int n) = prog.Int n
   kind_step (layer.Bool b) = prog.Bool b
   kind_step (layer.Local i) = prog.Var i
-  kind_step (layer.Call f sorts es) = prog.Call (function_number functions f (map (put args) sorts)) (map expr_of es) None None
-  kind_step (layer.Construct c sorts es) = prog.Construct (ctor_number typed.ctors roots c (map (put args) sorts)) (map expr_of es)
+  kind_step (layer.Call f sorts es) =
+      prog.Call (function_number functions f (map (put args) sorts)) (map expr_of es) None None
+  kind_step (layer.Construct c sorts es) =
+      prog.Construct (ctor_number typed.ctors roots c (map (put args) sorts)) (map expr_of es)
   kind_step (layer.Field e j) = prog.Field e.1 j
   kind_step (layer.Unary op a) = prog.Unary (unary_op op) a.1
   kind_step (layer.Binary op a b) = prog.Binary (binary_op op) a.1 b.1 None
@@ -87,7 +91,12 @@ module _ (typed : Typed) (roots functions : List Member) (args : List GenericSor
   kind_step (layer.Assert c rest) = prog.Assert unnumbered c.1 rest.1
 
   abbrev pub case_step : layer.TypedCase-F Expr CaseAt Translated → CaseAt
-  case_step c s = record { pattern = pattern_at typed roots c.pattern s; guard = option_map expr_of c.guard; body = c.body.1 }
+  case_step c s = record {
+    pattern = pattern_at typed roots c.pattern s;
+    guard = option_map expr_of c.guard;
+    body =
+        c.body.1;
+  }
 
   abbrev pub expr_step : layer.TypedExpr-F Expr CaseAt Translated → Translated
   expr_step e = (put args e.of, e.kind)

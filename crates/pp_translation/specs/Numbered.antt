@@ -1,7 +1,8 @@
 -- Which expressions of a program, with the numbers of their checks, are typed expressions at the arguments of an
 -- instance. Checks are listed in the order of their sites, and a site's check has its place in the list as its number.
 -- Source: own.
-use Rattle.std.specs.Prelude.{◌≡◌, ◌↔◌, ℕ, ℤ, nat_eq, Bool, true, false, not, ◌&&◌, List, [], ◌∷◌, ◌++◌, map, Option, Some, None, length, slice_get, IsTrue}
+use Rattle.std.specs.Prelude.{◌≡◌, ◌↔◌, ℕ, ℤ, nat_eq, Bool, true, false, not, ◌&&◌, List, [], ◌∷◌, ◌++◌, map, Option}
+use Rattle.std.specs.Prelude.{Some, None, length, slice_get, IsTrue}
 use Rattle.pp_translation.specs.Numbers.{ctor_number, function_number, sort_at}
 use Rattle.pp_instances.specs.Same.{joined}
 use Rattle.pp_instances.specs.declared.member.Member.{Member}
@@ -70,7 +71,8 @@ unless_guarded None p = p ∷ []
 unless_guarded (Some guard) p = []
 
 abbrev pub unguarded_case : Typed → List Member → GenericSort → TypedCase → List Pattern
-unguarded_case typed roots s c = unless_guarded (out-TypedCase c).guard (pattern_at typed roots (out-TypedCase c).pattern s)
+unguarded_case typed roots s c =
+    unless_guarded (out-TypedCase c).guard (pattern_at typed roots (out-TypedCase c).pattern s)
 
 abbrev pub unguarded_at : Typed → List Member → GenericSort → List TypedCase → List Pattern
 unguarded_at typed roots s cases = joined (map (unguarded_case typed roots s) cases)
@@ -87,7 +89,8 @@ module _ (typed : Typed) (set : Setting) (own : Frame) where
   -- a call demands that the measure goes down where both functions have measures and are of one group
   abbrev pub descends : ℕ → FunctionId → Bool
   descends f g =
-      own.measured && (has_measure (slice_get typed.defs f) && same_number (slice_get set.groups own.number) (slice_get set.groups g.0))
+      own.measured && (has_measure (slice_get typed.defs f) && same_number (slice_get set.groups own.number)
+      (slice_get set.groups g.0))
 
   abbrev pub after_pre : TypedExpr → ℕ → List CheckAt → List CheckAt
   after_pre e f cs = more_if (has_pre (slice_get typed.defs f)) (check_at check.Precondition e) cs
@@ -132,7 +135,8 @@ module _ (typed : Typed) (set : Setting) (own : Frame) where
           → Translates e (prog.If x y z) old new
       of_match : {e m : TypedExpr} {cs : List TypedCase} {x : Expr} {ys : List Case} {old mid new : List CheckAt}
           (covered : Bool) → e.kind ≡ kind.Match m cs → Translates m x old mid
-          → IsTrue covered ↔ Covers set.types.ctors (sort_at set.roots own.args m.of) (unguarded_at typed set.roots (put own.args m.of) cs)
+          → IsTrue covered ↔ Covers set.types.ctors (sort_at set.roots own.args m.of)
+          (unguarded_at typed set.roots (put own.args m.of) cs)
           → TranslateCases (put own.args m.of) cs ys (more_if (not covered) (check_at check.Match e) mid) new
           → Translates e (prog.Match x ys (number_if (not covered) mid)) old new
       of_val : {e bound rest : TypedExpr} {x y : Expr} {old mid new : List CheckAt} → e.kind ≡ kind.Val bound rest

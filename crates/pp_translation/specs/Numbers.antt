@@ -93,7 +93,13 @@ module _ (all : List TypedCtor) (roots : List Member) where
 -- the table of the datatypes of a program
 module _ (typed : Typed) (roots : List Member) where
   abbrev pub ctor_at : ℕ → List GenericSort → TypedCtor → Ctor
-  ctor_at d args c = record { name = c.name; of = record { 0 = d }; fields = map (sort_at roots args) c.fields; object = c.object }
+  ctor_at d args c = record {
+    name = c.name;
+    of = record { 0 = d };
+    fields = map (sort_at roots args) c.fields;
+    object =
+        c.object;
+  }
 
   -- the constructors of the datatype with the number d
   abbrev pub ctors_at : ℕ → Member → List Ctor

@@ -33,7 +33,8 @@ module _ (typed : Typed) (roots : List Member) where
   pattern_kind_step (layer.Int n) s = prog.Int n
   pattern_kind_step (layer.Bool b) s = prog.Bool b
   pattern_kind_step (layer.Ctor c parts) s =
-      prog.Ctor (ctor_number typed.ctors roots c (args_of s)) (each_at parts (map (put (args_of s)) (fields_of (slice_get typed.ctors c))))
+      prog.Ctor (ctor_number typed.ctors roots c (args_of s))
+      (each_at parts (map (put (args_of s)) (fields_of (slice_get typed.ctors c))))
 
   abbrev pub pattern_step : layer.TypedPattern-F AtSort AtSort → AtSort
   pattern_step p s = bound_if p.binds (p.kind s)

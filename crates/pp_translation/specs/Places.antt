@@ -50,8 +50,8 @@ case_step c = or_none c.guard ++ c.body
 abbrev pub expr_step : layer.TypedExpr-F Below (List Offset) (List Offset) → List Offset
 expr_step e = e.kind (e.source, e.at)
 
--- the offsets of the sites of an expression that can fail, in the order of evaluation. A call has two: its precondition,
--- and its measure
+-- the offsets of the sites of an expression that can fail, in the order of evaluation. A call has two: its
+-- precondition, and its measure
 abbrev pub site_offsets : TypedExpr → List Offset
 site_offsets = fold-TypedExpr Below (List Offset) (List Offset) kind_step case_step expr_step
 
@@ -62,7 +62,8 @@ post_offsets source (Some post) = site_offsets post.claim ++ (source, post.at) �
 -- the offsets of the sites of a function
 abbrev pub def_offsets : TypedDef → List Offset
 def_offsets d =
-    joined (map site_offsets d.pre) ++ joined (map site_offsets d.measure) ++ site_offsets d.body ++ post_offsets d.source d.post
+    joined (map site_offsets d.pre) ++ joined (map site_offsets d.measure) ++ site_offsets d.body
+    ++ post_offsets d.source d.post
 
 abbrev pub offsets_or_none : Option TypedDef → List Offset
 offsets_or_none None = []
@@ -86,4 +87,5 @@ module _ (typed : Typed) (texts : List (List ℕ)) (types : TypeTable) (all : Li
   places_of [] is = []
   places_of (f ∷ fs) [] = []
   places_of (f ∷ fs) (i ∷ is) =
-      map (place_at texts) (told (function_sites types all f) (offsets_or_none (slice_get typed.defs i.number))) ++ places_of fs is
+      map (place_at texts) (told (function_sites types all f) (offsets_or_none (slice_get typed.defs i.number)))
+      ++ places_of fs is

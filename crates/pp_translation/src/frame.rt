@@ -11,8 +11,8 @@ pub struct Frame {
     pub measured: bool,
 }
 
-/// A check: the number of its function, its kind, its source from 1 and its offset there. Its own number is its place in
-/// the list of checks.
+/// A check: the number of its function, its kind, its source from 1 and its offset there. Its own number is its place
+/// in the list of checks.
 #[derive(Clone, Copy, Debug)]
 pub struct CheckAt {
     pub function: u32,

@@ -54,7 +54,17 @@ module _ (typed : Typed) (set : Setting) (own : Frame) (d : TypedDef) where
 
   abbrev made : List ℕ → Place → List Param → Sort → Option Expr → List Expr → Expr → Option (CheckId × Expr) → Function
   made name place params result pre measure body post =
-      record { name = name; place = place; params = params; result = result; pre = pre; measure = measure; body = body; post = post }
+      record {
+        name = name;
+        place = place;
+        params = params;
+        result = result;
+        pre = pre;
+        measure = measure;
+        body =
+            body;
+        post = post;
+      }
 
   abbrev function_at_args : List GenericSort → List (List ℕ) → Instance → Function
   function_at_args args texts i =
@@ -69,7 +79,8 @@ module _ (typed : Typed) (set : Setting) (own : Frame) (d : TypedDef) where
       → TranslatesDef typed set own texts i d f old new → own.args ≡ i.args
       → bare_function f ≡ function_of typed texts set.roots set.functions i d
   def_bare {texts} {i} {f} t is =
-      let pre : option_map bare f.pre ≡ as_one (map Bare d.pre) = ap (option_map bare) t.pre.one ∙ bare_one t.pre.parts ∙ ap as_one (bare_all typed set own t.pre.each) in
+      let pre : option_map bare f.pre ≡ as_one (map Bare d.pre) =
+      ap (option_map bare) t.pre.one ∙ bare_one t.pre.parts ∙ ap as_one (bare_all typed set own t.pre.each) in
       let measure = bare_all typed set own t.measure in
       let body = bare_expr typed set own t.body in
       let post = bare_of_post texts t.post in
@@ -88,7 +99,8 @@ module _ (typed : Typed) (set : Setting) (own : Frame) (d : TypedDef) where
       (as_one (map Bare d.pre)) z (bare f.body) (bare_post f.post)) measure
       ∙ ap (λ z. made i.name (place_at texts (d.source, d.at)) (map (param_at set.roots own.args) d.params) (G d.result)
       (as_one (map Bare d.pre)) (map Bare d.measure) z (bare_post f.post)) body
-      ∙ ap (λ z. made i.name (place_at texts (d.source, d.at)) (map (param_at set.roots own.args) d.params) (G d.result) (as_one (map Bare d.pre)) (map Bare d.measure) (Bare d.body) z) post in
+      ∙ ap (λ z. made i.name (place_at texts (d.source, d.at)) (map (param_at set.roots own.args) d.params) (G d.result)
+      (as_one (map Bare d.pre)) (map Bare d.measure) (Bare d.body) z) post in
       at_own ∙ ap (λ (l : List GenericSort). function_at_args l texts i) is
 
 module _ (typed : Typed) (set : Setting) (texts : List (List ℕ)) where

@@ -1,5 +1,5 @@
--- The sites of a translated expression are listed in order, stand where the typed expression has them, and each carries a
--- check exactly where it can fail.
+-- The sites of a translated expression are listed in order, stand where the typed expression has them, and each carries
+-- a check exactly where it can fail.
 use Rattle.std.proofs.Common.{◌≡◌, ℕ, Bool, true, false, not, ◌&&◌, List, [], ◌∷◌, ◌++◌, map, length, refl, sym, ap}
 use Rattle.std.proofs.Common.{◌∙◌, subst, append_assoc}
 use Rattle.std.specs.Prelude.{◌↔◌, IsTrue, Option, Some, None, is_none, is_some, slice_get, Contains}
@@ -9,6 +9,7 @@ use Rattle.pp_instances.proofs.Parts.{map_push, joined_push as members_push}
 use Rattle.pp_instances.specs.Same.{joined as joined_members}
 use Rattle.pp_instances.specs.Uses.{case_mentions, function_at, guard_mentions, mentions, types_of}
 use Rattle.pp_instances.specs.declared.member.Member.{Member}
+use Rattle.pp_prog.proofs.Called.{joined_push}
 use Rattle.pp_prog.specs.Calls.{OneGroup, joined}
 use Rattle.pp_prog.specs.ExprSorts.{sort_of}
 use Rattle.pp_prog.specs.Listing.{CaseSites, Site, Sites, division, assertion, precondition, measure, matching, at_sort}
@@ -56,28 +57,29 @@ use Rattle.pp_typed.specs.declared.typed.TypedDef.{TypedDef}
 use Rattle.pp_validity.proofs.Exprs as exprs
 use Rattle.pp_validity.proofs.Exprs.{OneCase, split, split_cases}
 use Rattle.pp_validity.proofs.Known.{HasTypes, IsKnown}
-use Rattle.pp_validity.proofs.Listed.{Lists, joined_append, lists_append, lists_none, lists_same, one_if, plain_site}
+use Rattle.pp_validity.proofs.Listed.{Lists, lists_append, lists_none, lists_same, one_if, plain_site}
 use Rattle.pp_validity.proofs.Patterns.{pattern_binds}
-use Rattle.pp_validity.proofs.Sites.{In, case_beside, sites_in_case, sites_int, sites_bool, sites_var, sites_unary}
-use Rattle.pp_validity.proofs.Sites.{sites_binary, sites_construct, sites_field, sites_if, sites_match, sites_val}
-use Rattle.pp_validity.proofs.Sites.{sites_assert, sites_call, offsets_int, offsets_bool, offsets_local, offsets_call}
-use Rattle.pp_validity.proofs.Sites.{offsets_construct, offsets_field, offsets_unary, offsets_binary, offsets_if}
-use Rattle.pp_validity.proofs.Sites.{offsets_match, offsets_val, offsets_assert, offsets_case, offsets_in_case}
-use Rattle.pp_validity.proofs.Sites.{offsets_of_guard}
+use Rattle.pp_prog.proofs.SiteForms.{In, case_beside, sites_in_case, sites_int, sites_bool, sites_var, sites_unary}
+use Rattle.pp_prog.proofs.SiteForms.{sites_binary, sites_construct, sites_field, sites_if, sites_match, sites_val}
+use Rattle.pp_prog.proofs.SiteForms.{sites_assert, sites_call}
+use Rattle.pp_validity.proofs.Sites.{offsets_int, offsets_bool, offsets_local, offsets_call, offsets_construct}
+use Rattle.pp_validity.proofs.Sites.{offsets_field, offsets_unary, offsets_binary, offsets_if, offsets_match}
+use Rattle.pp_validity.proofs.Sites.{offsets_val, offsets_assert, offsets_case, offsets_in_case, offsets_of_guard}
 use Rattle.pp_validity.proofs.Within.{Within, in_left, in_right, in_call, in_construct, in_field, in_unary, in_binary}
 use Rattle.pp_validity.proofs.Within.{in_if, in_match, in_val, in_assert, in_parts, in_case}
 
 -- what is known of the contracts and the groups of the functions of a program
-pub record IsGrouped (typed : Typed) (set : Setting) (ms : List Member) (fs : List Function) (own : Frame) : Type 0 where
-  pub pres : (f : ℕ) (d : TypedDef) (args : List GenericSort) → slice_get typed.defs f ≡ Some d
-      → Contains ms (function_at f args)
-      → has_precondition (slice_get fs (function_number set.functions f args).0) ≡ has_pre (slice_get typed.defs f)
-  pub measures : (f : ℕ) (d : TypedDef) (args : List GenericSort) → slice_get typed.defs f ≡ Some d
-      → Contains ms (function_at f args)
-      → has_measure (slice_get fs (function_number set.functions f args).0) ≡ has_typed_measure (slice_get typed.defs f)
-  pub measured : own.measured ≡ has_measure (slice_get fs own.number)
-  pub grouped : (g : ℕ) (h : Function) → slice_get fs g ≡ Some h
-      → IsTrue (same_number (slice_get set.groups own.number) (slice_get set.groups g)) ↔ OneGroup fs own.number g
+pub record IsGrouped (typed : Typed) (set : Setting) (ms : List Member) (fs : List Function) (own : Frame) : Type 0
+  where
+    pub pres : (f : ℕ) (d : TypedDef) (args : List GenericSort) → slice_get typed.defs f ≡ Some d
+        → Contains ms (function_at f args)
+        → has_precondition (slice_get fs (function_number set.functions f args).0) ≡ has_pre (slice_get typed.defs f)
+    pub measures : (f : ℕ) (d : TypedDef) (args : List GenericSort) → slice_get typed.defs f ≡ Some d
+        → Contains ms (function_at f args)
+        → has_measure (slice_get fs (function_number set.functions f args).0) ≡ has_typed_measure (slice_get typed.defs f)
+    pub measured : own.measured ≡ has_measure (slice_get fs own.number)
+    pub grouped : (g : ℕ) (h : Function) → slice_get fs g ≡ Some h
+        → IsTrue (same_number (slice_get set.groups own.number) (slice_get set.groups g)) ↔ OneGroup fs own.number g
 
 is_there : (b : Bool) (cs : List CheckAt) → is_some (number_if b cs) ≡ b
 is_there true cs = refl
@@ -95,10 +97,8 @@ three false b c O h = (λ t. let no : false ≡ true = t in cc, λ q. q.1)
 along : (n : Bool) (b : Bool) (P Q : Type 0) → n ≡ b → IsTrue b ↔ P → (P → Q) → (Q → P) → IsTrue n ↔ Q
 along n b P Q e h there back = (λ t. there (h.0 (sym e ∙ t)), λ q. e ∙ h.1 (back q))
 
-pub joined_push : {A : Type 0} (xss : List (List A)) (xs : List A) → joined (xss ++ xs ∷ []) ≡ joined xss ++ xs
-joined_push xss xs = joined_append xss (xs ∷ []) ∙ ap (λ l. joined xss ++ l) (append-nil xs)
-
-module _ (typed : Typed) (set : Setting) (ms : List Member) (fs : List Function) (known : IsKnown typed set ms fs) (own : Frame) (grouped : IsGrouped typed set ms fs own)
+module _ (typed : Typed) (set : Setting) (ms : List Member) (fs : List Function) (known : IsKnown typed set ms fs)
+    (own : Frame) (grouped : IsGrouped typed set ms fs own)
     (params : ℕ) (own_types : (s : GenericSort) → Contains own.args s → HasTypes ms s) where
   abbrev G : GenericSort → Sort
   G s = sort_at set.roots own.args s
@@ -158,8 +158,11 @@ module _ (typed : Typed) (set : Setting) (ms : List Member) (fs : List Function)
       let pre = number_if b cs in
       let m = number_if down mid in
       let outer = map (put own.args) sorts in
-      let pre_right : Carries set.types fs own.number (precondition g pre) = is_there b cs ∙ sym (grouped.pres f d outer declared there) in
-      let both = three own.measured (has_typed_measure (slice_get typed.defs f)) (same_number (slice_get set.groups own.number) (slice_get set.groups g.0)) (OneGroup fs own.number g.0) (grouped.grouped g.0 h found) in
+      let pre_right : Carries set.types fs own.number (precondition g pre) =
+      is_there b cs ∙ sym (grouped.pres f d outer declared there) in
+      let both = three own.measured (has_typed_measure (slice_get typed.defs f))
+      (same_number (slice_get set.groups own.number) (slice_get set.groups g.0)) (OneGroup fs own.number g.0)
+      (grouped.grouped g.0 h found) in
       let down_right : Carries set.types fs own.number (measure g m) =
       along (is_some m) down _ _ (is_there down mid) both
       (λ q. (q.0, sym grouped.measured ∙ q.1, grouped.measures f d outer declared there ∙ q.2))
@@ -213,7 +216,8 @@ module _ (typed : Typed) (set : Setting) (ms : List Member) (fs : List Function)
       → TranslateCase typed set own at c y old new
       → unguarded (case_beside set.types fs sc y ∷ []) ≡ unguarded_case typed set.roots at c
   case_patterns sc {at} (one_case c {guard = guard} {body = body} tg tb) =
-      let z : prog_layer.Case-F Expr Case = record { pattern = pattern_at typed set.roots (out-TypedCase c).pattern at; guard = guard; body = body } in
+      let z : prog_layer.Case-F Expr Case =
+      record { pattern = pattern_at typed set.roots (out-TypedCase c).pattern at; guard = guard; body = body } in
       ap (λ (k : prog_layer.Case-F Expr Case). unless_guarded k.guard k.pattern []) (out-roll-Case z)
       ∙ same_guard (pattern_at typed set.roots (out-TypedCase c).pattern at) tg
 
@@ -264,31 +268,41 @@ module _ (typed : Typed) (set : Setting) (ms : List Member) (fs : List Function)
         (sites_var set.types fs (map G scope) i) (offsets_local e i is) (lists_none set.types fs own.number old)
     lists_expr {e} {old = old} {new = new} {scope = scope} (of_call {es = es} {xs = xs} {mid = mid} f sorts is all) h w
         =
-        let c = exprs.at_form typed set ms fs known own params own_types e (kind.Call f sorts es) _ h is (kind.outs-Call f sorts es) in
+        let c = exprs.at_form typed set ms fs known own params own_types e (kind.Call f sorts es) _ h is
+        (kind.outs-Call f sorts es) in
         let inside = in_call ms own.args e f sorts es is w in
-        let there = inside (function_at f sorts) (Contains-append_left (function_at f sorts ∷ []) (types_of sorts ++ joined_members (map mentions es)) (function_at f sorts) (Contains-push [] (function_at f sorts))) in
-        let later = in_right ms own.args (types_of sorts) (joined_members (map mentions es)) (in_right ms own.args (function_at f sorts ∷ []) (types_of sorts ++ joined_members (map mentions es)) inside) in
+        let there = inside (function_at f sorts)
+        (Contains-append_left (function_at f sorts ∷ []) (types_of sorts ++ joined_members (map mentions es))
+        (function_at f sorts) (Contains-push [] (function_at f sorts))) in
+        let later = in_right ms own.args (types_of sorts) (joined_members (map mentions es))
+        (in_right ms own.args (function_at f sorts ∷ []) (types_of sorts ++ joined_members (map mentions es))
+        inside) in
         let g = known.functions f c.d (map (put own.args) sorts) c.declared there in
         same _ _ _ _ old new (sites_call set.types fs (map G scope) (callee typed set own f sorts) xs _ _)
         (offsets_call e f sorts es is)
         (two (joined (map (At scope) xs)) _ (joined (map site_offsets es)) _ old mid new
         (lists_all all c.args_sorted later) (call_sites e f c.d sorts mid g.g c.declared there g.found))
     lists_expr {e} {old = old} {new = new} {scope = scope} (of_construct {es = es} {xs = xs} c sorts is all) h w =
-        let f = exprs.at_form typed set ms fs known own params own_types e (kind.Construct c sorts es) _ h is (kind.outs-Construct c sorts es) in
-        let later = in_right ms own.args (types_of sorts) (joined_members (map mentions es)) (in_construct ms own.args e c sorts es is w) in
+        let f = exprs.at_form typed set ms fs known own params own_types e (kind.Construct c sorts es) _ h is
+        (kind.outs-Construct c sorts es) in
+        let later = in_right ms own.args (types_of sorts) (joined_members (map mentions es))
+        (in_construct ms own.args e c sorts es is w) in
         same _ _ _ _ old new (sites_construct set.types fs (map G scope) _ xs) (offsets_construct e c sorts es is)
         (lists_all all f.args_sorted later)
     lists_expr {e} {old = old} {new = new} {scope = scope} (of_field {base = base} {x = x} j is t) h w =
-        let f = exprs.at_form typed set ms fs known own params own_types e (kind.Field base j) _ h is (kind.outs-Field base j) in
+        let f = exprs.at_form typed set ms fs known own params own_types e (kind.Field base j) _ h is
+        (kind.outs-Field base j) in
         same _ _ _ _ old new (sites_field set.types fs (map G scope) x j) (offsets_field e base j is)
         (lists_expr t f.base_sorted (in_field ms own.args e base j is w))
     lists_expr {e} {old = old} {new = new} {scope = scope} (of_unary {a = a} {x = x} op is t) h w =
-        let f = exprs.at_form typed set ms fs known own params own_types e (kind.Unary op a) _ h is (kind.outs-Unary op a) in
+        let f = exprs.at_form typed set ms fs known own params own_types e (kind.Unary op a) _ h is
+        (kind.outs-Unary op a) in
         same _ _ _ _ old new (sites_unary set.types fs (map G scope) _ x) (offsets_unary e op a is)
         (lists_expr t f.0 (in_unary ms own.args e a op is w))
     lists_expr {e} {old = old} {new = new} {scope = scope}
         (of_binary {a = a} {b = b} {x = x} {y = y} {mid = mid} {new = last} op is ta tb) h w =
-        let f = exprs.at_form typed set ms fs known own params own_types e (kind.Binary op a b) _ h is (kind.outs-Binary op a b) in
+        let f = exprs.at_form typed set ms fs known own params own_types e (kind.Binary op a b) _ h is
+        (kind.outs-Binary op a b) in
         let inside = in_binary ms own.args e a b op is w in
         same _ _ _ _ old new (sites_binary set.types fs (map G scope) (binary_op op) x y _) (offsets_binary e op a b is)
         (two (At scope x ++ At scope y) _ (site_offsets a ++ site_offsets b) _ old last new
@@ -298,7 +312,8 @@ module _ (typed : Typed) (set : Setting) (ms : List Member) (fs : List Function)
         (operator e op last))
     lists_expr {e} {old = old} {new = new} {scope = scope}
         (of_if {c = c} {a = a} {b = b} {x = x} {y = y} {z = z} {mid = mid} {end = last} is tc ta tb) h w =
-        let f = exprs.at_form typed set ms fs known own params own_types e (kind.If c a b) _ h is (kind.outs-If c a b) in
+        let f = exprs.at_form typed set ms fs known own params own_types e (kind.If c a b) _ h is
+        (kind.outs-If c a b) in
         let inside = in_if ms own.args e c a b is w in
         let first = in_left ms own.args (mentions c ++ mentions a) (mentions b) inside in
         same _ _ _ _ old new (sites_if set.types fs (map G scope) x y z) (offsets_if e c a b is)
@@ -309,15 +324,19 @@ module _ (typed : Typed) (set : Setting) (ms : List Member) (fs : List Function)
         (lists_expr tb f.right (in_right ms own.args (mentions c ++ mentions a) (mentions b) inside)))
     lists_expr {e} {old = old} {new = new} {scope = scope}
         (of_match {m = m} {cs = cs} {x = x} {ys = ys} {mid = mid} covered is tm exact tc) h w =
-        let f = exprs.at_form typed set ms fs known own params own_types e (kind.Match m cs) _ h is (kind.outs-Match m cs) in
+        let f = exprs.at_form typed set ms fs known own params own_types e (kind.Match m cs) _ h is
+        (kind.outs-Match m cs) in
         let inside = in_match ms own.args e m cs is w in
         let within = in_left ms own.args (mentions m) (joined_members (map case_mentions cs)) inside in
         let sc = map G scope in
         let arms = map (case_beside set.types fs sc) ys in
         let n = number_if (not covered) mid in
         let after = more_if (not covered) (check_at typed set own check.Match e) mid in
-        let at_value : at_sort (sort_of set.types fs x sc) (λ s. matching s (unguarded arms) n ∷ sites_of_cases arms s sc) ≡ matching (G m.of) (unguarded arms) n ∷ sites_of_cases arms (G m.of) sc =
-        ap (λ o. at_sort o (λ s. matching s (unguarded arms) n ∷ sites_of_cases arms s sc)) (of_sort tm f.matched within) in
+        let at_value : at_sort (sort_of set.types fs x sc)
+        (λ s. matching s (unguarded arms) n ∷ sites_of_cases arms s sc) ≡ matching (G m.of) (unguarded arms) n
+        ∷ sites_of_cases arms (G m.of) sc =
+        ap (λ o. at_sort o (λ s. matching s (unguarded arms) n ∷ sites_of_cases arms s sc))
+        (of_sort tm f.matched within) in
         same _ _ _ _ old new (sites_match set.types fs sc x ys n ∙ ap (λ l. At scope x ++ l) at_value)
         (offsets_match e m cs is)
         (two (At scope x) (matching (G m.of) (unguarded arms) n ∷ sites_of_cases arms (G m.of) sc) (site_offsets m)
@@ -334,7 +353,8 @@ module _ (typed : Typed) (set : Setting) (ms : List Member) (fs : List Function)
         let inside = in_val ms own.args e a b is w in
         let first = in_left ms own.args (mentions a) (mentions b) inside in
         let sc = map G scope in
-        let at_value = ap (λ o. at_sort o (λ s. sites set.types fs y (sc ++ s ∷ []))) (of_sort ta f.bound_sorted first) in
+        let at_value = ap (λ o. at_sort o (λ s. sites set.types fs y (sc ++ s ∷ [])))
+        (of_sort ta f.bound_sorted first) in
         let deeper = ap (λ l. sites set.types fs y l) (sym (map_push G scope a.of)) in
         same _ _ _ _ old new (sites_val set.types fs sc x y ∙ ap (λ l. At scope x ++ l) (at_value ∙ deeper))
         (offsets_val e a b is)
@@ -343,7 +363,8 @@ module _ (typed : Typed) (set : Setting) (ms : List Member) (fs : List Function)
         (in_right ms own.args (mentions a) (mentions b) inside)))
     lists_expr {e} {old = old} {new = new} {scope = scope}
         (of_assert {c = a} {rest = b} {x = x} {y = y} {mid = mid} is ta tb) h w =
-        let f = exprs.at_form typed set ms fs known own params own_types e (kind.Assert a b) _ h is (kind.outs-Assert a b) in
+        let f = exprs.at_form typed set ms fs known own params own_types e (kind.Assert a b) _ h is
+        (kind.outs-Assert a b) in
         let inside = in_assert ms own.args e a b is w in
         let site = assertion (record { 0 = length mid }) in
         let after = mid ++ check_at typed set own check.Assertion e ∷ [] in
@@ -376,15 +397,19 @@ module _ (typed : Typed) (set : Setting) (ms : List Member) (fs : List Function)
     lists_guard {old = old} no_guard h w = lists_none set.types fs own.number old
     lists_guard (one_guard made) (guarded h is) w = lists_expr made h w
 
-    lists_case : {s of at : GenericSort} {c : TypedCase} {y : Case} {old new : List CheckAt} {scope : List GenericSort} → TranslateCase typed set own at c y old new
-        → at ≡ put own.args s → OneCase typed params scope s of c → Within ms own.args (case_mentions c) → HasTypes ms (put own.args s)
+    lists_case : {s of at : GenericSort} {c : TypedCase} {y : Case} {old new : List CheckAt} {scope : List GenericSort}
+        → TranslateCase typed set own at c y old new
+        → at ≡ put own.args s → OneCase typed params scope s of c → Within ms own.args (case_mentions c)
+        → HasTypes ms (put own.args s)
         → L (sites_in_case set.types fs (map G scope) y (G s) (map G scope)) (offsets_in_case c) old new
     lists_case {s} {at = at} {old = old} {new = new} {scope = scope}
         (one_case c {guard = guard} {body = body} {mid = mid} tg tb) is o w types =
         let parts = in_case ms own.args c w in
         let sc = map G scope in
         let p = pattern_at typed set.roots (out-TypedCase c).pattern at in
-        let binds = ap (λ (z : GenericSort). bound_sorts set.types.ctors (pattern_at typed set.roots (out-TypedCase c).pattern z) (G s)) is ∙ pattern_binds typed set ms fs known own.args o.binds types in
+        let binds = ap (λ (z : GenericSort). bound_sorts set.types.ctors
+        (pattern_at typed set.roots (out-TypedCase c).pattern z) (G s)) is
+        ∙ pattern_binds typed set ms fs known own.args o.binds types in
         let deeper = sym (map-append G scope o.bound) in
         same _ _ _ _ old new
         (case_is sc p guard body (G s) ∙ ap (λ l. with_bound l
@@ -395,8 +420,10 @@ module _ (typed : Typed) (set : Setting) (ms : List Member) (fs : List Function)
         (offsets_of_guard (out-TypedCase c).guard) (site_offsets (out-TypedCase c).body) old mid new
         (lists_guard tg o.guard parts.0) (lists_expr tb o.body parts.1))
 
-    lists_cases : {s of at : GenericSort} {cs : List TypedCase} {ys : List Case} {old new : List CheckAt} {scope : List GenericSort} → TranslateCases typed set own at cs ys old new
-        → at ≡ put own.args s → AreSortedCases typed params scope s of cs → Within ms own.args (joined_members (map case_mentions cs)) → HasTypes ms (put own.args s)
+    lists_cases : {s of at : GenericSort} {cs : List TypedCase} {ys : List Case} {old new : List CheckAt}
+        {scope : List GenericSort} → TranslateCases typed set own at cs ys old new
+        → at ≡ put own.args s → AreSortedCases typed params scope s of cs
+        → Within ms own.args (joined_members (map case_mentions cs)) → HasTypes ms (put own.args s)
         → L (sites_of_cases (map (case_beside set.types fs (map G scope)) ys) (G s) (map G scope))
         (joined (map offsets_in_case cs)) old new
     lists_cases {old = old} no_cases is h w types = lists_none set.types fs own.number old

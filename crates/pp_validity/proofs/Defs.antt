@@ -3,6 +3,7 @@ use Rattle.std.proofs.Common.{◌≡◌, ℕ, suc, Bool, true, false, ◌&&◌, 
 use Rattle.std.proofs.Common.{◌∙◌, arith}
 use Rattle.std.specs.Prelude.{Option, Some, None, is_some, Contains, All}
 use Rattle.std.proofs.lemmas.List.{append-nil}
+use Rattle.std.proofs.lemmas.Bool.{and_from}
 use Rattle.pp_instances.proofs.Parts.{map_push}
 use Rattle.pp_instances.specs.Same.{joined as joined_members}
 use Rattle.pp_instances.specs.Uses.{mentions, post_mentions, text_mentions}
@@ -39,24 +40,21 @@ use Rattle.pp_typed.specs.declared.sort.GenericSort.TheVariants as sort
 use Rattle.pp_typed.specs.declared.typed.Typed.{Typed}
 use Rattle.pp_typed.specs.declared.typed.TypedDef.{TypedDef}
 use Rattle.pp_typed.specs.declared.typed.TypedPost.{TypedPost}
-use Rattle.pp_validity.proofs.Carried.{IsGrouped, joined_push, lists_all, lists_expr}
+use Rattle.pp_prog.proofs.Called.{joined_push}
+use Rattle.pp_validity.proofs.Carried.{IsGrouped, lists_all, lists_expr}
 use Rattle.pp_validity.proofs.Exprs.{sorted_all, sorted_expr, split}
-use Rattle.pp_validity.proofs.Forms.{Sorted, sort_of_binary}
+use Rattle.pp_prog.proofs.SortForms.{Sorted, sort_of_binary}
 use Rattle.pp_validity.proofs.Ground.{sort_at_bool}
 use Rattle.pp_validity.proofs.Known.{HasTypes, IsKnown}
 use Rattle.pp_validity.proofs.Listed.{Lists, lists_append, lists_none, lists_same, one_if, plain_site}
 use Rattle.pp_validity.proofs.Operators.{same_self}
 use Rattle.pp_validity.proofs.Patterns.{map_map}
-use Rattle.pp_validity.proofs.Sites.{sites_binary}
+use Rattle.pp_prog.proofs.SiteForms.{sites_binary}
 use Rattle.pp_validity.proofs.Within.{Within, in_left, in_right, in_parts}
 
 and_push : (p : Expr) (ps : List Expr) (e : Expr) → and_all p (ps ++ e ∷ []) ≡ prog.Binary AndAlso (and_all p ps) e None
 and_push p [] e = refl
 and_push p (q ∷ ps) e = and_push (prog.Binary AndAlso p q None) ps e
-
-both_true : (a b : Bool) → a ≡ true → b ≡ true → a && b ≡ true
-both_true true b h k = k
-both_true false b h k = let no : false ≡ true = h in cc
 
 first_same : {A : Type 0} {a b : A} {ps qs : List A} → a ∷ ps ≡ b ∷ qs → a ≡ b
 first_same h = cc
@@ -70,7 +68,8 @@ head_of P x xs h = h 0 x (omega arith)
 tail_of : {A : Type 0} (P : A → Type 0) (x : A) (xs : List A) → All P (x ∷ xs) → All P xs
 tail_of P x xs h = λ k d lt. h (suc k) d (omega arith)
 
-module _ (typed : Typed) (set : Setting) (ms : List Member) (fs : List Function) (known : IsKnown typed set ms fs) (own : Frame) (grouped : IsGrouped typed set ms fs own)
+module _ (typed : Typed) (set : Setting) (ms : List Member) (fs : List Function) (known : IsKnown typed set ms fs)
+    (own : Frame) (grouped : IsGrouped typed set ms fs own)
     (own_types : (s : GenericSort) → Contains own.args s → HasTypes ms s) (d : TypedDef) where
   abbrev G : GenericSort → Sort
   G s = sort_at set.roots own.args s
@@ -136,7 +135,7 @@ module _ (typed : Typed) (set : Setting) (ms : List Member) (fs : List Function)
   measure_sorted [] ss are = refl
   measure_sorted (x ∷ xs) [] are = let no : Sorted set.types fs sc x ∷ map (Sorted set.types fs sc) xs ≡ [] = are in cc
   measure_sorted (x ∷ xs) (s ∷ ss) are =
-      both_true (is_some (Sorted set.types fs sc x)) (is_sorted_measure set.types fs xs sc)
+      and_from (is_some (Sorted set.types fs sc x)) (is_sorted_measure set.types fs xs sc)
       (ap is_some (first_same are)) (measure_sorted xs ss (rest_same are))
 
   measure_in : (xs : List Expr) → measure_sites set.types fs xs sc ≡ joined (map In xs)
@@ -203,7 +202,8 @@ module _ (typed : Typed) (set : Setting) (ms : List Member) (fs : List Function)
   pre_right [] es are = refl
   pre_right (w ∷ xs) [] are = let no : Sorted set.types fs sc w ∷ map (Sorted set.types fs sc) xs ≡ [] = are in cc
   pre_right (w ∷ xs) (e ∷ es) are =
-      let first : Sorted set.types fs sc w ≡ Some of_prog.Bool = first_same are ∙ ap Some (sort_at_bool set.roots own.args) in
+      let first : Sorted set.types fs sc w ≡ Some of_prog.Bool =
+      first_same are ∙ ap Some (sort_at_bool set.roots own.args) in
       ap (has_the_sort set.types fs of_prog.Bool) (and_sorted w xs es first (rest_same are))
 
   right : (x : Expr) (l : List Sort) (s t : Sort) → sort_of set.types fs x l ≡ Some t → t ≡ s
@@ -256,16 +256,17 @@ module _ (typed : Typed) (set : Setting) (ms : List Member) (fs : List Function)
   def_sorted {f = f} t h w =
       let parts = parts_of w in
       let pre = sorted_all typed set ms fs known own d.type_params own_types t.pre.each (bools d.pre h.pre) parts.pre in
-      let measure = sorted_all typed set ms fs known own d.type_params own_types t.measure (each d.measure h.measure) parts.measure in
+      let measure = sorted_all typed set ms fs known own d.type_params own_types t.measure (each d.measure h.measure)
+      parts.measure in
       let body = sorted_expr typed set ms fs known own d.type_params own_types t.body h.body.0 parts.body in
       ap (λ (l : List Sort). is_sorted_pre set.types fs f.pre l &&
       (is_sorted_measure set.types fs f.measure l &&
       (is_of_sort set.types fs f.result l f.body && is_sorted_post set.types fs f.post (l ++ f.result ∷ []))))
       (scope_is f t.params)
-      ∙ both_true _ _ (ap (λ (o : Option Expr). is_sorted_pre set.types fs o sc) t.pre.one
+      ∙ and_from _ _ (ap (λ (o : Option Expr). is_sorted_pre set.types fs o sc) t.pre.one
       ∙ pre_right t.pre.parts d.pre pre)
-      (both_true _ _ (measure_sorted f.measure (map own_sort d.measure) measure)
-      (both_true _ _ (right f.body sc f.result (G d.body.of) body (ap G h.body.1 ∙ sym t.result))
+      (and_from _ _ (measure_sorted f.measure (map own_sort d.measure) measure)
+      (and_from _ _ (right f.body sc f.result (G d.body.of) body (ap G h.body.1 ∙ sym t.result))
       (post_right f t.result t.post h.post parts.post)))
 
   -- its sites are listed in order
@@ -275,7 +276,8 @@ module _ (typed : Typed) (set : Setting) (ms : List Member) (fs : List Function)
   def_lists {f = f} {old = old} {new = new} t h w =
       let parts = parts_of w in
       let pre = pre_lists t.pre.each (bools d.pre h.pre) parts.pre in
-      let measure = lists_all typed set ms fs known own grouped d.type_params own_types t.measure (each d.measure h.measure) parts.measure in
+      let measure = lists_all typed set ms fs known own grouped d.type_params own_types t.measure
+      (each d.measure h.measure) parts.measure in
       let body = lists_expr typed set ms fs known own grouped d.type_params own_types t.body h.body.0 parts.body in
       let post = post_lists f t.result t.post h.post parts.post in
       let a = pre_sites set.types fs (as_one t.pre.parts) sc in

@@ -51,9 +51,9 @@ use Rattle.pp_typed.specs.declared.sort.GenericSort.{GenericSort}
 use Rattle.pp_typed.specs.declared.sort.GenericSort.TheVariants as sort
 use Rattle.pp_typed.specs.declared.typed.Typed.{Typed}
 use Rattle.pp_typed_forms.proofs.Forms.{IsOfForm, Layer, form}
-use Rattle.pp_validity.proofs.Forms.{Sorted, arm, sort_of_int, sort_of_bool, sort_of_var, sort_of_unary, sort_of_binary}
-use Rattle.pp_validity.proofs.Forms.{sort_of_construct, sort_of_call, sort_of_field, sort_of_if, sort_of_match}
-use Rattle.pp_validity.proofs.Forms.{sort_of_val, sort_of_assert}
+use Rattle.pp_prog.proofs.SortForms.{Sorted, arm, sort_of_int, sort_of_bool, sort_of_var, sort_of_unary, sort_of_binary}
+use Rattle.pp_prog.proofs.SortForms.{sort_of_construct, sort_of_call, sort_of_field, sort_of_if, sort_of_match}
+use Rattle.pp_prog.proofs.SortForms.{sort_of_val, sort_of_assert}
 use Rattle.pp_validity.proofs.Ground.{put_put, puts_puts, sort_at_int, sort_at_bool, sort_at_root}
 use Rattle.pp_validity.proofs.Known.{HasTypes, IsKnown}
 use Rattle.pp_validity.proofs.Operators.{alike_self, binary_right, same_self, unary_right}
@@ -75,7 +75,14 @@ module _ (typed : Typed) (params : ℕ) (scope : List GenericSort) where
   split [] e (more_sorted {s = s} h is none_sorted) = record
       { before = []; is = ap (λ z. z ∷ []) (sym is); earlier = none_sorted; last = h }
   split (d ∷ es) e (more_sorted {s = s} h is rest) =
-      let r = split es e rest in record { before = s ∷ r.before; is = ap (λ l. s ∷ l) r.is; earlier = more_sorted h is r.earlier; last = r.last }
+      let r = split es e rest in
+      record {
+        before = s ∷ r.before;
+        is = ap (λ l. s ∷ l) r.is;
+        earlier = more_sorted h is r.earlier;
+        last =
+            r.last;
+      }
 
   pub record OneCase (s of : GenericSort) (c : TypedCase) : Type 0 where
     pub bound : List GenericSort
@@ -84,7 +91,8 @@ module _ (typed : Typed) (params : ℕ) (scope : List GenericSort) where
     pub body : IsSorted typed params (scope ++ bound) (out-TypedCase c).body
     pub body_is : (out-TypedCase c).body.of ≡ of
 
-  pub split_cases : (cs : List TypedCase) (c : TypedCase) {s of : GenericSort} → AreSortedCases typed params scope s of (cs ++ c ∷ [])
+  pub split_cases : (cs : List TypedCase) (c : TypedCase) {s of : GenericSort}
+      → AreSortedCases typed params scope s of (cs ++ c ∷ [])
       → AreSortedCases typed params scope s of cs × OneCase s of c
   split_cases [] c (more_sorted_cases {bound = bound} binds guard body is no_sorted) =
       (no_sorted, record { bound = bound; binds = binds; guard = guard; body = body; body_is = is })
@@ -105,7 +113,8 @@ like_all types functions t s sc (a ∷ arms) h =
     ∙ ap (λ o. arms_like types functions o arms s sc) (alike_self t)
     ∙ like_all types functions t s sc arms (λ b c. h b (Contains-append_right (a ∷ []) arms b c))
 
-module _ (typed : Typed) (set : Setting) (ms : List Member) (fs : List Function) (known : IsKnown typed set ms fs) (own : Frame) (params : ℕ)
+module _ (typed : Typed) (set : Setting) (ms : List Member) (fs : List Function) (known : IsKnown typed set ms fs)
+    (own : Frame) (params : ℕ)
     (own_types : (s : GenericSort) → Contains own.args s → HasTypes ms s) where
   abbrev pub G : GenericSort → Sort
   G s = sort_at set.roots own.args s
@@ -152,7 +161,8 @@ module _ (typed : Typed) (set : Setting) (ms : List Member) (fs : List Function)
   test_then : (a b : Option Sort) (s : GenericSort) → a ≡ Some (G s) → s ≡ sort.Bool → a_bool a b ≡ b
   test_then a b s p q = ap (λ z. a_bool z b) (p ∙ ap Some (ap G q ∙ bool))
 
-  both_alike : (a b : Option Sort) (s t of : GenericSort) → a ≡ some s → b ≡ some t → s ≡ of → t ≡ of → alike a b ≡ some of
+  both_alike : (a b : Option Sort) (s t of : GenericSort) → a ≡ some s → b ≡ some t → s ≡ of → t ≡ of
+      → alike a b ≡ some of
   both_alike a b s t of p q u v =
       ap (λ z. alike z b) (p ∙ ap some u) ∙ ap (λ z. alike (some of) z) (q ∙ ap some v) ∙ alike_self (G of)
 
@@ -222,25 +232,33 @@ module _ (typed : Typed) (set : Setting) (ms : List Member) (fs : List Function)
     sorted_expr {e} {scope = scope} (of_call {es = es} {xs = xs} f sorts is all) h w =
         let c = at_form e (kind.Call f sorts es) _ h is (kind.outs-Call f sorts es) in
         let inside = in_call ms own.args e f sorts es is w in
-        let there = inside (function_at f sorts) (Contains-append_left (function_at f sorts ∷ []) (types_of sorts ++ joined (map mentions es)) (function_at f sorts) (Contains-push [] (function_at f sorts))) in
-        let later = in_right ms own.args (types_of sorts) (joined (map mentions es)) (in_right ms own.args (function_at f sorts ∷ []) (types_of sorts ++ joined (map mentions es)) inside) in
+        let there = inside (function_at f sorts)
+        (Contains-append_left (function_at f sorts ∷ []) (types_of sorts ++ joined (map mentions es))
+        (function_at f sorts) (Contains-push [] (function_at f sorts))) in
+        let later = in_right ms own.args (types_of sorts) (joined (map mentions es))
+        (in_right ms own.args (function_at f sorts ∷ []) (types_of sorts ++ joined (map mentions es)) inside) in
         let outer = map (put own.args) sorts in
         let g = known.functions f c.d outer c.declared there in
         let sig = known.signature f c.d c.declared in
         let twice = puts_puts own.args sorts (param_sorts c.d.params) sig.0 (sym c.all) in
         let params_are = g.params ∙ grounds typed set ms fs known own.args (param_sorts c.d.params) sorts twice in
-        let result_is = g.result ∙ ap (program_sort set.roots) (sym (put_put own.args sorts c.d.result sig.1 (sym c.all))) ∙ ap G (sym c.result) in
+        let result_is = g.result
+        ∙ ap (program_sort set.roots) (sym (put_put own.args sorts c.d.result sig.1 (sym c.all)))
+        ∙ ap G (sym c.result) in
         sort_of_call set.types fs (map G scope) (function_number set.functions f outer) xs _ _
         ∙ called g.g (map (Sorted set.types fs (map G scope)) xs) (map G (map (put sorts) (param_sorts c.d.params))) _
         (G e.of) g.found
         (sorted_all all c.args_sorted later ∙ somes (map (put sorts) (param_sorts c.d.params))) params_are result_is
     sorted_expr {e} {scope = scope} (of_construct {es = es} {xs = xs} c sorts is all) h w =
         let f = at_form e (kind.Construct c sorts es) _ h is (kind.outs-Construct c sorts es) in
-        let later = in_right ms own.args (types_of sorts) (joined (map mentions es)) (in_construct ms own.args e c sorts es is w) in
+        let later = in_right ms own.args (types_of sorts) (joined (map mentions es))
+        (in_construct ms own.args e c sorts es is w) in
         let outer = map (put own.args) sorts in
         let there = root_there typed set ms fs known own.args e.of f.k.root sorts f.result (sort_types e w) in
         let k = ctor_at typed set.roots (place_of set.roots (root_at f.k.root outer)) outer f.k in
-        let twice = puts_puts own.args sorts f.k.fields (known.owner c f.k f.declared).2 (sym (known.whole f.k.root (known.owner c f.k f.declared).0 outer (known.owner c f.k f.declared).1 there) ∙ length-map sorts (put own.args)) in
+        let twice = puts_puts own.args sorts f.k.fields (known.owner c f.k f.declared).2
+        (sym (known.whole f.k.root (known.owner c f.k f.declared).0 outer (known.owner c f.k f.declared).1 there)
+        ∙ length-map sorts (put own.args)) in
         sort_of_construct set.types fs (map G scope) (ctor_number typed.ctors set.roots c outer) xs
         ∙ built k (map (Sorted set.types fs (map G scope)) xs) (map G (map (put sorts) f.k.fields)) _ (G e.of)
         (known.ctors c f.k outer f.declared there)
@@ -251,10 +269,12 @@ module _ (typed : Typed) (set : Setting) (ms : List Member) (fs : List Function)
         let f = at_form e (kind.Field base j) _ h is (kind.outs-Field base j) in
         let inside = in_field ms own.args e base j is w in
         let outer = map (put own.args) f.sorts in
-        let there = root_there typed set ms fs known own.args base.of f.k.root f.sorts f.base_is (sort_types base inside) in
+        let there = root_there typed set ms fs known own.args base.of f.k.root f.sorts f.base_is
+        (sort_types base inside) in
         let o = known.only f.k outer f.only there in
         let root = data_number set.roots f.k.root outer in
-        let has = sorted_expr t f.base_sorted inside ∙ ap Some (ap G f.base_is ∙ sort_at_root set.roots own.args f.k.root f.sorts) in
+        let has = sorted_expr t f.base_sorted inside
+        ∙ ap Some (ap G f.base_is ∙ sort_at_root set.roots own.args f.k.root f.sorts) in
         sort_of_field set.types fs (map G scope) x j ∙ ap (λ z. a_tree z (λ d. field_sort set.types fs d j)) has
         ∙ field_is (slice_get set.types.datatypes root.0) o.t (ctor_at typed set.roots root.0 outer f.k) j (G e.of)
         o.found o.one o.first
@@ -289,7 +309,8 @@ module _ (typed : Typed) (set : Setting) (ms : List Member) (fs : List Function)
         let inside = in_match ms own.args e m cs is w in
         let within = in_left ms own.args (mentions m) (joined (map case_mentions cs)) inside in
         let value = sorted_expr tm f.matched within in
-        let each = sorted_cases tc refl f.cases_sorted (in_right ms own.args (mentions m) (joined (map case_mentions cs)) inside) (sort_types m within) in
+        let each = sorted_cases tc refl f.cases_sorted
+        (in_right ms own.args (mentions m) (joined (map case_mentions cs)) inside) (sort_types m within) in
         sort_of_match set.types fs (map G scope) x ys _
         ∙ first_then (Has x scope) (G m.of) (λ s. arms_sort set.types fs (map (arm set.types fs (map G scope)) ys) s
         (map G scope)) value
@@ -331,29 +352,42 @@ module _ (typed : Typed) (set : Setting) (ms : List Member) (fs : List Function)
     sorted_guard {scope = scope} (one_guard {e = e} {x = x} made) (guarded h is) w t = test_then (Has x scope) t e.of
         (sorted_expr made h w) is
 
-    sorted_case : {s of at : GenericSort} {c : TypedCase} {y : Case} {old new : List CheckAt} {scope : List GenericSort} → TranslateCase typed set own at c y old new
-        → at ≡ put own.args s → OneCase typed params scope s of c → Within ms own.args (case_mentions c) → HasTypes ms (put own.args s)
+    sorted_case : {s of at : GenericSort} {c : TypedCase} {y : Case} {old new : List CheckAt} {scope : List GenericSort}
+        → TranslateCase typed set own at c y old new
+        → at ≡ put own.args s → OneCase typed params scope s of c → Within ms own.args (case_mentions c)
+        → HasTypes ms (put own.args s)
         → arm_sort set.types fs (arm set.types fs (map G scope) y) (G s) (map G scope) ≡ some of
     sorted_case {s} {at = at} {scope = scope} (one_case c {guard = guard} {body = body} tg tb) same o w types =
         let parts = in_case ms own.args c w in
         let p = pattern_at typed set.roots (out-TypedCase c).pattern at in
-        let binds = ap (λ (z : GenericSort). bound_sorts set.types.ctors (pattern_at typed set.roots (out-TypedCase c).pattern z) (G s)) same ∙ pattern_binds typed set ms fs known own.args o.binds types in
+        let binds = ap (λ (z : GenericSort). bound_sorts set.types.ctors
+        (pattern_at typed set.roots (out-TypedCase c).pattern z) (G s)) same
+        ∙ pattern_binds typed set ms fs known own.args o.binds types in
         let has = sorted_expr tb o.body parts.1 in
         let both = sym (map-append G scope o.bound) in
-        let made : Arm = record { pattern = p; guard = option_map (sort_of set.types fs) guard; body = sort_of set.types fs body } in
+        let made : Arm = record {
+          pattern = p;
+          guard = option_map (sort_of set.types fs) guard;
+          body =
+              sort_of set.types fs body;
+        } in
         ap (λ (a : Arm). arm_sort set.types fs a (G s) (map G scope)) (arm_is (map G scope) p guard body)
         ∙ ap (arm_with made (map G scope)) binds
         ∙ ap (λ l. guarded_sort (option_map (sort_of set.types fs) guard) l (sort_of set.types fs body l)) both
         ∙ sorted_guard tg o.guard parts.0 (Has body (scope ++ o.bound)) ∙ has ∙ ap some o.body_is
 
-    sorted_cases : {s of at : GenericSort} {cs : List TypedCase} {ys : List Case} {old new : List CheckAt} {scope : List GenericSort} → TranslateCases typed set own at cs ys old new
-        → at ≡ put own.args s → AreSortedCases typed params scope s of cs → Within ms own.args (joined (map case_mentions cs)) → HasTypes ms (put own.args s)
-        → (y : Case) → Contains ys y → arm_sort set.types fs (arm set.types fs (map G scope) y) (G s) (map G scope) ≡ some of
+    sorted_cases : {s of at : GenericSort} {cs : List TypedCase} {ys : List Case} {old new : List CheckAt}
+        {scope : List GenericSort} → TranslateCases typed set own at cs ys old new
+        → at ≡ put own.args s → AreSortedCases typed params scope s of cs
+        → Within ms own.args (joined (map case_mentions cs)) → HasTypes ms (put own.args s)
+        → (y : Case) → Contains ys y
+        → arm_sort set.types fs (arm set.types fs (map G scope) y) (G s) (map G scope) ≡ some of
     sorted_cases no_cases same h w types y c = absurd (nothing_in y c)
     sorted_cases {s} {of} {scope = scope} (more_cases {cases = cases} {c = c} {ys = ys} {y = z} before one) same h w
         types y has =
         let r = split_cases typed params scope cases c h in
         let parts = in_parts ms own.args case_mentions cases c w in
         ⊎_elim (λ (earlier : Contains ys y). sorted_cases before same r.0 parts.0 types y earlier)
-        (λ (e : z ≡ y). subst (λ (k : Case). arm_sort set.types fs (arm set.types fs (map G scope) k) (G s) (map G scope) ≡ some of) e (sorted_case one same r.1 parts.1 types))
+        (λ (e : z ≡ y). subst (λ (k : Case). arm_sort set.types fs (arm set.types fs (map G scope) k) (G s)
+        (map G scope) ≡ some of) e (sorted_case one same r.1 parts.1 types))
         (Contains-push_cases ys z y has)

@@ -22,11 +22,12 @@ use Rattle.pp_typed.specs.declared.typed.TypedRoot.{TypedRoot}
 abbrev pub HasTypes : List Member → GenericSort → Type 0
 HasTypes ms s = (m : Member) → Contains (types_in s) m → Contains ms m
 
-pub record IsFunctionAt (set : Setting) (fs : List Function) (f : ℕ) (d : TypedDef) (args : List GenericSort) : Type 0 where
-  pub g : Function
-  pub found : slice_get fs (function_number set.functions f args).0 ≡ Some g
-  pub params : sorts_of_params g.params ≡ map (sort_at set.roots args) (param_sorts d.params)
-  pub result : g.result ≡ sort_at set.roots args d.result
+pub record IsFunctionAt (set : Setting) (fs : List Function) (f : ℕ) (d : TypedDef) (args : List GenericSort) : Type 0
+  where
+    pub g : Function
+    pub found : slice_get fs (function_number set.functions f args).0 ≡ Some g
+    pub params : sorts_of_params g.params ≡ map (sort_at set.roots args) (param_sorts d.params)
+    pub result : g.result ≡ sort_at set.roots args d.result
 
 pub record IsOnlyAt (typed : Typed) (set : Setting) (r : ℕ) (k : TypedCtor) (args : List GenericSort) : Type 0 where
   pub c : ℕ

@@ -1,7 +1,6 @@
 pub mod Ground
 pub mod Operators
 pub mod Within
-pub mod Forms
 pub mod Known
 pub mod Patterns
 pub mod Types

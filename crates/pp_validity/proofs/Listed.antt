@@ -45,17 +45,29 @@ told_append [] t [] p h = refl
 told_append [] t (o ∷ os) p h = absurd (omega (arith, h))
 told_append (plain check ∷ s) t o p h = told_append s t o p h
 told_append (division check ∷ s) t [] p h = absurd (omega (arith, h))
-told_append (division check ∷ s) t (o ∷ os) p h = ap (λ l. for_each (carried (division check)) o ++ l) (told_append s t os p (omega arith)) ∙ sym (append_assoc (for_each (carried (division check)) o) (told s os) (told t p))
+told_append (division check ∷ s) t (o ∷ os) p h =
+    ap (λ l. for_each (carried (division check)) o ++ l) (told_append s t os p (omega arith))
+    ∙ sym (append_assoc (for_each (carried (division check)) o) (told s os) (told t p))
 told_append (assertion check ∷ s) t [] p h = absurd (omega (arith, h))
-told_append (assertion check ∷ s) t (o ∷ os) p h = ap (λ l. for_each (carried (assertion check)) o ++ l) (told_append s t os p (omega arith)) ∙ sym (append_assoc (for_each (carried (assertion check)) o) (told s os) (told t p))
+told_append (assertion check ∷ s) t (o ∷ os) p h =
+    ap (λ l. for_each (carried (assertion check)) o ++ l) (told_append s t os p (omega arith))
+    ∙ sym (append_assoc (for_each (carried (assertion check)) o) (told s os) (told t p))
 told_append (precondition g check ∷ s) t [] p h = absurd (omega (arith, h))
-told_append (precondition g check ∷ s) t (o ∷ os) p h = ap (λ l. for_each (carried (precondition g check)) o ++ l) (told_append s t os p (omega arith)) ∙ sym (append_assoc (for_each (carried (precondition g check)) o) (told s os) (told t p))
+told_append (precondition g check ∷ s) t (o ∷ os) p h =
+    ap (λ l. for_each (carried (precondition g check)) o ++ l) (told_append s t os p (omega arith))
+    ∙ sym (append_assoc (for_each (carried (precondition g check)) o) (told s os) (told t p))
 told_append (measure g check ∷ s) t [] p h = absurd (omega (arith, h))
-told_append (measure g check ∷ s) t (o ∷ os) p h = ap (λ l. for_each (carried (measure g check)) o ++ l) (told_append s t os p (omega arith)) ∙ sym (append_assoc (for_each (carried (measure g check)) o) (told s os) (told t p))
+told_append (measure g check ∷ s) t (o ∷ os) p h =
+    ap (λ l. for_each (carried (measure g check)) o ++ l) (told_append s t os p (omega arith))
+    ∙ sym (append_assoc (for_each (carried (measure g check)) o) (told s os) (told t p))
 told_append (matching k ps check ∷ s) t [] p h = absurd (omega (arith, h))
-told_append (matching k ps check ∷ s) t (o ∷ os) p h = ap (λ l. for_each (carried (matching k ps check)) o ++ l) (told_append s t os p (omega arith)) ∙ sym (append_assoc (for_each (carried (matching k ps check)) o) (told s os) (told t p))
+told_append (matching k ps check ∷ s) t (o ∷ os) p h =
+    ap (λ l. for_each (carried (matching k ps check)) o ++ l) (told_append s t os p (omega arith))
+    ∙ sym (append_assoc (for_each (carried (matching k ps check)) o) (told s os) (told t p))
 told_append (postcondition check ∷ s) t [] p h = absurd (omega (arith, h))
-told_append (postcondition check ∷ s) t (o ∷ os) p h = ap (λ l. for_each (carried (postcondition check)) o ++ l) (told_append s t os p (omega arith)) ∙ sym (append_assoc (for_each (carried (postcondition check)) o) (told s os) (told t p))
+told_append (postcondition check ∷ s) t (o ∷ os) p h =
+    ap (λ l. for_each (carried (postcondition check)) o ++ l) (told_append s t os p (omega arith))
+    ∙ sym (append_assoc (for_each (carried (postcondition check)) o) (told s os) (told t p))
 
 count_append : (s t : List Site) → count (s ++ t) ≡ count s + count t
 count_append [] t = omega arith
@@ -72,8 +84,8 @@ joined_append [] b = refl
 joined_append (x ∷ a) b = ap (λ l. x ++ l) (joined_append a b) ∙ sym (append_assoc x (joined a) (joined b))
 
 module _ (types : TypeTable) (fs : List Function) (f : ℕ) where
-  -- the checks of these sites come after the old ones, numbered in order, at these offsets, and each site carries what it
-  -- should
+  -- the checks of these sites come after the old ones, numbered in order, at these offsets, and each site carries what
+  -- it should
   pub record Lists (ss : List Site) (os : List Offset) (old new : List CheckAt) : Type 0 where
     pub more : List CheckAt
     pub is : new ≡ old ++ more

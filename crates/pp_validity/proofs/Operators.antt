@@ -25,43 +25,56 @@ alike_self s = ap (λ b. sort_if b s) (same_self s)
 
 -- where G gives the sorts of the program
 module _ (G : GenericSort → Sort) (int : G sort.Int ≡ prog.Int) (bool : G sort.Bool ≡ prog.Bool) where
-  pub unary_right : (op : UnaryOp) (a of : GenericSort) → a ≡ unary_sort op → of ≡ unary_sort op → prog_unary (unary_op op) (Some (G a)) ≡ Some (G of)
+  pub unary_right : (op : UnaryOp) (a of : GenericSort) → a ≡ unary_sort op → of ≡ unary_sort op
+      → prog_unary (unary_op op) (Some (G a)) ≡ Some (G of)
   unary_right Neg a of p q = ap (λ s. prog_unary (unary_op Neg) (Some s)) (ap G p ∙ int) ∙ ap Some (sym (ap G q ∙ int))
-  unary_right Not a of p q = ap (λ s. prog_unary (unary_op Not) (Some s)) (ap G p ∙ bool) ∙ ap Some (sym (ap G q ∙ bool))
-  unary_right Flip a of p q = ap (λ s. prog_unary (unary_op Flip) (Some s)) (ap G p ∙ int) ∙ ap Some (sym (ap G q ∙ int))
+  unary_right Not a of p q =
+      ap (λ s. prog_unary (unary_op Not) (Some s)) (ap G p ∙ bool) ∙ ap Some (sym (ap G q ∙ bool))
+  unary_right Flip a of p q =
+      ap (λ s. prog_unary (unary_op Flip) (Some s)) (ap G p ∙ int) ∙ ap Some (sym (ap G q ∙ int))
 
-  both : (op : BinaryOp) (a of : GenericSort) (s t : Sort) → G a ≡ s → G of ≡ t → binary_sort (binary_op op) (Some s) (Some s) ≡ Some t
+  both : (op : BinaryOp) (a of : GenericSort) (s t : Sort) → G a ≡ s → G of ≡ t
+      → binary_sort (binary_op op) (Some s) (Some s) ≡ Some t
       → binary_sort (binary_op op) (Some (G a)) (Some (G a)) ≡ Some (G of)
   both op a of s t p q h = ap (λ z. binary_sort (binary_op op) (Some z) (Some z)) p ∙ h ∙ ap Some (sym q)
 
-  equal_right : (op : BinaryOp) (a of : GenericSort) → of ≡ sort.Bool → binary_sort (binary_op op) (Some (G a)) (Some (G a)) ≡ Some prog.Bool
+  equal_right : (op : BinaryOp) (a of : GenericSort) → of ≡ sort.Bool
+      → binary_sort (binary_op op) (Some (G a)) (Some (G a)) ≡ Some prog.Bool
       → binary_sort (binary_op op) (Some (G a)) (Some (G a)) ≡ Some (G of)
   equal_right op a of p h = h ∙ ap Some (sym (ap G p ∙ bool))
 
-  abbrev numeric : (op : BinaryOp) (a of : GenericSort) → IsNumeric a of → binary_sort (binary_op op) (Some prog.Int) (Some prog.Int) ≡ Some prog.Int
+  abbrev numeric : (op : BinaryOp) (a of : GenericSort) → IsNumeric a of
+      → binary_sort (binary_op op) (Some prog.Int) (Some prog.Int) ≡ Some prog.Int
       → binary_sort (binary_op op) (Some (G a)) (Some (G a)) ≡ Some (G of)
   numeric op a of h c = both op a of prog.Int prog.Int (ap G h.0 ∙ int) (ap G h.1 ∙ int) c
 
-  abbrev order : (op : BinaryOp) (a of : GenericSort) → IsOrder a of → binary_sort (binary_op op) (Some prog.Int) (Some prog.Int) ≡ Some prog.Bool
+  abbrev order : (op : BinaryOp) (a of : GenericSort) → IsOrder a of
+      → binary_sort (binary_op op) (Some prog.Int) (Some prog.Int) ≡ Some prog.Bool
       → binary_sort (binary_op op) (Some (G a)) (Some (G a)) ≡ Some (G of)
   order op a of h c = both op a of prog.Int prog.Bool (ap G h.0 ∙ int) (ap G h.1 ∙ bool) c
 
-  abbrev logical : (op : BinaryOp) (a of : GenericSort) → IsLogical a of → binary_sort (binary_op op) (Some prog.Bool) (Some prog.Bool) ≡ Some prog.Bool
+  abbrev logical : (op : BinaryOp) (a of : GenericSort) → IsLogical a of
+      → binary_sort (binary_op op) (Some prog.Bool) (Some prog.Bool) ≡ Some prog.Bool
       → binary_sort (binary_op op) (Some (G a)) (Some (G a)) ≡ Some (G of)
   logical op a of h c = both op a of prog.Bool prog.Bool (ap G h.0 ∙ bool) (ap G h.1 ∙ bool) c
 
-  abbrev bitwise : (op : BinaryOp) (a of : GenericSort) → IsBitwise a of → binary_sort (binary_op op) (Some prog.Int) (Some prog.Int) ≡ Some prog.Int
-      → binary_sort (binary_op op) (Some prog.Bool) (Some prog.Bool) ≡ Some prog.Bool → binary_sort (binary_op op) (Some (G a)) (Some (G a)) ≡ Some (G of)
-  bitwise op a of h c d = ⊎_elim (λ (n : IsNumeric a of). numeric op a of n c) (λ (l : IsLogical a of). logical op a of l d) h
+  abbrev bitwise : (op : BinaryOp) (a of : GenericSort) → IsBitwise a of
+      → binary_sort (binary_op op) (Some prog.Int) (Some prog.Int) ≡ Some prog.Int
+      → binary_sort (binary_op op) (Some prog.Bool) (Some prog.Bool) ≡ Some prog.Bool
+      → binary_sort (binary_op op) (Some (G a)) (Some (G a)) ≡ Some (G of)
+  bitwise op a of h c d =
+      ⊎_elim (λ (n : IsNumeric a of). numeric op a of n c) (λ (l : IsLogical a of). logical op a of l d) h
 
-  pub binary_right : (op : BinaryOp) (a of : GenericSort) → Operates op a of → binary_sort (binary_op op) (Some (G a)) (Some (G a)) ≡ Some (G of)
+  pub binary_right : (op : BinaryOp) (a of : GenericSort) → Operates op a of
+      → binary_sort (binary_op op) (Some (G a)) (Some (G a)) ≡ Some (G of)
   binary_right Add a of h = numeric Add a of h refl
   binary_right Sub a of h = numeric Sub a of h refl
   binary_right Mul a of h = numeric Mul a of h refl
   binary_right Div a of h = numeric Div a of h refl
   binary_right Rem a of h = numeric Rem a of h refl
   binary_right Equal a of h = equal_right Equal a of h (ap (λ o. then_sort o (λ s. Some prog.Bool)) (alike_self (G a)))
-  binary_right Differ a of h = equal_right Differ a of h (ap (λ o. then_sort o (λ s. Some prog.Bool)) (alike_self (G a)))
+  binary_right Differ a of h =
+      equal_right Differ a of h (ap (λ o. then_sort o (λ s. Some prog.Bool)) (alike_self (G a)))
   binary_right Less a of h = order Less a of h refl
   binary_right AtMost a of h = order AtMost a of h refl
   binary_right More a of h = order More a of h refl

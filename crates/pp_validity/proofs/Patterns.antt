@@ -109,7 +109,8 @@ pub map_map : {A B C : Type 0} (f : B → C) (g : A → B) (xs : List A) → map
 map_map f g [] = refl
 map_map f g (x ∷ xs) = ap (λ l. f (g x) ∷ l) (map_map f g xs)
 
-module _ (typed : Typed) (set : Setting) (ms : List Member) (fs : List Function) (known : IsKnown typed set ms fs) (args : List GenericSort) where
+module _ (typed : Typed) (set : Setting) (ms : List Member) (fs : List Function) (known : IsKnown typed set ms fs)
+    (args : List GenericSort) where
   abbrev G : GenericSort → Sort
   G s = sort_at set.roots args s
 
@@ -200,22 +201,31 @@ module _ (typed : Typed) (set : Setting) (ms : List Member) (fs : List Function)
     pattern_binds {s} {p} (binds_int n is of range) h =
         alone p s (prog.Int n) (ap (λ k. kind_at typed set.roots k (put args s)) is
         ∙ kind_int typed set.roots n (put args s))
-        (bound_int set.types.ctors n (G s) ∙ ap (λ z. binds_none (same_sort of_prog.Int z && is_int n)) (ap G of ∙ sort_at_int set.roots args) ∙ ap binds_none range)
+        (bound_int set.types.ctors n (G s)
+        ∙ ap (λ z. binds_none (same_sort of_prog.Int z && is_int n)) (ap G of ∙ sort_at_int set.roots args)
+        ∙ ap binds_none range)
     pattern_binds {s} {p} (binds_bool b is of) h =
         alone p s (prog.Bool b) (ap (λ k. kind_at typed set.roots k (put args s)) is
         ∙ kind_bool typed set.roots b (put args s))
-        (bound_bool set.types.ctors b (G s) ∙ ap (λ z. binds_none (same_sort of_prog.Bool z)) (ap G of ∙ sort_at_bool set.roots args))
+        (bound_bool set.types.ctors b (G s)
+        ∙ ap (λ z. binds_none (same_sort of_prog.Bool z)) (ap G of ∙ sort_at_bool set.roots args))
     pattern_binds {s} {p} (binds_ctor {inner = inner} c k sorts parts is declared of each) h =
         let outer = map (put args) sorts in
         let there = root_there s k.root sorts of h in
         let ctor = known.ctors c k outer declared there in
-        let of_args : args_of (put args s) ≡ outer = ap args_of (ap (put args) of ∙ put_root args k.root sorts) ∙ args_of_root set.roots args k.root outer in
-        let sorted : of_prog.Tree (data_number set.roots k.root outer) ≡ G s = sym (ap G of ∙ sort_at_root set.roots args k.root sorts) in
+        let of_args : args_of (put args s) ≡ outer =
+        ap args_of (ap (put args) of ∙ put_root args k.root sorts) ∙ args_of_root set.roots args k.root outer in
+        let sorted : of_prog.Tree (data_number set.roots k.root outer) ≡ G s =
+        sym (ap G of ∙ sort_at_root set.roots args k.root sorts) in
         let same = fields_twice c k sorts declared there in
-        let types : EachTypes (map (put sorts) k.fields) = mapped (put sorts) k.fields Types (λ f has. subst (HasTypes ms) (sym (put_twice c k sorts declared there f has)) (known.fields c k outer declared there f has)) in
+        let types : EachTypes (map (put sorts) k.fields) =
+        mapped (put sorts) k.fields Types
+        (λ f has. subst (HasTypes ms) (sym (put_twice c k sorts declared there f has))
+        (known.fields c k outer declared there f has)) in
         let inside = patterns_bind each types in
         let number = ctor_number typed.ctors set.roots c in
-        let q = prog.Ctor (number outer) (each_at (map (pattern_at typed set.roots) parts) (map (put args) (map (put sorts) k.fields))) in
+        let q = prog.Ctor (number outer)
+        (each_at (map (pattern_at typed set.roots) parts) (map (put args) (map (put sorts) k.fields))) in
         let made : kind_at typed set.roots p.kind (put args s) ≡ q =
         ap (λ z. kind_at typed set.roots z (put args s)) is ∙ kind_ctor typed set.roots c parts (put args s)
         ∙ ap (λ l. prog.Ctor (number l) (each_at (map (pattern_at typed set.roots) parts)

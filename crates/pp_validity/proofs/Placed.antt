@@ -7,7 +7,7 @@ use Rattle.std.specs.Option.{option_map}
 use Rattle.std.proofs.lemmas.List.{length-map}
 use Rattle.std.proofs.lemmas.List.Elements.{Contains-push_cases, Contains-append_cases}
 use Rattle.std.proofs.lemmas.List.Sums.{sum_by-cons}
-use Rattle.std.proofs.lemmas.Option.{slice_get-map}
+use Rattle.std.proofs.lemmas.Option.{same_Some, slice_get-map}
 use Rattle.pp_instances.proofs.Kept.{nothing_in}
 use Rattle.pp_instances.specs.Decides.{same_is, same_self}
 use Rattle.pp_instances.specs.Same.{place_of, same}
@@ -27,27 +27,27 @@ use Rattle.pp_typed.specs.declared.typed.TypedCtor.{TypedCtor}
 not_first : (k : Member) (ks : List Member) (m : Member) → Contains (k ∷ ks) m → same m k ≡ false → Contains ks m
 not_first k ks m h off =
     ⊎_elim (λ (first : Contains (k ∷ []) m). ⊎_elim (λ (none : Contains [] m). absurd (nothing_in m none))
-    (λ (e : k ≡ m). let t : false ≡ true = sym off ∙ ap (same m) e ∙ same_self m in cc) (Contains-push_cases [] k m first))
+    (λ (e : k ≡ m). let t : false ≡ true = sym off ∙ ap (same m) e ∙ same_self m in cc)
+    (Contains-push_cases [] k m first))
     (λ (c : Contains ks m). c) (Contains-append_cases (k ∷ []) ks m h)
 
 placed_by : (k : Member) (ks : List Member) (m : Member) (b : Bool) → same m k ≡ b
     → (b ≡ false → slice_get ks (place_of ks m) ≡ Some m)
     → slice_get (k ∷ ks) (cond (not b) (1 + place_of ks m) 0) ≡ Some m
 placed_by k ks m true t later = ap Some (sym (same_is m k t))
-placed_by k ks m false off later = let e : 1 + place_of ks m ≡ suc (place_of ks m) = omega arith in ap (slice_get (k ∷ ks)) e ∙ later refl
+placed_by k ks m false off later = let e : 1 + place_of ks m ≡ suc (place_of ks m) = omega arith in
+    ap (slice_get (k ∷ ks)) e ∙ later refl
 
 -- a member of a list stands at its place
 pub placed : (ms : List Member) (m : Member) → Contains ms m → slice_get ms (place_of ms m) ≡ Some m
 placed [] m h = absurd (nothing_in m h)
 placed (k ∷ ks) m h = placed_by k ks m (same m k) refl (λ off. placed ks m (not_first k ks m h off))
 
-pub some_same : {A : Type 0} {x y : A} → Some x ≡ Some y → x ≡ y
-some_same h = cc
-
 -- one list after another
 pub behind : {A : Type 0} (a b : List A) (n : ℕ) → slice_get (a ++ b) (length a + n) ≡ slice_get b n
 behind [] b n = let e : 0 + n ≡ n = omega arith in ap (slice_get b) e
-behind (x ∷ a) b n = let e : suc (length a) + n ≡ suc (length a + n) = omega arith in ap (slice_get (x ∷ a ++ b)) e ∙ behind a b n
+behind (x ∷ a) b n = let e : suc (length a) + n ≡ suc (length a + n) = omega arith in
+    ap (slice_get (x ∷ a ++ b)) e ∙ behind a b n
 
 pub before : {A : Type 0} (a b : List A) (n : ℕ) (x : A) → slice_get a n ≡ Some x → slice_get (a ++ b) n ≡ Some x
 before [] b n x h = let no : None ≡ Some x = h in cc
@@ -64,7 +64,7 @@ pub at_rank : {A : Type 0} (p : A → Bool) (xs : List A) (c : ℕ) (x : A) → 
     → slice_get (filter p xs) (length (filter p (take c xs))) ≡ Some x
 at_rank p [] c x h t = let no : None ≡ Some x = h in cc
 at_rank p (y ∷ xs) zero x h t =
-    let same : y ≡ x = some_same h in
+    let same : y ≡ x = same_Some _ _ h in
     ap (λ b. slice_get (cond b (y ∷ filter p xs) (filter p xs)) 0) (ap p same ∙ t) ∙ h
 at_rank p (y ∷ xs) (suc c) x h t = rank_by (p y) y (filter p xs) (filter p (take c xs)) x (at_rank p xs c x h t)
 
@@ -74,7 +74,7 @@ module _ (typed : Typed) (roots : List Member) where
       → slice_get (ctors_from typed roots base ms) (sum_by (count_of typed.ctors) (take d ms) + n) ≡ Some k
   at_ctors base d [] m n k h at = let no : None ≡ Some m = h in cc
   at_ctors base zero (r ∷ rs) m n k h at =
-      let same : r ≡ m = some_same h in
+      let same : r ≡ m = same_Some _ _ h in
       let e : 0 + n ≡ n = omega arith in
       let f : base + 0 ≡ base = omega arith in
       ap (slice_get (ctors_from typed roots base (r ∷ rs))) e
@@ -82,10 +82,13 @@ module _ (typed : Typed) (roots : List Member) where
       (ap (λ z. slice_get (ctors_at typed roots base z) n) same
       ∙ ap (λ b. slice_get (ctors_at typed roots b m) n) (sym f) ∙ at)
   at_ctors base (suc d) (r ∷ rs) m n k h at =
-      let sums : sum_by (count_of typed.ctors) (r ∷ take d rs) ≡ count_of typed.ctors r + sum_by (count_of typed.ctors) (take d rs) = sum_by-cons (count_of typed.ctors) r (take d rs) in
-      let many : length (ctors_at typed roots base r) ≡ count_of typed.ctors r = length-map (ctors_of typed.ctors (decl_number r.of)) (ctor_at typed roots base r.args) in
+      let sums : sum_by (count_of typed.ctors) (r ∷ take d rs) ≡ count_of typed.ctors r + sum_by (count_of typed.ctors)
+      (take d rs) = sum_by-cons (count_of typed.ctors) r (take d rs) in
+      let many : length (ctors_at typed roots base r) ≡ count_of typed.ctors r =
+      length-map (ctors_of typed.ctors (decl_number r.of)) (ctor_at typed roots base r.args) in
       let S = sum_by (count_of typed.ctors) (take d rs) in
-      let e : sum_by (count_of typed.ctors) (r ∷ take d rs) + n ≡ length (ctors_at typed roots base r) + (S + n) = omega arith in
+      let e : sum_by (count_of typed.ctors) (r ∷ take d rs) + n ≡ length (ctors_at typed roots base r) + (S + n) =
+      omega arith in
       let f : base + suc d ≡ suc base + d = omega arith in
       ap (slice_get (ctors_from typed roots base (r ∷ rs))) e
       ∙ behind (ctors_at typed roots base r) (ctors_from typed roots (suc base) rs) (S + n)
@@ -116,11 +119,14 @@ pub data_found : (all : List TypedCtor) (first d : ℕ) (is : List Instance) (i 
     (first + sum_by (count_of all) (map (stands_for Root) (take d is))) i)
 data_found all first d [] i h = let no : None ≡ Some i = h in cc
 data_found all first zero (j ∷ is) i h =
-    let same : j ≡ i = some_same h in
+    let same : j ≡ i = same_Some _ _ h in
     let e : first ≡ first + 0 = omega arith in
     ap (λ z. Some (datatype all first z)) same ∙ ap (λ n. Some (datatype all n i)) e
 data_found all first (suc d) (j ∷ is) i h =
     let c = count_of all (stands_for Root j) in
-    let sums : sum_by (count_of all) (map (stands_for Root) (j ∷ take d is)) ≡ c + sum_by (count_of all) (map (stands_for Root) (take d is)) = sum_by-cons (count_of all) (stands_for Root j) (map (stands_for Root) (take d is)) in
-    let e : (first + c) + sum_by (count_of all) (map (stands_for Root) (take d is)) ≡ first + sum_by (count_of all) (map (stands_for Root) (j ∷ take d is)) = omega arith in
+    let sums : sum_by (count_of all) (map (stands_for Root) (j ∷ take d is)) ≡ c + sum_by (count_of all)
+    (map (stands_for Root) (take d is)) =
+    sum_by-cons (count_of all) (stands_for Root j) (map (stands_for Root) (take d is)) in
+    let e : (first + c) + sum_by (count_of all) (map (stands_for Root) (take d is)) ≡ first + sum_by (count_of all)
+    (map (stands_for Root) (j ∷ take d is)) = omega arith in
     data_found all (first + c) d is i h ∙ ap (λ n. Some (datatype all n i)) e

@@ -131,7 +131,8 @@ module _ (texts : List (List ℕ)) where
       stand_expr (of_local i is) st h = h
       stand_expr {e} (of_call {es = es} {mid = mid} f sorts is t) st h =
           let parts = below e (kind.Call f sorts es) (joined (map offsets es)) is
-          (ap in_kind (sym (kind.rolls-Call f sorts es)) ∙ fold-roll-TypedKind Os Os Os kind_offsets case_offsets expr_offsets (layer.Call f sorts es)) st in
+          (ap in_kind (sym (kind.rolls-Call f sorts es))
+          ∙ fold-roll-TypedKind Os Os Os kind_offsets case_offsets expr_offsets (layer.Call f sorts es)) st in
           let at : Stands texts (e.source, e.at) = here e st in
           if_more (descends typed set own f (callee typed set own f sorts)) (check_at typed set own check.Measure e)
           (after_pre typed set own e f mid)
@@ -151,29 +152,34 @@ module _ (texts : List (List ℕ)) where
           expr_offsets (layer.Unary op a)) st) h
       stand_expr {e} (of_binary {a = a} {b = b} {new = new} op is ta tb) st h =
           let parts = below e (kind.Binary op a b) (offsets a ++ offsets b) is
-          (ap in_kind (sym (kind.rolls-Binary op a b)) ∙ fold-roll-TypedKind Os Os Os kind_offsets case_offsets expr_offsets (layer.Binary op a b)) st in
+          (ap in_kind (sym (kind.rolls-Binary op a b))
+          ∙ fold-roll-TypedKind Os Os Os kind_offsets case_offsets expr_offsets (layer.Binary op a b)) st in
           if_more (is_division op) (check_at typed set own check.Division e) new
           (stand_expr tb (right (offsets a) (offsets b) parts) (stand_expr ta (left (offsets a) (offsets b) parts) h))
           (here e st)
       stand_expr {e} (of_if {c = c} {a = a} {b = b} is tc ta tb) st h =
           let parts = below e (kind.If c a b) (offsets c ++ offsets a ++ offsets b) is
-          (ap in_kind (sym (kind.rolls-If c a b)) ∙ fold-roll-TypedKind Os Os Os kind_offsets case_offsets expr_offsets (layer.If c a b)) st in
+          (ap in_kind (sym (kind.rolls-If c a b))
+          ∙ fold-roll-TypedKind Os Os Os kind_offsets case_offsets expr_offsets (layer.If c a b)) st in
           let front = left (offsets c ++ offsets a) (offsets b) parts in
           stand_expr tb (right (offsets c ++ offsets a) (offsets b) parts)
           (stand_expr ta (right (offsets c) (offsets a) front) (stand_expr tc (left (offsets c) (offsets a) front) h))
       stand_expr {e} (of_match {m = m} {cs = cs} {mid = mid} covered is tm cov t) st h =
           let parts = below e (kind.Match m cs) (offsets m ++ joined (map in_case cs)) is
-          (ap in_kind (sym (kind.rolls-Match m cs)) ∙ fold-roll-TypedKind Os Os Os kind_offsets case_offsets expr_offsets (layer.Match m cs)) st in
+          (ap in_kind (sym (kind.rolls-Match m cs))
+          ∙ fold-roll-TypedKind Os Os Os kind_offsets case_offsets expr_offsets (layer.Match m cs)) st in
           stand_cases t (right (offsets m) (joined (map in_case cs)) parts)
           (if_more (not covered) (check_at typed set own check.Match e) mid
           (stand_expr tm (left (offsets m) (joined (map in_case cs)) parts) h) (here e st))
       stand_expr {e} (of_val {bound = a} {rest = b} is ta tb) st h =
           let parts = below e (kind.Val a b) (offsets a ++ offsets b) is
-          (ap in_kind (sym (kind.rolls-Val a b)) ∙ fold-roll-TypedKind Os Os Os kind_offsets case_offsets expr_offsets (layer.Val a b)) st in
+          (ap in_kind (sym (kind.rolls-Val a b))
+          ∙ fold-roll-TypedKind Os Os Os kind_offsets case_offsets expr_offsets (layer.Val a b)) st in
           stand_expr tb (right (offsets a) (offsets b) parts) (stand_expr ta (left (offsets a) (offsets b) parts) h)
       stand_expr {e} (of_assert {c = a} {rest = b} {mid = mid} is ta tb) st h =
           let parts = below e (kind.Assert a b) (offsets a ++ offsets b) is
-          (ap in_kind (sym (kind.rolls-Assert a b)) ∙ fold-roll-TypedKind Os Os Os kind_offsets case_offsets expr_offsets (layer.Assert a b)) st in
+          (ap in_kind (sym (kind.rolls-Assert a b))
+          ∙ fold-roll-TypedKind Os Os Os kind_offsets case_offsets expr_offsets (layer.Assert a b)) st in
           stand_expr tb (right (offsets a) (offsets b) parts)
           (added mid (check_at typed set own check.Assertion e) (stand_expr ta (left (offsets a) (offsets b) parts) h)
           (here e st))

@@ -54,11 +54,15 @@ module _ (ms : List Member) (args : List GenericSort) (own : (s : GenericSort) �
       (subst (HasTypes ms) (sym (put_param args i)) (at_param i (slice_get args i) refl))
   at_level (layer.Root r ns) h =
       let ss = map (λ (z : N). z.0) ns in
-      let mentioned : Within ms args (root_at r ss ∷ types_of ss) = subst (Within ms args) (ap types_in (sort.rolls-Root r ss) ∙ types_root r ss) h in
+      let mentioned : Within ms args (root_at r ss ∷ types_of ss) =
+      subst (Within ms args) (ap types_in (sort.rolls-Root r ss) ∙ types_root r ss) h in
       subst (λ (z : GenericSort). HasTypes ms (put args z)) (sym (sort.rolls-Root r ss))
-      (λ m c. by r ns mentioned m (subst (λ (l : List Member). Contains l m) (ap types_in (put_root args r ss) ∙ types_root r (map (put args) ss)) c))
+      (λ m c. by r ns mentioned m
+      (subst (λ (l : List Member). Contains l m)
+      (ap types_in (put_root args r ss) ∙ types_root r (map (put args) ss)) c))
     where
-      by : (r : ℕ) (ns : List N) → Within ms args (root_at r (map (λ (z : N). z.0) ns) ∷ types_of (map (λ (z : N). z.0) ns)) → (m : Member)
+      by : (r : ℕ) (ns : List N)
+          → Within ms args (root_at r (map (λ (z : N). z.0) ns) ∷ types_of (map (λ (z : N). z.0) ns)) → (m : Member)
           → Contains (root_at r (map (put args) (map (λ (z : N). z.0) ns)) ∷ types_of
           (map (put args) (map (λ (z : N). z.0) ns))) m → Contains ms m
       by r ns h m c =

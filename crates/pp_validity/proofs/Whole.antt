@@ -1,11 +1,12 @@
--- All functions of a program: their checks are the listing, each site carries what it should, and they stand where the typed
--- functions have them.
+-- All functions of a program: their checks are the listing, each site carries what it should, and they stand where the
+-- typed functions have them.
 use Rattle.std.proofs.Common.{◌≡◌, ⊎_elim, inl, inr, ◌⊎◌, ℕ, zero, suc, ◌+◌, Bool, true, false, ◌&&◌, List, [], ◌∷◌}
 use Rattle.std.proofs.Common.{◌++◌, map, length, refl, sym, ap, ◌∙◌, subst, arith, append_assoc, length-append}
 use Rattle.std.specs.Prelude.{Some, None, slice_get, Contains}
 use Rattle.std.specs.List.{list_all}
 use Rattle.std.proofs.lemmas.List.{append-nil, map-append}
 use Rattle.std.proofs.lemmas.List.Elements.{Contains-push, Contains-append_left, Contains-append_right}
+use Rattle.std.proofs.lemmas.Option.{same_Some}
 use Rattle.pp_instances.proofs.Parts.{map_push}
 use Rattle.pp_instances.specs.Uses.{text_mentions}
 use Rattle.pp_instances.specs.declared.member.Instance.{Instance}
@@ -33,7 +34,7 @@ use Rattle.pp_validity.proofs.BareDefs.{def_bare, functions_push}
 use Rattle.pp_validity.proofs.Defs.{def_lists, def_sorted}
 use Rattle.pp_validity.proofs.Known.{HasTypes, IsKnown}
 use Rattle.pp_validity.proofs.Listed.{numbers_from, offset_of}
-use Rattle.pp_validity.proofs.Placed.{before, some_same}
+use Rattle.pp_validity.proofs.Placed.{before}
 use Rattle.pp_validity.proofs.Within.{Within}
 
 abbrev pub place_of : Check → Place
@@ -59,7 +60,7 @@ at_last (y ∷ xs) x = at_last xs x
 -- the last of a list, or one before it
 pub last_or_before : {A : Type 0} (xs : List A) (x : A) (n : ℕ) (y : A) → slice_get (xs ++ x ∷ []) n ≡ Some y
     → (slice_get xs n ≡ Some y) ⊎ ((n ≡ length xs) × (x ≡ y))
-last_or_before [] x zero y h = inr (refl, some_same h)
+last_or_before [] x zero y h = inr (refl, same_Some _ _ h)
 last_or_before [] x (suc n) y h = let no_more : None ≡ Some y = h in cc
 last_or_before (z ∷ xs) x zero y h = inl h
 last_or_before (z ∷ xs) x (suc n) y h =
@@ -92,7 +93,9 @@ module _ (typed : Typed) (set : Setting) (texts : List (List ℕ)) (all : List F
   listing_push : (n : ℕ) (fs : List Function) (f : Function)
       → listing_from set.types all n (fs ++ f ∷ []) ≡ listing_from set.types all n fs ++ map (entry_of (n + length fs))
       (function_checks set.types all f)
-  listing_push n [] f = let e : n ≡ n + 0 = omega arith in append-nil (map (entry_of n) (function_checks set.types all f)) ∙ ap (λ k. map (entry_of k) (function_checks set.types all f)) e
+  listing_push n [] f = let e : n ≡ n + 0 = omega arith in
+      append-nil (map (entry_of n) (function_checks set.types all f))
+      ∙ ap (λ k. map (entry_of k) (function_checks set.types all f)) e
   listing_push n (g ∷ fs) f =
       let e : suc n + length fs ≡ n + suc (length fs) = omega arith in
       let here = map (entry_of n) (function_checks set.types all g) in
@@ -114,7 +117,8 @@ module _ (typed : Typed) (set : Setting) (texts : List (List ℕ)) (all : List F
   places_push [] (j ∷ is) f i even = absurd (omega (arith, even))
   places_push (g ∷ fs) [] f i even = absurd (omega (arith, even))
   places_push (g ∷ fs) (j ∷ is) f i even =
-      ap (λ l. places_at g j ++ l) (places_push fs is f i (omega arith)) ∙ sym (append_assoc (places_at g j) (At fs is) (places_at f i))
+      ap (λ l. places_at g j ++ l) (places_push fs is f i (omega arith))
+      ∙ sym (append_assoc (places_at g j) (At fs is) (places_at f i))
 
   -- what is known of an instance of a function
   pub record IsReady (ms : List Member) (own : Frame) (d : TypedDef) : Type 0 where
@@ -137,7 +141,8 @@ module _ (typed : Typed) (set : Setting) (texts : List (List ℕ)) (all : List F
       (ready : (own : Frame) (i : Instance) (d : TypedDef) → slice_get instances own.number ≡ Some i
       → slice_get typed.defs i.number ≡ Some d → own.args ≡ i.args
       → own.measured ≡ is_written d.measure → IsReady ms own d)
-      (declared : (n : ℕ) (i : Instance) → slice_get instances n ≡ Some i → (d : TypedDef) × (slice_get typed.defs i.number ≡ Some d)) where
+      (declared : (n : ℕ) (i : Instance) → slice_get instances n ≡ Some i → (d : TypedDef)
+      × (slice_get typed.defs i.number ≡ Some d)) where
     -- all functions are
     pub whole : {is : List Instance} {fs : List Function} {start cs : List CheckAt} (rest : List Instance)
         → TranslatesDefs typed set texts is fs start cs → start ≡ [] → instances ≡ is ++ rest
@@ -158,16 +163,19 @@ module _ (typed : Typed) (set : Setting) (texts : List (List ℕ)) (all : List F
     whole rest (more_defs {is = is} {i = i} {fs = fs} {f = f} {mid = mid} {new = new} own d number args measured at_def
         earlier t) none at =
         let w = whole (i ∷ rest) earlier none (at ∙ append_assoc is (i ∷ []) rest) in
-        let here = ap (slice_get instances) (number ∙ w.even) ∙ ap (λ l. slice_get l (length is)) at ∙ before (is ++ i ∷ []) rest (length is) i (at_last is i) in
+        let here = ap (slice_get instances) (number ∙ w.even) ∙ ap (λ l. slice_get l (length is)) at
+        ∙ before (is ++ i ∷ []) rest (length is) i (at_last is i) in
         let r = ready own i d here at_def args measured in
         let lists = def_lists typed set ms all known own r.grouped r.types d t r.def r.within in
         let checks = function_checks set.types all f in
         let zero_more : 0 + length mid ≡ length mid = omega arith in
         let zero_fs : own.number ≡ 0 + length fs = omega arith in
         let long = ap (λ l. checks_from texts 0 l) lists.is ∙ checks_append 0 mid lists.more in
-        let behind_is : checks_from texts (0 + length mid) lists.more ≡ checks_from texts (length mid) lists.more = ap (λ k. checks_from texts k lists.more) zero_more in
+        let behind_is : checks_from texts (0 + length mid) lists.more ≡ checks_from texts (length mid) lists.more =
+        ap (λ k. checks_from texts k lists.more) zero_more in
         record {
-          even = (let p = length-append fs (f ∷ []) in let q = length-append is (i ∷ []) in let e = w.even in omega arith);
+          even = (let p = length-append fs (f ∷ []) in let q = length-append is (i ∷ []) in let e = w.even in
+              omega arith);
           entries = ap (map entry) long ∙ map-append entry (checks_from texts 0 mid)
               (checks_from texts (0 + length mid) lists.more)
               ∙ ap (λ l. l ++ map entry (checks_from texts (0 + length mid) lists.more)) w.entries

@@ -7,25 +7,36 @@ use Rattle.pp_eval.proofs.Steps.{call_at, case_passed, case_stop, case_taken, te
 use Rattle.pp_eval.proofs.+eval.Goals as goal
 
 pub invocation::call-enter-requires : goal.invocation::call-enter-requires
-invocation::call-enter-requires t c =
-    (omega (arith, call_falls c.args.callees.functions.now c.args.callee.0 c.in-Some.f.now c.args.callees.fuel (sym c.in-Some.ensures) (omega arith)), tt)
+invocation::call-enter-requires t c = (
+  omega (
+    arith,
+    call_falls c.args.callees.functions.now c.args.callee.0 c.in-Some.f.now c.args.callees.fuel
+        (sym c.in-Some.ensures) (omega arith),
+  ),
+  tt,
+)
 
 pub invocation::call-returns-in-Some : goal.invocation::call-returns-in-Some
 invocation::call-returns-in-Some t c =
     tells_along c.enter.result _ _
-    (call_at c.args.callees.ctors.now c.args.callees.functions.now c.args.callees.fuel c.args.frame.now c.args.callee c.args.pre c.args.measure c.args.args c.in-Some.f.now (omega arith) (sym c.in-Some.ensures)) c.enter.ensures
+    (call_at c.args.callees.ctors.now c.args.callees.functions.now c.args.callees.fuel c.args.frame.now c.args.callee
+    c.args.pre c.args.measure c.args.args c.in-Some.f.now (omega arith) (sym c.in-Some.ensures)) c.enter.ensures
 
 pub eval::value_of-values_of-requires : goal.eval::value_of-values_of-requires
-eval::value_of-values_of-requires t c = (omega (arith, args_of_construct _ _ _ c.in-Construct.is, ap most_size c.as_slice-in-Construct.ensures), tt)
+eval::value_of-values_of-requires t c =
+    (omega (arith, args_of_construct _ _ _ c.in-Construct.is, ap most_size c.as_slice-in-Construct.ensures), tt)
 
 pub eval::value_of-values_of-requires-in-Call : goal.eval::value_of-values_of-requires-in-Call
-eval::value_of-values_of-requires-in-Call t c = (omega (arith, args_of_call _ _ _ _ _ c.in-Call.is, ap most_size c.as_slice-in-Call.ensures), tt)
+eval::value_of-values_of-requires-in-Call t c =
+    (omega (arith, args_of_call _ _ _ _ _ c.in-Call.is, ap most_size c.as_slice-in-Call.ensures), tt)
 
 pub eval::value_of-case_of-requires : goal.eval::value_of-case_of-requires
-eval::value_of-case_of-requires t c = (omega (arith, cases_of_match _ _ _ _ c.in-Match.is, ap most_case c.as_slice-in-Match.ensures), tt)
+eval::value_of-case_of-requires t c =
+    (omega (arith, cases_of_match _ _ _ _ c.in-Match.is, ap most_case c.as_slice-in-Match.ensures), tt)
 
 pub eval::values_of-value_of-requires : goal.eval::values_of-value_of-requires
-eval::values_of-value_of-requires t c = (omega (arith, item_size c.args.exprs.now c.loop-e.e-index c.e-item.result c.loop-e-test.true c.e-item.is), tt)
+eval::values_of-value_of-requires t c =
+    (omega (arith, item_size c.args.exprs.now c.loop-e.e-index c.e-item.result c.loop-e-test.true c.e-item.is), tt)
 
 pub eval::values_of-returns-in_err-v-clause-told : goal.eval::values_of-returns-in_err-v-clause-told
 eval::values_of-returns-in_err-v-clause-told t c =
@@ -44,7 +55,14 @@ eval::values_of-loop-e-preserved t c = (
 )
 
 pub eval::case_of-attempt-requires : goal.eval::case_of-attempt-requires
-eval::case_of-attempt-requires t c = (omega (arith, item_case c.args.cases.now c.loop-case.case-index c.case-item.result c.loop-case-test.true c.case-item.is), tt)
+eval::case_of-attempt-requires t c = (
+  omega (
+    arith,
+    item_case c.args.cases.now c.loop-case.case-index c.case-item.result c.loop-case-test.true
+        c.case-item.is,
+  ),
+  tt,
+)
 
 pub eval::attempt-holds-requires : goal.eval::attempt-holds-requires
 eval::attempt-holds-requires t c = (omega (arith, (case_deeper c.args.case.now).0), tt)

@@ -14,4 +14,6 @@ pub loop-i-preserved : goal.loop-i-preserved
 loop-i-preserved c =
     let i = c.loop-i.i in
     let gs = c.args.gs.now in
-    subst (λ l. Marked c.args.front l c.in_ok-all.all) (sym (take_more gs i 0 c.loop-i-test.true)) (marked_then c.args.front c.loop-i.all c.in_ok-all.all (take i gs) (get_or gs i 0) c.loop-i.invariant c.in_ok-all.ensures)
+    subst (λ l. Marked c.args.front l c.in_ok-all.all) (sym (take_more gs i 0 c.loop-i-test.true))
+    (marked_then c.args.front c.loop-i.all c.in_ok-all.all (take i gs) (get_or gs i 0) c.loop-i.invariant
+    c.in_ok-all.ensures)

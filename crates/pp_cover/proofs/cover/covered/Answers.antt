@@ -3,7 +3,9 @@ use Rattle.pp_cover.specs.declared.constraint.Constraint.{Constraint}
 use Rattle.pp_cover.specs.declared.matrix.Matrix.{Matrix}
 use Rattle.pp_cover.specs.Matrix.{any_mentions}
 use Rattle.pp_cover.specs.Split.{parts}
-use Rattle.pp_cover.proofs.Coverage.{Invariant, column_inside, empty_covered, sorts_in_range, split_smaller, invariant_without_covered, none_left_covers, invariant_after_split, invariant_starts, uncovered_refutes}
+use Rattle.pp_cover.proofs.Coverage.{Invariant, column_inside, empty_covered, sorts_in_range, split_smaller}
+use Rattle.pp_cover.proofs.Coverage.{invariant_without_covered, none_left_covers, invariant_after_split}
+use Rattle.pp_cover.proofs.Coverage.{invariant_starts, uncovered_refutes}
 use Rattle.pp_cover.proofs.Weight.{score, score_dropped}
 use Rattle.pp_cover.proofs.cover.covered.Goals.{in-Covered, in-Split+in_ok-split-in-Split+in_ok-append-in-Split}
 use Rattle.pp_cover.proofs.cover.covered.Goals as goal

@@ -5,4 +5,5 @@ use Rattle.pp_numbers.proofs.ctors.add_ctors.Given as goal
 
 abbrev pub invariant-loop-c : goal.invariant-loop-c
 invariant-loop-c l =
-    l.ctors ≡ l.initial.ctors ++ map (ctor_at l.typed l.numbers.roots l.d l.of.args) (ctors_of (take l.c-index l.c-items) l.r)
+    l.ctors ≡ l.initial.ctors
+    ++ map (ctor_at l.typed l.numbers.roots l.d l.of.args) (ctors_of (take l.c-index l.c-items) l.r)

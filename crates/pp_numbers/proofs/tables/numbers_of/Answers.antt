@@ -27,8 +27,11 @@ returns-clause-tables c =
       few_roots = omega arith;
       few_functions = omega arith;
       firsts = subst (λ (l : List Member). FirstsAre all l c.in_ok-firsts.firsts) c.as_slice-2.ensures.all
-          (subst (λ (l : List TypedCtor). FirstsAre l c.as_slice-2.result.now c.in_ok-firsts.firsts) c.as_slice.ensures h);
+          (subst (λ (l : List TypedCtor). FirstsAre l c.as_slice-2.result.now c.in_ok-firsts.firsts) c.as_slice.ensures
+          h);
       ranks = subst (λ (l : List TypedCtor). AreRanks l c.in_ok-ranks.ranks) c.as_slice-3.ensures k;
-      few_firsts = λ d. subst (λ (l : List Member). first_of all l d < 2147483648) (sym are) (c.requires.room.few_firsts d);
-      few_ranks = λ d q at. (let most = count_at_most all d q.root in let few = c.requires.room.few_ctors q.root in omega arith);
+      few_firsts = λ d. subst (λ (l : List Member). first_of all l d < 2147483648) (sym are)
+          (c.requires.room.few_firsts d);
+      few_ranks = λ d q at. (let most = count_at_most all d q.root in let few = c.requires.room.few_ctors q.root in
+          omega arith);
     }

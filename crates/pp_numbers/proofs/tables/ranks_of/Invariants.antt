@@ -10,5 +10,6 @@ invariant-loop-c l = record {
   counts : length l.counts ≡ l.roots;
   counted : (r : ℕ) → r < l.roots → slice_get l.counts r ≡ Some (length (ctors_of (take l.c-index l.ctors) r));
   ranks : length l.ranks ≡ l.c-index;
-  ranked : (c : ℕ) (k : TypedCtor) → c < l.c-index → slice_get l.ctors c ≡ Some k → slice_get l.ranks c ≡ Some (rank_of l.ctors c k);
+  ranked : (c : ℕ) (k : TypedCtor) → c < l.c-index → slice_get l.ctors c ≡ Some k
+      → slice_get l.ranks c ≡ Some (rank_of l.ctors c k);
 }

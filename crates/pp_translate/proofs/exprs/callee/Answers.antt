@@ -6,4 +6,5 @@ use Rattle.pp_translate.proofs.exprs.callee.Goals as goal
 pub returns : goal.returns
 returns c =
     let functions = c.args.target.now.numbers.functions in
-    c.function.ensures ∙ ap (function_number functions c.args.f) (c.in_ok-puts.ensures ∙ ap (λ args. map (put args) c.args.sorts.now) c.as_slice.ensures)
+    c.function.ensures ∙ ap (function_number functions c.args.f)
+    (c.in_ok-puts.ensures ∙ ap (λ args. map (put args) c.args.sorts.now) c.as_slice.ensures)

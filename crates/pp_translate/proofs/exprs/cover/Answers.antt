@@ -17,6 +17,9 @@ returns c =
     let args = c.as_slice-args.ensures in
     let whole = c.in_ok-whole.ensures ∙ ap (λ l. sort_at roots l of) args in
     let sort = c.in_ok-sort.ensures ∙ ap (λ l. put l of) args in
-    let patterns = c.as_slice.ensures ∙ c.in_ok-patterns.ensures ∙ ap (λ s. unguarded_at typed roots s c.args.cases.now) sort in
-    subst (λ (s : Sort). IfOk c.is_covered.result (λ b. IsTrue b ↔ Covers ctors s (unguarded_at typed roots (put c.args.own.now.args of) c.args.cases.now))) whole
-    (subst (λ (ps : List Pattern). IfOk c.is_covered.result (λ b. IsTrue b ↔ Covers ctors c.in_ok-whole.whole ps)) patterns c.is_covered.ensures)
+    let patterns = c.as_slice.ensures ∙ c.in_ok-patterns.ensures
+    ∙ ap (λ s. unguarded_at typed roots s c.args.cases.now) sort in
+    subst (λ (s : Sort). IfOk c.is_covered.result
+    (λ b. IsTrue b ↔ Covers ctors s (unguarded_at typed roots (put c.args.own.now.args of) c.args.cases.now))) whole
+    (subst (λ (ps : List Pattern). IfOk c.is_covered.result (λ b. IsTrue b ↔ Covers ctors c.in_ok-whole.whole ps))
+    patterns c.is_covered.ensures)

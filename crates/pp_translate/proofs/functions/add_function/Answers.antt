@@ -14,6 +14,8 @@ pub returns-in_ok-push-in-Some-clause-made : goal.returns-in_ok-push-in-Some-cla
 returns-in_ok-push-in-Some-clause-made c = λ is start h.
     let at = ap (λ l. slice_get l c.args.i.now.number) (sym c.as_slice.ensures) ∙ sym c.in-Some.ensures in
     let own = c.in_ok-own-in-Some.ensures in
-    subst (λ (l : List Function). TranslatesDefs c.args.typed.now (setting c.args.target.now) c.args.texts.now (is ++ c.args.i.now ∷ []) l start c.function_of.new.checks)
+    subst (λ (l : List Function). TranslatesDefs c.args.typed.now (setting c.args.target.now) c.args.texts.now
+    (is ++ c.args.i.now ∷ []) l start c.function_of.new.checks)
     (sym c.in_ok-push-in-Some.ensures.ok)
-    (more_defs c.in_ok-own-in-Some.own c.in-Some.d.now (own.number ∙ c.len.ensures) own.args own.measured at h c.in_ok-function-in-Some.ensures)
+    (more_defs c.in_ok-own-in-Some.own c.in-Some.d.now (own.number ∙ c.len.ensures) own.args own.measured at h
+    c.in_ok-function-in-Some.ensures)

@@ -8,5 +8,6 @@ none = record { function = 0; kind = Precondition; source = 0; at = 0 }
 
 pub loop-i-preserved : goal.loop-i-preserved
 loop-i-preserved c =
-    checks_turn c.args.texts.now c.args.checks.now c.loop-i.i none c.loop-i.done c.push.new.self c.place_at.result c.loop-i-test.true c.loop-i.invariant
+    checks_turn c.args.texts.now c.args.checks.now c.loop-i.i none c.loop-i.done c.push.new.self c.place_at.result
+    c.loop-i-test.true c.loop-i.invariant
     c.place_at.ensures c.in_ok-push.ensures.ok

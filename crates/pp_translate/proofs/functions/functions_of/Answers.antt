@@ -8,6 +8,7 @@ pub loop-i-init : goal.loop-i-init
 loop-i-init c =
     let none = ap length c.new-functions.ensures in
     record {
-      made = subst (λ (l : List Function). TranslatesDefs c.args.typed.now (setting c.args.target.now) c.args.texts.now [] l c.args.checks.now c.args.checks.now) (sym c.new-functions.ensures) no_defs;
+      made = subst (λ (l : List Function). TranslatesDefs c.args.typed.now (setting c.args.target.now) c.args.texts.now
+          [] l c.args.checks.now c.args.checks.now) (sym c.new-functions.ensures) no_defs;
       few = omega arith;
     }

@@ -32,7 +32,11 @@ returns-in-Some c =
     let at = sym c.in-Some.ensures in
     let rank = read_at c.args.self.now.ranks c.args.c (rank_of all c.args.c k) (c.requires.held.ranks c.args.c k at) in
     let read = ap (λ l. slice_index_or l c.args.c 0) c.as_slice.ensures in
-    let first : c.first-first.result ≡ first_of all roots (place_of roots (root_at k.root c.args.args)) = c.first-first.ensures.value ∙ ap (λ d. first_of all roots d.0) c.datatype.ensures.value in
-    let both : c.first-first.result + slice_index_or c.as_slice.result.now c.args.c 0 ≡ first_of all roots (place_of roots (root_at k.root c.args.args)) + rank_of all c.args.c k = ap (λ n. n + slice_index_or c.as_slice.result.now c.args.c 0) first ∙ ap (λ n. first_of all roots (place_of roots (root_at k.root c.args.args)) + n) (read ∙ rank) in
+    let first : c.first-first.result ≡ first_of all roots (place_of roots (root_at k.root c.args.args)) =
+    c.first-first.ensures.value ∙ ap (λ d. first_of all roots d.0) c.datatype.ensures.value in
+    let both : c.first-first.result + slice_index_or c.as_slice.result.now c.args.c 0 ≡ first_of all roots
+    (place_of roots (root_at k.root c.args.args)) + rank_of all c.args.c k =
+    ap (λ n. n + slice_index_or c.as_slice.result.now c.args.c 0) first
+    ∙ ap (λ n. first_of all roots (place_of roots (root_at k.root c.args.args)) + n) (read ∙ rank) in
     let made : ℕ → CtorId = λ n. record { 0 = n } in
     ap made both ∙ sym (ap (ctor_if all roots c.args.c c.args.args) at)

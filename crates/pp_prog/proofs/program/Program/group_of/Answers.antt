@@ -8,7 +8,8 @@ use Rattle.pp_prog.specs.declared.program.Program.{Program}
 use Rattle.pp_prog.specs.Calls.{call_table, function_calls}
 use Rattle.pp_prog.proofs.program.Program.group_of.Goals as goal
 
-group_at : (p : Program) (f : ℕ) → f < length p.functions → IsGroup (call_table p.functions) f (slice_index_or p.groups f 0)
+group_at : (p : Program) (f : ℕ) → f < length p.functions
+    → IsGroup (call_table p.functions) f (slice_index_or p.groups f 0)
 group_at p f lt =
     let calls = call_table p.functions in
     let all = groups_sure calls p.groups p.grouped in
@@ -19,11 +20,13 @@ pub returns-clause-least : goal.returns-clause-least
 returns-clause-least c =
     let p = c.args.self.now in
     let f = c.args.f.0 in
-    subst (λ (l : List ℕ). IsGroup (call_table p.functions) f (slice_index_or l f 0)) (sym c.as_slice.ensures) (group_at p f c.requires)
+    subst (λ (l : List ℕ). IsGroup (call_table p.functions) f (slice_index_or l f 0)) (sym c.as_slice.ensures)
+    (group_at p f c.requires)
 
 pub returns-clause-shared : goal.returns-clause-shared
 returns-clause-shared c g n is =
     let p = c.args.self.now in
     let f = c.args.f.0 in
-    let own = subst (λ (l : List ℕ). IsGroup (call_table p.functions) f (slice_index_or l f 0)) (sym c.as_slice.ensures) (group_at p f c.requires) in
+    let own = subst (λ (l : List ℕ). IsGroup (call_table p.functions) f (slice_index_or l f 0)) (sym c.as_slice.ensures)
+    (group_at p f c.requires) in
     one_number (call_table p.functions) g f n (slice_index_or c.as_slice.result.now f 0) is own
