@@ -1,5 +1,7 @@
 -- How high the arguments of functions can be.
-use Rattle.std.proofs.Common.{◌≡◌, ◌↔◌, ◌<◌, ◌≤◌, ◌+◌, ◌^◌, ℕ, zero, suc, Bool, true, List, [], ◌∷◌, ◌++◌, map, length, Option, Some, None, slice_get, refl, sym, ap, ◌∙◌, subst, arith, inl, inr, Contains, append_assoc}
+use Rattle.std.proofs.Common.{◌≡◌, ◌↔◌, ◌<◌, ◌≤◌, ◌+◌, ◌^◌, ℕ, zero, suc, Bool, true, List, [], ◌∷◌, ◌++◌, map, length}
+use Rattle.std.proofs.Common.{Option, Some, None, slice_get, refl, sym, ap, ◌∙◌, subst, arith, inl, inr, Contains}
+use Rattle.std.proofs.Common.{append_assoc}
 use Rattle.std.proofs.Math.Bridge.{le_prop}
 use Rattle.std.proofs.Math.Logic.{∥∥₁_elim}
 use Rattle.std.specs.List.{list_all}
@@ -20,7 +22,8 @@ use Rattle.pp_prog.proofs.Sure.{is_valid}
 use Rattle.pp_checks.specs.Closed.{AreUpTo, IsNesting, IsTallest}
 use Rattle.pp_checks.specs.Plan.{AreOf, IsTallestOf}
 use Rattle.pp_checks.specs.Tables.{field_table, greater, height_in, one_higher, tallest_in, tallest_params}
-use Rattle.pp_checks.proofs.Tallest.{at_head, both, either_in, fields_size, high, left_in, low, lt_true, none_low, right_in, word_height}
+use Rattle.pp_checks.proofs.Tallest.{at_head, both, either_in, fields_size, high, left_in, low, lt_true, none_low}
+use Rattle.pp_checks.proofs.Tallest.{right_in, word_height}
 
 -- the greatest height of a value of one sort, or none
 abbrev IsHigh : List Ctor → Sort → Option ℕ → Type 0

@@ -1,5 +1,6 @@
 -- Cones, ranks and the depths of call trees.
-use Rattle.std.proofs.Common.{◌≡◌, ◌⊎◌, ◌<◌, ◌≤◌, ℕ, zero, suc, Bool, List, length, refl, sym, subst, arith, inl, inr, ⊎_elim, Contains, IsTrue}
+use Rattle.std.proofs.Common.{◌≡◌, ◌⊎◌, ◌<◌, ◌≤◌, ℕ, zero, suc, Bool, List, length, refl, sym, subst, arith, inl, inr}
+use Rattle.std.proofs.Common.{⊎_elim, Contains, IsTrue}
 use Rattle.std.proofs.lemmas.Bool.Decides.{eqb_tells, leb_tells}
 use Rattle.std.proofs.lemmas.Option.{slice_get_cases}
 use Rattle.pp_graph.specs.Reaches.{Reaches, SameGroup, by_call, by_more, called_by, calls_of}

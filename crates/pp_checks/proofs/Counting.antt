@@ -1,5 +1,6 @@
 -- How many numbers below a bound are in a set.
-use Rattle.std.proofs.Common.{◌≡◌, ◌↔◌, ◌⊎◌, ◌<◌, ◌≤◌, ◌+◌, ◌≢◌, nat_eq, true, false, ℕ, zero, suc, refl, sym, subst, arith, inl, inr}
+use Rattle.std.proofs.Common.{◌≡◌, ◌↔◌, ◌⊎◌, ◌<◌, ◌≤◌, ◌+◌, ◌≢◌, nat_eq, true, false, ℕ, zero, suc, refl, sym, subst}
+use Rattle.std.proofs.Common.{arith, inl, inr}
 use Rattle.std.proofs.lemmas.Bool.Decides.{eqb_tells}
 use Rattle.pp_checks.specs.Ranks.{CountBelow}
 

@@ -1,5 +1,7 @@
 -- What an argument is for a plain descent, and the checks that are marked.
-use Rattle.std.proofs.Common.{◌≡◌, ◌↔◌, ◌⊎◌, ◌<◌, ◌≤◌, ◌+◌, ℕ, zero, suc, Bool, true, false, List, [], ◌∷◌, map, length, replicate, get_or, Some, slice_get, refl, sym, ap, ◌∙◌, subst, arith, inl, inr, ⊎_elim, Contains, IsTrue}
+use Rattle.std.proofs.Common.{◌≡◌, ◌↔◌, ◌⊎◌, ◌<◌, ◌≤◌, ◌+◌, ℕ, zero, suc, Bool, true, false, List, [], ◌∷◌, map, length}
+use Rattle.std.proofs.Common.{replicate, get_or, Some, slice_get, refl, sym, ap, ◌∙◌, subst, arith, inl, inr, ⊎_elim}
+use Rattle.std.proofs.Common.{Contains, IsTrue}
 use Rattle.std.proofs.lemmas.Bool.Decides.{eqb_tells}
 use Rattle.std.proofs.lemmas.List.{length-replicate}
 use Rattle.std.proofs.lemmas.Option.{slice_get-map, slice_get_within}
@@ -12,7 +14,8 @@ use Rattle.pp_prog.specs.declared.expr.Expr.TheViews.{out-Expr}
 use Rattle.pp_prog.specs.declared.expr.Function.{Function}
 use Rattle.pp_graph.specs.Rows.{marked}
 use Rattle.pp_checks.specs.Tables.{IsPlainBelow, MarkPlain}
-use Rattle.pp_checks.specs.Plain.{IsPlain, plain_descents, CaseDescents, Seen, case_step, descents_in_case, goes_down, inside_at, is_inside, seen, seen_step, variable_in, variable_of}
+use Rattle.pp_checks.specs.Plain.{IsPlain, plain_descents, CaseDescents, Seen, case_step, descents_in_case, goes_down}
+use Rattle.pp_checks.specs.Plain.{inside_at, is_inside, seen, seen_step, variable_in, variable_of}
 
 module _ (functions : List Function) (p : ℕ) where
   variable_of_layer : (y : layer.Expr-F Expr Case) → (seen_step functions p (map-Expr Expr Case Seen CaseDescents

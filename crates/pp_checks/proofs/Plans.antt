@@ -1,5 +1,7 @@
 -- Plans of programs: what their tables tell, and what follows from the rules of measures.
-use Rattle.std.proofs.Common.{◌≡◌, ◌↔◌, ◌⊎◌, ◌<◌, ◌≤◌, ◌+◌, ℕ, zero, suc, nat_le, Bool, true, false, List, ◌++◌, length, Option, Some, None, slice_get, refl, sym, ap, ◌∙◌, subst, arith, inl, inr, ⊎_elim, Contains, IsTrue}
+use Rattle.std.proofs.Common.{◌≡◌, ◌↔◌, ◌⊎◌, ◌<◌, ◌≤◌, ◌+◌, ℕ, zero, suc, nat_le, Bool, true, false, List, ◌++◌, length}
+use Rattle.std.proofs.Common.{Option, Some, None, slice_get, refl, sym, ap, ◌∙◌, subst, arith, inl, inr, ⊎_elim}
+use Rattle.std.proofs.Common.{Contains, IsTrue}
 use Rattle.std.proofs.lemmas.Bool.Decides.{eqb_tells, nat_tests}
 use Rattle.std.proofs.lemmas.List.{length-map}
 use Rattle.std.proofs.lemmas.Option.{slice_get_cases, slice_get_within}
@@ -13,9 +15,8 @@ use Rattle.pp_prog.specs.Calls.{OneGroup, call_table, calls, function_calls, pos
 use Rattle.pp_prog.specs.Valid.{has_measure, is_written}
 use Rattle.pp_prog.specs.Cone.{InCone}
 use Rattle.pp_prog.specs.Sorts.{param_sorts}
-use Rattle.pp_checks.specs.declared.tables.Plan.{Plan}
 use Rattle.pp_checks.specs.Closed.{AreUpTo, Closed, IsNesting, IsTallest, Nests}
-use Rattle.pp_checks.specs.Plan.{AreOf, IsPlanOf, IsTallestOf}
+use Rattle.pp_checks.specs.Plan.{AreOf, IsPlanOf, IsTallestOf, Plan}
 use Rattle.pp_checks.specs.Ranks.{CountBelow, IsRank}
 use Rattle.pp_checks.specs.Rules.{IsFirstMeasured, contract_calls, measure_sorts}
 use Rattle.pp_checks.specs.Tables.{IsRankIn, is_at_most}

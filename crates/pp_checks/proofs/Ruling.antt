@@ -1,5 +1,6 @@
 -- The rules of measures: calls into a group, the shape of a measure, and the first function that breaks a rule.
-use Rattle.std.proofs.Common.{◌≡◌, ◌↔◌, ◌<◌, ◌≤◌, ◌+◌, ℕ, true, false, List, [], ◌∷◌, map, take, length, get_or, Some, slice_get, refl, sym, ap, ◌∙◌, subst, arith, inl, inr, ⊎_elim, Contains, IsTrue}
+use Rattle.std.proofs.Common.{◌≡◌, ◌↔◌, ◌<◌, ◌≤◌, ◌+◌, ℕ, true, false, List, [], ◌∷◌, map, take, length, get_or, Some}
+use Rattle.std.proofs.Common.{slice_get, refl, sym, ap, ◌∙◌, subst, arith, inl, inr, ⊎_elim, Contains, IsTrue}
 use Rattle.std.specs.List.{list_all}
 use Rattle.std.proofs.lemmas.Bool.Decides.{eqb_tells}
 use Rattle.std.proofs.lemmas.List.{length-map, take_all, take_more}
@@ -17,7 +18,8 @@ use Rattle.pp_prog.specs.Sorts.{param_sorts}
 use Rattle.pp_prog.specs.Valid.{has_measure, is_written}
 use Rattle.pp_checks.specs.declared.fault.PlanFault.{PlanFault}
 use Rattle.pp_checks.specs.declared.fault.PlanFault.TheVariants.{NoMeasure, MeasureShape, ContractCycle, Memory}
-use Rattle.pp_checks.specs.Rules.{CallsInto, HasShape, IsFault, IsFaultAt, IsFirstMeasured, KeepRules, KeepsRules, is_component, measure_sorts}
+use Rattle.pp_checks.specs.Rules.{CallsInto, HasShape, IsFault, IsFaultAt, IsFirstMeasured, KeepRules, KeepsRules}
+use Rattle.pp_checks.specs.Rules.{is_component, measure_sorts}
 
 -- none of one more
 pub none_more : (P : ℕ → Type 0) (xs : List ℕ) (i : ℕ) → i < length xs → (P (get_or xs i 0) → ⊥) → ((h : ℕ)

@@ -9,8 +9,7 @@ use Rattle.pp_prog.specs.Calls.{OneGroup, function_calls}
 use Rattle.pp_prog.specs.ExprSorts.{sort_of}
 use Rattle.pp_prog.specs.Results.{result_of}
 use Rattle.pp_prog.specs.Valid.{is_written}
-use Rattle.pp_checks.specs.declared.tables.Plan.{Plan}
-use Rattle.pp_checks.specs.Plan.{IsPlanOf}
+use Rattle.pp_checks.specs.Plan.{IsPlanOf, Plan}
 use Rattle.pp_checks.specs.Ranks.{IsRank}
 use Rattle.pp_checks.specs.Rules.{contract_calls, measure_sorts}
 

@@ -2,9 +2,8 @@
 use Rattle.std.specs.Prelude.{◌↔◌, ◌<◌, ℕ, Bool, IsTrue, length}
 use Rattle.pp_prog.specs.declared.program.Program.{Program}
 use Rattle.pp_prog.specs.Calls.{call_table}
-use Rattle.pp_checks.specs.declared.tables.Plan.{Plan}
 use Rattle.pp_checks.specs.Closed.{Nests}
-use Rattle.pp_checks.specs.Plan.{IsPlanOf}
+use Rattle.pp_checks.specs.Plan.{IsPlanOf, Plan}
 
 -- whether the call tree of f is at most n deep, in each program of which it is the plan
 abbrev pub TellsNested : Plan → ℕ → ℕ → Bool → Type 0

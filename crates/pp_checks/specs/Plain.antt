@@ -1,7 +1,8 @@
 -- Plain descents: measure checks whose first component goes down to a variable that is bound inside a parameter. A
 -- variable is inside a parameter where it is bound below a constructor pattern of a match on the parameter, or on a
 -- variable inside it. What a pattern binds at its top, or a `val`, isn't inside. Source: own.
-use Rattle.std.specs.Prelude.{◌≡◌, ℕ, Bool, true, false, ◌||◌, nat_eq, nat_lt, if◌then◌else◌, List, [], ◌∷◌, ◌++◌, map, Option, Some, None, length, replicate, slice_get, Contains}
+use Rattle.std.specs.Prelude.{◌≡◌, ℕ, Bool, true, false, ◌||◌, nat_eq, nat_lt, if◌then◌else◌, List, [], ◌∷◌, ◌++◌, map}
+use Rattle.std.specs.Prelude.{Option, Some, None, length, replicate, slice_get, Contains}
 use Rattle.pp_graph.specs.Rows.{marked}
 use Rattle.pp_prog.specs.declared.expr.Case.{Case}
 use Rattle.pp_prog.specs.declared.expr.Expr.{Expr}

@@ -1,17 +1,32 @@
--- What it means that a plan is that of a program. Callers take it as one word: `plan` gives it, and the calls on a
--- plan say their meanings under it. Source: own.
+-- What contracts see of a plan, and what it means that it is that of a program. Callers take it as one word: `plan`
+-- gives it, and the calls on a plan say their meanings under it. Source: own.
 use Rattle.std.specs.Prelude.{◌≡◌, ◌↔◌, ◌<◌, ℕ, Bool, List, Option, Some, length, slice_get, IsTrue}
 use Rattle.pp_graph.specs.Rows.{Tells, marked}
+use Rattle.pp_prog.specs.declared.check.Check.{Check}
 use Rattle.pp_prog.specs.declared.expr.Function.{Function}
 use Rattle.pp_prog.specs.declared.program.Program.{Program}
 use Rattle.pp_prog.specs.Calls.{call_table}
 use Rattle.pp_prog.specs.Sorts.{param_sorts}
-use Rattle.pp_checks.specs.declared.tables.Plan.{Plan}
 use Rattle.pp_prog.specs.Cone.{InCone}
 use Rattle.pp_checks.specs.Closed.{Closed, IsNesting, IsTallest}
 use Rattle.pp_checks.specs.Plain.{IsPlain}
 use Rattle.pp_checks.specs.Ranks.{IsRank}
 use Rattle.pp_checks.specs.Rules.{KeepRules}
+
+-- a plan, as its tables
+pub record Plan : Type 0 where
+  -- the checks of the program, in the order of their numbers
+  pub checks : List Check
+  -- at each function's place, a mark for each function, whether it is reached
+  pub rows : List (List Bool)
+  -- at each function's place, how many functions its cone has
+  pub ranks : List ℕ
+  -- at each function's place, the depth of its call tree, or none where it has no end
+  pub nestings : List (Option ℕ)
+  -- at each function's place, the greatest height of an argument, or none where there is no greatest
+  pub tallest : List (Option ℕ)
+  -- at each check's place, whether it is a plain descent
+  pub plains : List Bool
 
 -- the table has at each function's place what the relation says of it
 pub record AreOf {A : Type 0} (Is : ℕ → A → Type 0) (n : ℕ) (table : List A) : Type 0 where

@@ -1,5 +1,6 @@
 -- What holds of the tables of a plan while they are made. Source: own.
-use Rattle.std.specs.Prelude.{◌≡◌, ◌↔◌, ◌⊎◌, ◌<◌, ◌≤◌, ◌+◌, max, ℕ, zero, suc, nat_lt, nat_le, Bool, true, false, List, [], ◌∷◌, ◌++◌, Option, Some, None, length, slice_get, Contains, IsTrue}
+use Rattle.std.specs.Prelude.{◌≡◌, ◌↔◌, ◌⊎◌, ◌<◌, ◌≤◌, ◌+◌, max, ℕ, zero, suc, nat_lt, nat_le, Bool, true, false, List}
+use Rattle.std.specs.Prelude.{[], ◌∷◌, ◌++◌, Option, Some, None, length, slice_get, Contains, IsTrue}
 use Rattle.pp_graph.specs.Rows.{bit, marked}
 use Rattle.pp_prog.specs.declared.expr.Function.{Function}
 use Rattle.pp_prog.specs.declared.sort.Sort.{Sort}

@@ -1,6 +1,7 @@
 //! Laws of plans, as contracts of functions that do nothing.
 
-ghost use Rattle.pp_checks.specs.Laws.{CallLowerRanks, ContractsCallLowerRanks, MeasuresShareSorts, ReadSorts, ShareRanks};
+ghost use Rattle.pp_checks.specs.Laws.{CallLowerRanks, ContractsCallLowerRanks, MeasuresShareSorts, ReadSorts};
+ghost use Rattle.pp_checks.specs.Laws.{ShareRanks};
 
 /// Functions of one group have one rank. It does nothing: its contract is the law.
 pub fn share_ranks()

@@ -7,7 +7,6 @@
 //! depth of call trees, and `specs/Laws` what follows from that. `specs/Tables` has what holds while a plan is made.
 #![tactic(auto)]
 
-mod calls;
 mod fault;
 mod heights;
 mod laws;
@@ -29,6 +28,3 @@ pub use planning::plan;
 pub use sorts::{field_sort, fields_of, operator_sort};
 pub use std::alloc::AllocError as NoMemory;
 pub use tables::Plan;
-
-#[cfg(test)]
-mod tests;

@@ -1,9 +1,11 @@
 //! Plain descents.
 
-ghost use Rattle.std.specs.Prelude.{◌≡◌, ◌↔◌, ◌⊎◌, ◌<◌, ◌++◌, ◌∷◌, [], ℕ, Contains, IfOk, OnOk, IsTrue, false, length, map, replicate, slice_get};
+ghost use Rattle.std.specs.Prelude.{◌≡◌, ◌↔◌, ◌⊎◌, ◌<◌, ◌++◌, ◌∷◌, [], ℕ, Contains, IfOk, OnOk, IsTrue, false, length};
+ghost use Rattle.std.specs.Prelude.{map, replicate, slice_get};
 ghost use Rattle.pp_graph.specs.Rows.{marked};
 ghost use Rattle.pp_checks.specs.Plain as spec;
-ghost use Rattle.pp_checks.specs.Plain.{IsPlain, descents, descents_in_case, marks_of, plain_descents, pre_descents, seen};
+ghost use Rattle.pp_checks.specs.Plain.{IsPlain, descents, descents_in_case, marks_of, plain_descents, pre_descents};
+ghost use Rattle.pp_checks.specs.Plain.{seen};
 
 use crate::NoMemory;
 use crate::ranks::is_marked;
@@ -126,7 +128,8 @@ fn add_descents(
     marks: &mut Items<bool>,
     found: &mut Items<u32>,
 ) -> Result<(), NoMemory>
-    ensures found { OnOk result (found.new ≡ found.old ++ descents d.entry.functions.now d.entry.param e.now marks.old) }
+    ensures found { OnOk result (found.new ≡ found.old
+        ++ descents d.entry.functions.now d.entry.param e.now marks.old) }
     ensures kept { OnOk result (marks.new ≡ marks.old) }
 {
     match e {
@@ -192,7 +195,8 @@ fn add_under(
     marks: &mut Items<bool>,
     found: &mut Items<u32>,
 ) -> Result<(), NoMemory>
-    ensures found { OnOk result (found.new ≡ found.old ++ descents d.entry.functions.now d.entry.param e.now (marks.old ++ false ∷ [])) }
+    ensures found { OnOk result (found.new ≡ found.old
+        ++ descents d.entry.functions.now d.entry.param e.now (marks.old ++ false ∷ [])) }
     ensures kept { OnOk result (marks.new ≡ marks.old) }
 {
     marks.push(false)?;
@@ -209,7 +213,8 @@ fn add_all(
     marks: &mut Items<bool>,
     found: &mut Items<u32>,
 ) -> Result<(), NoMemory>
-    ensures found { OnOk result (found.new ≡ found.old ++ spec.in_all (map (seen d.entry.functions.now d.entry.param) es.now) marks.old) }
+    ensures found { OnOk result (found.new ≡ found.old
+        ++ spec.in_all (map (seen d.entry.functions.now d.entry.param) es.now) marks.old) }
     ensures kept { OnOk result (marks.new ≡ marks.old) }
 {
     for e in es {
@@ -227,7 +232,8 @@ fn add_cases(
     marks: &mut Items<bool>,
     found: &mut Items<u32>,
 ) -> Result<(), NoMemory>
-    ensures found { OnOk result (found.new ≡ found.old ++ spec.in_cases (map (descents_in_case d.entry.functions.now d.entry.param) cases.now) live marks.old) }
+    ensures found { OnOk result (found.new ≡ found.old
+        ++ spec.in_cases (map (descents_in_case d.entry.functions.now d.entry.param) cases.now) live marks.old) }
     ensures kept { OnOk result (marks.new ≡ marks.old) }
 {
     for c in cases {
@@ -245,7 +251,8 @@ fn add_case(
     marks: &mut Items<bool>,
     found: &mut Items<u32>,
 ) -> Result<(), NoMemory>
-    ensures found { OnOk result (found.new ≡ found.old ++ descents_in_case d.entry.functions.now d.entry.param c.now live marks.old) }
+    ensures found { OnOk result (found.new ≡ found.old
+        ++ descents_in_case d.entry.functions.now d.entry.param c.now live marks.old) }
     ensures kept { OnOk result (marks.new ≡ marks.old) }
 {
     let depth = marks.len();
@@ -264,7 +271,8 @@ fn add_guard(
     marks: &mut Items<bool>,
     found: &mut Items<u32>,
 ) -> Result<(), NoMemory>
-    ensures found { OnOk result (found.new ≡ found.old ++ pre_descents d.entry.functions.now d.entry.param e.now marks.old) }
+    ensures found { OnOk result (found.new ≡ found.old
+        ++ pre_descents d.entry.functions.now d.entry.param e.now marks.old) }
     ensures kept { OnOk result (marks.new ≡ marks.old) }
 {
     match e {
@@ -347,7 +355,8 @@ pub(crate) fn plains_of(
 /// Marks these checks, as far as they have a place.
 fn mark_all(plains: &mut Items<bool>, checks: &[u32])
     ensures size { length plains.new ≡ length plains.old }
-    ensures marks { (c : ℕ) → c < length plains.old → IsTrue (marked plains.new c) ↔ (IsTrue (marked plains.old c) ⊎ Contains checks.now c) }
+    ensures marks { (c : ℕ) → c < length plains.old
+        → IsTrue (marked plains.new c) ↔ (IsTrue (marked plains.old c) ⊎ Contains checks.now c) }
 {
     for c in checks {
         mark(plains, *c as usize);
@@ -356,7 +365,8 @@ fn mark_all(plains: &mut Items<bool>, checks: &[u32])
 
 fn mark(plains: &mut Items<bool>, c: usize)
     ensures size { length plains.new ≡ length plains.old }
-    ensures marks { (k : ℕ) → k < length plains.old → IsTrue (marked plains.new k) ↔ (IsTrue (marked plains.old k) ⊎ (c ≡ k)) }
+    ensures marks { (k : ℕ) → k < length plains.old
+        → IsTrue (marked plains.new k) ↔ (IsTrue (marked plains.old k) ⊎ (c ≡ k)) }
 {
     if c < plains.len() {
         plains.set(c, true);

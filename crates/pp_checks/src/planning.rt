@@ -5,7 +5,6 @@ ghost use Rattle.pp_prog.specs.Calls.{call_table};
 ghost use Rattle.pp_checks.specs.Plan.{IsPlanOf};
 ghost use Rattle.pp_checks.specs.Rules.{IsFault, KeepRules};
 
-use crate::calls::call_table;
 use crate::heights::tallest_of;
 use crate::nesting::nestings_of;
 use crate::plain::plains_of;
@@ -13,13 +12,14 @@ use crate::ranks::{ranks_of, rows_of};
 use crate::rules::check_rules;
 use crate::{NoMemory, Plan, PlanFault};
 use pp_list::Items;
-use pp_prog::Program;
+use pp_prog::{Program, call_table};
 use std::alloc::Global;
 
 /// The plan of the program, where each function keeps the rules of measures. Else the fault names the first function
 /// that breaks one, in program order, and the first rule that it breaks.
 pub fn plan(alloc: Global, program: &Program) -> Result<Plan, PlanFault>
-    ensures { MatchResult result (λ p. IsPlanOf p program.now) (λ e. IsFault program.now.types program.now.functions e) }
+    ensures { MatchResult result (λ p. IsPlanOf p program.now)
+        (λ e. IsFault program.now.types program.now.functions e) }
 {
     let calls = call_table(alloc, program.functions.as_slice())?;
     match check_rules(alloc, program, calls.as_slice()) {

@@ -5,13 +5,13 @@ ghost use Rattle.std.specs.List.{list_all};
 ghost use Rattle.pp_graph.specs.Reaches.{calls_of};
 ghost use Rattle.pp_prog.specs.Calls.{OneGroup, call_table, function_calls};
 ghost use Rattle.pp_prog.specs.Valid as valid;
-ghost use Rattle.pp_checks.specs.Rules.{CallsInto, HasContractCycle, HasShape, IsFault, IsFaultAt, IsFirstMeasured, KeepRules, KeepsRules, LacksMeasure, is_component, measure_sorts};
+ghost use Rattle.pp_checks.specs.Rules.{CallsInto, HasContractCycle, HasShape, IsFault, IsFaultAt, IsFirstMeasured};
+ghost use Rattle.pp_checks.specs.Rules.{KeepRules, KeepsRules, LacksMeasure, is_component, measure_sorts};
 
-use crate::calls::contract_calls;
 use crate::sorts::measure_sorts;
 use crate::{NoMemory, PlanFault};
 use pp_list::Items;
-use pp_prog::{Function, FunctionId, Program, Sort, Sorts};
+use pp_prog::{Function, FunctionId, Program, Sort, Sorts, contract_calls};
 use std::alloc::Global;
 
 /// The most components that a measure may have.
@@ -25,9 +25,10 @@ pub(crate) fn check_rules(
     calls: &[Items<u32>],
 ) -> Result<(), PlanFault>
     requires { calls.now ≡ call_table program.now.functions }
-    ensures { MatchResult result (λ _. KeepRules program.now.types program.now.functions (length program.now.functions)) (λ e. IsFault program.now.types program.now.functions e) }
+    ensures { MatchResult result (λ _. KeepRules program.now.types program.now.functions (length program.now.functions))
+        (λ e. IsFault program.now.types program.now.functions e) }
 {
-    for f in 0..program.functions() {
+    for f in 0..program.function_count() {
         let f = FunctionId(f);
         match check_function(alloc, program, f, program.function(f), called_by(calls, f)) {
             Ok(()) => {}
@@ -54,7 +55,8 @@ fn check_function(
 ) -> Result<(), PlanFault>
     requires here { slice_get program.now.functions f.0 ≡ Some function.now }
     requires calls { called.now ≡ function_calls function.now }
-    ensures { MatchResult result (λ _. KeepsRules program.now.types program.now.functions f.0 function.now) (λ e. IsFaultAt program.now.types program.now.functions e f.0 function.now) }
+    ensures { MatchResult result (λ _. KeepsRules program.now.types program.now.functions f.0 function.now)
+        (λ e. IsFaultAt program.now.types program.now.functions e f.0 function.now) }
 {
     if lacks_measure(program, f, function, called) {
         return Err(PlanFault::NoMeasure(f));
@@ -112,7 +114,7 @@ fn is_alike(program: &Program, f: FunctionId, g: FunctionId) -> bool
     requires { f.0 < length program.now.functions }
     ensures { IsTrue result ↔ OneGroup program.now.functions f.0 g.0 }
 {
-    g.0 < program.functions() && program.group_of(f) == program.group_of(g)
+    g.0 < program.function_count() && program.group_of(f) == program.group_of(g)
 }
 
 /// Whether the measure of f is of the right form.
@@ -142,7 +144,8 @@ fn sorts_of(alloc: Global, program: &Program, f: &Function) -> Result<Sorts, NoM
 
 /// Whether these sorts may be those of a measure, where the first measure of the group has these.
 fn is_shape(sorts: &[Sort], first: &[Sort]) -> bool
-    ensures { IsTrue result ↔ ((sorts.now ≡ first.now) × (length sorts.now ≤ 4) × IsTrue (list_all is_component sorts.now)) }
+    ensures { IsTrue result ↔ ((sorts.now ≡ first.now) × (length sorts.now ≤ 4)
+        × IsTrue (list_all is_component sorts.now)) }
 {
     if !are_same(sorts, first) || sorts.len() > MOST_COMPONENTS {
         return false;

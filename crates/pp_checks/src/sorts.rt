@@ -205,7 +205,8 @@ fn first_sort(
     s: Sort,
     scope: &mut Sorts,
 ) -> Result<Sort, NoMemory>
-    ensures told { IfOk result (λ r. r ≡ spec.first_result types.now functions.now (map (spec.body types.now functions.now) cases.now) s scope.old) }
+    ensures told { IfOk result (λ r. r ≡ spec.first_result types.now functions.now
+        (map (spec.body types.now functions.now) cases.now) s scope.old) }
     ensures kept { OnOk result (scope.new ≡ scope.old) }
 {
     match at(cases, 0) {

@@ -9,10 +9,12 @@ ghost use Rattle.pp_checks.specs.Tables.{is_at_most};
 use crate::ranks::{is_in_cone, is_marked};
 use pp_list::{Items, at};
 use pp_prog::{Check, CheckId, Checks, FunctionId};
+use std::marker::Model;
 
 /// The plan of a program: its checks, the order of the induction, which functions are closed, and which checks are
 /// plain descents. That a plan is that of a program is one word, `IsPlanOf`, under which each call says its meaning.
-/// For a number that the program doesn't have a call answers 0 or false; but each number is in its own cone.
+/// For a number that the program doesn't have a call answers 0 or false; but each number is in its own cone. Contracts
+/// see it as its tables.
 #[derive(Drop)]
 pub struct Plan {
     pub(crate) checks: Checks,
@@ -21,6 +23,21 @@ pub struct Plan {
     pub(crate) nestings: Items<Option<u32>>,
     pub(crate) tallest: Items<Option<u64>>,
     pub(crate) plains: Items<bool>,
+}
+
+impl Model for Plan {
+    ghost use Rattle.pp_checks.specs.Plan as spec;
+
+    ghost Value = { spec.Plan };
+
+    ghost view = { λ p. record {
+      checks = p.checks;
+      rows = p.rows;
+      ranks = p.ranks;
+      nestings = p.nestings;
+      tallest = p.tallest;
+      plains = p.plains;
+    } };
 }
 
 impl Plan {

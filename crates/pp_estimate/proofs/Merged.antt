@@ -22,7 +22,8 @@ add_at_length [] i n = refl
 add_at_length (x ∷ xs) zero n = refl
 add_at_length (x ∷ xs) (suc i) n = ap suc (add_at_length xs i n)
 
-each_add : (xs ys : List ℕ) (i n : ℕ) → length xs ≡ length ys → plus_each xs (add_at ys i n) ≡ add_at (plus_each xs ys) i n
+each_add : (xs ys : List ℕ) (i n : ℕ) → length xs ≡ length ys
+    → plus_each xs (add_at ys i n) ≡ add_at (plus_each xs ys) i n
 each_add [] ys i n e = refl
 each_add (x ∷ xs) [] i n e = absurd (omega arith)
 each_add (x ∷ xs) (y ∷ ys) zero n e =
@@ -46,22 +47,46 @@ long_one n m c (called g) l = record { looks = l.looks; calls = add_at_length c.
 long_one n m c compare l = record { looks = l.looks; calls = l.calls }
 
 module _ (n m : ℕ) where
-  together_one : (c d : Counts) (e : Event) → Long n m c → Long n m d → together c (count_one d e) ≡ count_one (together c d) e
+  together_one : (c d : Counts) (e : Event) → Long n m c → Long n m d
+      → together c (count_one d e) ≡ count_one (together c d) e
   together_one c d (work w) p q =
       let same : plus c.work (plus d.work w) ≡ plus (plus c.work d.work) w = omega arith in
-      ap (λ (k : ℕ). record { work = k; looks = plus_each c.looks d.looks; calls = plus_each c.calls d.calls; compares = plus c.compares d.compares }) same
+      ap (λ (k : ℕ). record {
+        work = k;
+        looks = plus_each c.looks d.looks;
+        calls = plus_each c.calls d.calls;
+        compares = plus c.compares d.compares;
+      }) same
   together_one c d (look e) p q =
-      ap (λ (l : List ℕ). record { work = plus c.work d.work; looks = l; calls = plus_each c.calls d.calls; compares = plus c.compares d.compares }) (each_add c.looks d.looks e.0 1 (p.looks ∙ sym q.looks))
+      ap (λ (l : List ℕ). record {
+        work = plus c.work d.work;
+        looks = l;
+        calls = plus_each c.calls d.calls;
+        compares = plus c.compares d.compares;
+      }) (each_add c.looks d.looks e.0 1 (p.looks ∙ sym q.looks))
   together_one c d (called g) p q =
-      ap (λ (l : List ℕ). record { work = plus c.work d.work; looks = plus_each c.looks d.looks; calls = l; compares = plus c.compares d.compares }) (each_add c.calls d.calls g.0 1 (p.calls ∙ sym q.calls))
+      ap (λ (l : List ℕ). record {
+        work = plus c.work d.work;
+        looks = plus_each c.looks d.looks;
+        calls = l;
+        compares = plus c.compares d.compares;
+      }) (each_add c.calls d.calls g.0 1 (p.calls ∙ sym q.calls))
   together_one c d compare p q =
       let same : plus c.compares (plus d.compares 1) ≡ plus (plus c.compares d.compares) 1 = omega arith in
-      ap (λ (k : ℕ). record { work = plus c.work d.work; looks = plus_each c.looks d.looks; calls = plus_each c.calls d.calls; compares = k }) same
+      ap (λ (k : ℕ). record {
+        work = plus c.work d.work;
+        looks = plus_each c.looks d.looks;
+        calls = plus_each c.calls
+            d.calls;
+        compares = k;
+      }) same
 
-  together_all : (c d : Counts) (es : List Event) → Long n m c → Long n m d → together c (counted d es) ≡ counted (together c d) es
+  together_all : (c d : Counts) (es : List Event) → Long n m c → Long n m d
+      → together c (counted d es) ≡ counted (together c d) es
   together_all c d [] p q = refl
   together_all c d (e ∷ es) p q =
-      together_all c (count_one d e) es p (long_one n m d e q) ∙ ap (λ (k : Counts). counted k es) (together_one c d e p q)
+      together_all c (count_one d e) es p (long_one n m d e q)
+      ∙ ap (λ (k : Counts). counted k es) (together_one c d e p q)
 
   long_none : Long n m (uncounted n m)
   long_none = record { looks = length-replicate n 0; calls = length-replicate m 0 }
@@ -82,10 +107,17 @@ module _ (n m : ℕ) where
   fits_none = record {
     looks = length-replicate n 0;
     calls = length-replicate m 0;
-    low = ap (λ (l : List ℕ). record { work = 0; looks = l; calls = plus_each (replicate m 0) (replicate m 0); compares = 0 }) (none_each n) ∙ ap (λ (l : List ℕ). record { work = 0; looks = replicate n 0; calls = l; compares = 0 }) (none_each m);
+    low = ap (λ (l : List ℕ). record {
+      work = 0;
+      looks = l;
+      calls = plus_each (replicate m 0) (replicate m 0);
+      compares = 0;
+    }) (none_each n) ∙ ap (λ (l : List ℕ). record
+        { work = 0; looks = replicate n 0; calls = l; compares = 0 }) (none_each m);
   }
 
-  each_low : (xs zs : List ℕ) (i k : ℕ) → plus_each xs zs ≡ xs → length xs ≡ length zs → plus_each (add_at xs i k) zs ≡ add_at (plus_each xs zs) i k
+  each_low : (xs zs : List ℕ) (i k : ℕ) → plus_each xs zs ≡ xs → length xs ≡ length zs
+      → plus_each (add_at xs i k) zs ≡ add_at (plus_each xs zs) i k
   each_low [] zs i k e l = refl
   each_low (x ∷ xs) [] i k e l = absurd (omega arith)
   each_low (x ∷ xs) (z ∷ zs) zero k e l =
@@ -98,27 +130,63 @@ module _ (n m : ℕ) where
     looks = f.looks;
     calls = f.calls;
     low = let same : plus (plus c.work w) 0 ≡ plus c.work w = omega arith in
-        ap (λ (k : ℕ). record { work = k; looks = plus_each c.looks (replicate n 0); calls = plus_each c.calls (replicate m 0); compares = plus c.compares 0 }) same
-        ∙ ap (λ (k : Counts). record { work = plus c.work w; looks = k.looks; calls = k.calls; compares = k.compares }) f.low;
+        ap (λ (k : ℕ). record {
+          work = k;
+          looks = plus_each c.looks (replicate n 0);
+          calls = plus_each c.calls
+              (replicate m 0);
+          compares = plus c.compares 0;
+        }) same
+        ∙ ap (λ (k : Counts). record { work = plus c.work w; looks = k.looks; calls = k.calls; compares = k.compares })
+        f.low;
   }
   fits_one c (look d) f = record {
     looks = add_at_length c.looks d.0 1 ∙ f.looks;
     calls = f.calls;
-    low = ap (λ (l : List ℕ). record { work = plus c.work 0; looks = l; calls = plus_each c.calls (replicate m 0); compares = plus c.compares 0 }) (each_low c.looks (replicate n 0) d.0 1 (ap (λ (k : Counts). k.looks) f.low) (f.looks ∙ sym (length-replicate n 0)))
-        ∙ ap (λ (k : Counts). record { work = k.work; looks = add_at k.looks d.0 1; calls = k.calls; compares = k.compares }) f.low;
+    low = ap (λ (l : List ℕ). record {
+      work = plus c.work 0;
+      looks = l;
+      calls = plus_each c.calls (replicate m 0);
+      compares = plus c.compares 0;
+    }) (each_low c.looks (replicate n 0) d.0 1 (ap (λ (k : Counts). k.looks) f.low)
+        (f.looks ∙ sym (length-replicate n 0)))
+        ∙ ap (λ (k : Counts). record {
+          work = k.work;
+          looks = add_at k.looks d.0 1;
+          calls = k.calls;
+          compares = k.compares;
+        }) f.low;
   }
   fits_one c (called g) f = record {
     looks = f.looks;
     calls = add_at_length c.calls g.0 1 ∙ f.calls;
-    low = ap (λ (l : List ℕ). record { work = plus c.work 0; looks = plus_each c.looks (replicate n 0); calls = l; compares = plus c.compares 0 }) (each_low c.calls (replicate m 0) g.0 1 (ap (λ (k : Counts). k.calls) f.low) (f.calls ∙ sym (length-replicate m 0)))
-        ∙ ap (λ (k : Counts). record { work = k.work; looks = k.looks; calls = add_at k.calls g.0 1; compares = k.compares }) f.low;
+    low = ap (λ (l : List ℕ). record {
+      work = plus c.work 0;
+      looks = plus_each c.looks (replicate n 0);
+      calls = l;
+      compares = plus c.compares 0;
+    }) (each_low c.calls (replicate m 0) g.0 1 (ap (λ (k : Counts). k.calls) f.low)
+        (f.calls ∙ sym (length-replicate m 0)))
+        ∙ ap (λ (k : Counts). record {
+          work = k.work;
+          looks = k.looks;
+          calls = add_at k.calls g.0 1;
+          compares = k.compares;
+        }) f.low;
   }
   fits_one c compare f = record {
     looks = f.looks;
     calls = f.calls;
     low = let same : plus (plus c.compares 1) 0 ≡ plus c.compares 1 = omega arith in
-        ap (λ (k : ℕ). record { work = plus c.work 0; looks = plus_each c.looks (replicate n 0); calls = plus_each c.calls (replicate m 0); compares = k }) same
-        ∙ ap (λ (k : Counts). record { work = k.work; looks = k.looks; calls = k.calls; compares = plus c.compares 1 }) f.low;
+        ap (λ (k : ℕ). record {
+          work = plus c.work 0;
+          looks = plus_each c.looks (replicate n 0);
+          calls = plus_each
+              c.calls (replicate m 0);
+          compares = k;
+        }) same
+        ∙ ap (λ (k : Counts). record { work = k.work; looks = k.looks; calls = k.calls; compares = plus c.compares 1 })
+        f.low;
   }
 
   pub fits_all : (c : Counts) (es : List Event) → Fits n m c → Fits n m (counted c es)

@@ -1,5 +1,6 @@
 -- How deep calls and expressions go: the measure of the visit.
-use Rattle.std.proofs.Common.{◌≡◌, ℕ, zero, suc, ◌+◌, ◌*◌, ◌<◌, ◌≤◌, max, Bool, true, false, List, [], ◌∷◌, length, get_or, Option, Some, None, arith, ap}
+use Rattle.std.proofs.Common.{◌≡◌, ℕ, zero, suc, ◌+◌, ◌*◌, ◌<◌, ◌≤◌, max, Bool, true, false, List, [], ◌∷◌, length}
+use Rattle.std.proofs.Common.{get_or, Option, Some, None, arith, ap}
 use Rattle.std.specs.Prelude.{slice_get}
 use Rattle.pp_prog.specs.declared.expr.Case.{Case, size-Case}
 use Rattle.pp_prog.specs.declared.expr.Expr.{Expr, size-Expr}
@@ -46,9 +47,13 @@ own_level false = 0
 abbrev pub level : Bool → ℕ → ℕ
 level own n = own_level own + n
 
-case_of_parts : (p : Pattern) (g : Option Expr) (b : Expr) → let c : Case = record { pattern = p; guard = g; body = b } in (option_size g < size-Case c) × (size-Expr b < size-Case c)
-case_of_parts p None b = let e = size_is-Case (record { pattern = p; guard = None; body = b }) in (omega (arith, e), omega (arith, e))
-case_of_parts p (Some g) b = let e = size_is-Case (record { pattern = p; guard = Some g; body = b }) in (omega (arith, e), omega (arith, e))
+case_of_parts : (p : Pattern) (g : Option Expr) (b : Expr)
+    → let c : Case = record { pattern = p; guard = g; body = b } in (option_size g < size-Case c)
+    × (size-Expr b < size-Case c)
+case_of_parts p None b = let e = size_is-Case (record { pattern = p; guard = None; body = b }) in
+    (omega (arith, e), omega (arith, e))
+case_of_parts p (Some g) b = let e = size_is-Case (record { pattern = p; guard = Some g; body = b }) in
+    (omega (arith, e), omega (arith, e))
 
 -- a case is deeper than its guard and its body
 pub case_deeper : (c : Case) → (option_size c.guard < size-Case c) × (size-Expr c.body < size-Case c)
@@ -63,10 +68,12 @@ item_case cs i c lt is = omega (arith, at_most size-Case cs i c lt, ap size-Case
 pub args_of_construct : (e : Expr) (c : CtorId) (es : List Expr) → e ≡ Construct c es → most_size es < size-Expr e
 args_of_construct e c es is = omega (arith, ap size-Expr is, sized-Construct c es)
 
-pub args_of_call : (e : Expr) (g : FunctionId) (es : List Expr) (p m : Option CheckId) → e ≡ Call g es p m → most_size es < size-Expr e
+pub args_of_call : (e : Expr) (g : FunctionId) (es : List Expr) (p m : Option CheckId) → e ≡ Call g es p m
+    → most_size es < size-Expr e
 args_of_call e g es p m is = omega (arith, ap size-Expr is, sized-Call g es p m)
 
-pub cases_of_match : (e s : Expr) (cs : List Case) (check : Option CheckId) → e ≡ Match s cs check → most_case cs < size-Expr e
+pub cases_of_match : (e s : Expr) (cs : List Case) (check : Option CheckId) → e ≡ Match s cs check
+    → most_case cs < size-Expr e
 cases_of_match e s cs check is = omega (arith, ap size-Expr is, sized-Match s cs check)
 
 pub found_size : (fs : List Function) (i : ℕ) (f : Function) → slice_get fs i ≡ Some f → function_size f ≤ reach fs

@@ -1,5 +1,5 @@
 -- Sizes of values, cut at the greatest number. Source: own.
-use Rattle.std.specs.Prelude.{ℕ, zero, suc, List, [], ◌∷◌, ◌++◌, length, map, sum}
+use Rattle.std.specs.Prelude.{◌≡◌, ℕ, zero, suc, List, [], ◌∷◌, ◌++◌, length, map, sum, Some, slice_get}
 use Rattle.pp_prog.specs.declared.sort.Sort.{Sort}
 use Rattle.pp_prog.specs.declared.sort.Sort.TheVariants as sort
 use Rattle.pp_prog.specs.declared.types.TypeTable.{TypeTable}
@@ -23,3 +23,7 @@ row types h (suc n) = row types h n ++ size types h (sort.Tree (record { 0 = n }
 -- those of all datatypes of the table
 abbrev pub full_row : TypeTable → ℕ → List Size
 full_row types h = row types h (length types.datatypes)
+
+-- rows of the first heights, from 0 on
+pub record AreRows (types : TypeTable) (rows : List (List Size)) : Type 0 where
+  pub each : (h : ℕ) (r : List Size) → slice_get rows h ≡ Some r → r ≡ full_row types h

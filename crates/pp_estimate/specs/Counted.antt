@@ -5,7 +5,9 @@ use Rattle.pp_prog.specs.declared.types.TypeTable.{TypeTable}
 use Rattle.pp_estimate.specs.declared.counts.Counts.{Counts}
 use Rattle.pp_estimate.specs.declared.memo.Known.{Known}
 use Rattle.pp_estimate.specs.declared.memo.Framed.{Framed}
+use Rattle.pp_estimate.specs.declared.memo.Memo.{Memo}
 use Rattle.pp_estimate.specs.declared.shape.Shape.{Shape}
+use Rattle.pp_estimate.specs.Bounds.{AreRows}
 use Rattle.pp_estimate.specs.Cut.{cut}
 use Rattle.pp_estimate.specs.Events.{Event, called, compare, look, work}
 use Rattle.pp_estimate.specs.Frames.{Frame, frame_at, inner_calls}
@@ -50,7 +52,12 @@ plus_each (x ∷ xs) (y ∷ ys) = plus x y ∷ plus_each xs ys
 -- two counts together
 abbrev pub together : Counts → Counts → Counts
 together a b =
-    record { work = plus a.work b.work; looks = plus_each a.looks b.looks; calls = plus_each a.calls b.calls; compares = plus a.compares b.compares }
+    record {
+      work = plus a.work b.work;
+      looks = plus_each a.looks b.looks;
+      calls = plus_each a.calls b.calls;
+      compares = plus a.compares b.compares;
+    }
 
 -- the counts are of so many datatypes and functions, and none is past the greatest number
 pub record Fits (datatypes functions : ℕ) (c : Counts) : Type 0 where
@@ -84,9 +91,15 @@ module _ (types : TypeTable) (functions : List Function) where
   -- each known frame is that of its function, fuel and arguments
   abbrev pub AllTrue : List Known → Type 0
   AllTrue known =
-      (k : Known) → Contains known k → k.frame ≡ framed (frame_at types (inner_calls types functions k.fuel) (slice_get functions k.function) k.args)
+      (k : Known) → Contains known k → k.frame
+      ≡ framed (frame_at types (inner_calls types functions k.fuel) (slice_get functions k.function) k.args)
+
+  -- what is known is true: the frames, and the rows of sizes
+  pub record MemoOf (memo : Memo) : Type 0 where
+    pub known : AllTrue memo.known
+    pub rows : AreRows types memo.rows
 
   -- what holds while a visit counts: the memo is true, and the counts fit
-  pub record Sound (known : List Known) (c : Counts) : Type 0 where
-    pub memo : AllTrue known
+  pub record Sound (m : Memo) (c : Counts) : Type 0 where
+    pub memo : MemoOf m
     pub counts : Fits (length types.datatypes) (length functions) c

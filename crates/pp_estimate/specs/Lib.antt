@@ -4,4 +4,5 @@ pub mod Visits
 pub mod Frames
 pub mod Estimates
 pub mod Counted
+pub mod Place
 pub mod Bounds

@@ -2,7 +2,8 @@
 -- cut at the greatest number of 64 bits. What a call does is a parameter. Source: own.
 use Rattle.std.specs.Prelude.{ℕ, ◌+◌, ◌-◌, ◌*◌, max, List, [], ◌∷◌, ◌++◌, map, length, Option, Some, None, slice_get}
 use Rattle.pp_prog.specs.declared.expr.BinaryOp.{BinaryOp}
-use Rattle.pp_prog.specs.declared.expr.BinaryOp.TheVariants.{Add, Sub, Mul, Div, Rem, Equal, Differ, Less, AtMost, More, AtLeast, AndAlso, OrElse, And, Or, Xor, Shl, Shr, Ushr}
+use Rattle.pp_prog.specs.declared.expr.BinaryOp.TheVariants.{Add, Sub, Mul, Div, Rem, Equal, Differ, Less, AtMost, More}
+use Rattle.pp_prog.specs.declared.expr.BinaryOp.TheVariants.{AtLeast, AndAlso, OrElse, And, Or, Xor, Shl, Shr, Ushr}
 use Rattle.pp_prog.specs.declared.expr.Case.{Case}
 use Rattle.pp_prog.specs.declared.expr.Expr.{Expr}
 use Rattle.pp_prog.specs.declared.expr.Expr.TheFolds.{fold-Case, fold-Expr}
@@ -233,14 +234,16 @@ module _ (types : TypeTable) (calls : Calls) where
       ((a old env).events ++ (b old env).events ++ node (binary_extra types op (a old env).shape (b old env).shape))
   visit_step (layer.Construct c args) old env =
       let s = tree_result (slice_get types.ctors c.0) in
-      visit (shape s (cut (tallest (map shape_of (visits args old env)) + 1))) (all_events (visits args old env) ++ look_at s ++ node 0)
+      visit (shape s (cut (tallest (map shape_of (visits args old env)) + 1)))
+      (all_events (visits args old env) ++ look_at s ++ node 0)
   visit_step (layer.Field e k) old env =
       let v = e old env in
       visit (part v.shape (field_result types v.shape.sort k)) (v.events ++ look_at v.shape.sort ++ node 0)
   visit_step (layer.If c a b) old env =
       let h = max (a old env).shape.height (b old env).shape.height in
       visit (shape (a old env).shape.sort h)
-      ((c old env).events ++ (a old env).events ++ (b old env).events ++ node (choice_extra types (a old env).shape.sort h))
+      ((c old env).events ++ (a old env).events ++ (b old env).events
+      ++ node (choice_extra types (a old env).shape.sort h))
   visit_step (layer.Match e cases check) old env =
       let v = e old env in
       let m = matched types (arms cases v.shape old env) in

@@ -70,7 +70,8 @@ fn bind_all(
     env: &mut Shapes,
 ) -> Result<(), NoMemory>
     ensures bound { OnOk result (env.new ≡ env.old ++ bind_each whole (map (bound ctors.now) patterns.now) sorts.now) }
-    ensures counted { OnOk result (counts.new ≡ counted counts.old (joined (map (pattern_events ctors.now) patterns.now))) }
+    ensures counted { OnOk result (counts.new
+        ≡ counted counts.old (joined (map (pattern_events ctors.now) patterns.now))) }
 {
     for i in 0..patterns.len() {
         bind_at(ctors, counts, &patterns[i], sorts, i, whole, env)?;
@@ -89,7 +90,8 @@ fn bind_at(
     whole: Shape,
     env: &mut Shapes,
 ) -> Result<(), NoMemory>
-    ensures bound { OnOk result (env.new ≡ env.old ++ bind_each whole (bound ctors.now pattern.now ∷ []) (drop i sorts.now)) }
+    ensures bound { OnOk result (env.new ≡ env.old
+        ++ bind_each whole (bound ctors.now pattern.now ∷ []) (drop i sorts.now)) }
     ensures counted { OnOk result (counts.new ≡ counted counts.old (pattern_events ctors.now pattern.now)) }
 {
     let depth = env.len();

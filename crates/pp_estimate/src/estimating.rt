@@ -3,17 +3,18 @@
 ghost use Rattle.std.specs.Prelude.{◌≡◌, ◌<◌, ◌≤◌, IfOk, OnOk, length, true};
 ghost use Rattle.pp_prog.specs.Sorts.{param_sorts};
 ghost use Rattle.pp_checks.specs.Plan.{IsPlanOf};
-ghost use Rattle.pp_estimate.specs.Counted.{AllTrue};
+ghost use Rattle.pp_estimate.specs.Bounds.{AreRows};
 ghost use Rattle.pp_estimate.specs.Estimates as spec;
 ghost use Rattle.pp_estimate.specs.Cut.{cut};
+ghost use Rattle.pp_estimate.specs.Place.{IsMemo};
 
 use crate::NoMemory;
+use crate::frames::frame_of;
 use crate::instances::instances_of;
-use crate::memo::Known;
+use crate::memo::Memo;
 use crate::place::Place;
 use crate::shape::{Shape, Shapes, height_in};
-use crate::sizes::size_of;
-use crate::visit::frame_of;
+use crate::sizes::{Rows, size_of};
 use pp_checks::Plan;
 use pp_list::{Items, at};
 use pp_prog::{CheckId, Function, Param, Program, TypeTable};
@@ -33,7 +34,8 @@ pub fn estimate(
     requires check { check.0 < length program.now.checks }
     requires round { round ≤ 12 }
     requires depth { (1 ≤ depth) × (depth ≤ 6) }
-    ensures { IfOk result (λ e. e ≡ spec.estimate program.now.types program.now.functions program.now.checks check.0 round depth) }
+    ensures { IfOk result (λ e. e ≡ spec.estimate program.now.types program.now.functions program.now.checks check.0
+        round depth) }
 {
     let functions = program.functions.as_slice();
     let f = plan.checks()[check.0 as usize].function;
@@ -55,7 +57,7 @@ pub(crate) fn rounds(
     requires { last ≤ 12 }
     ensures { IfOk result (λ e. e ≡ cut (spec.rounds types.now functions.now f.now last depth)) }
 {
-    let mut memo = Items::new(alloc);
+    let mut memo = Memo::new(alloc)?;
     let mut total = 0u64;
     for round in 0..last + 1 {
         let place = Place {
@@ -73,18 +75,25 @@ pub(crate) fn rounds(
 fn single(
     alloc: Global,
     place: Place<'_>,
-    memo: &mut Items<Known>,
+    memo: &mut Memo,
     f: &Function,
     depth: u32,
 ) -> Result<u64, NoMemory>
-    requires memo { AllTrue place.types.now place.functions.now memo.old }
+    requires memo { IsMemo place memo.old }
     requires own { place.own ≡ true }
-    ensures single { IfOk result (λ e. e ≡ cut (spec.single place.entry.types.now place.entry.functions.now f.now place.entry.fuel depth)) }
-    ensures sound { OnOk result (AllTrue place.entry.types.now place.entry.functions.now memo.new) }
+    ensures single { IfOk result (λ e. e ≡ cut
+        (spec.single place.entry.types.now place.entry.functions.now f.now place.entry.fuel depth)) }
+    ensures sound { OnOk result (IsMemo place.entry memo.new) }
 {
     let args = shapes_to(alloc, depth, f.params.as_slice())?;
     let frame = frame_of(alloc, place, memo, f, args.as_slice())?;
-    let inputs = inputs_of(alloc, place.types, depth, f.params.as_slice())?;
+    let inputs = inputs_of(
+        alloc,
+        place.types,
+        &mut memo.rows,
+        depth,
+        f.params.as_slice(),
+    )?;
     let own = inputs.saturating_add(frame.counts.work).saturating_mul(2);
     Ok(own.saturating_add(instances_of(place.types, place.functions, &frame.counts)))
 }
@@ -107,14 +116,17 @@ fn shapes_to(alloc: Global, depth: u32, params: &[Param]) -> Result<Shapes, NoMe
 fn inputs_of(
     alloc: Global,
     types: &TypeTable,
+    rows: &mut Rows,
     depth: u32,
     params: &[Param],
 ) -> Result<u64, NoMemory>
-    ensures { IfOk result (λ n. n ≡ cut (spec.inputs types.now depth (param_sorts params.now))) }
+    requires { AreRows types.now rows.old }
+    ensures inputs { IfOk result (λ n. n ≡ cut (spec.inputs types.now depth (param_sorts params.now))) }
+    ensures rows { OnOk result (AreRows types.now rows.new) }
 {
     let mut total = 0u64;
     for p in params {
-        let size = size_of(alloc, types, p.sort, depth as u64)?;
+        let size = size_of(alloc, types, rows, p.sort, depth as u64)?;
         total = total.saturating_add(size.bits.saturating_add(32).saturating_mul(4));
     }
     Ok(total)

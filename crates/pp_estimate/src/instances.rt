@@ -15,7 +15,8 @@ use pp_prog::{DataId, Function, TypeTable};
 /// The instances of the axioms of named nodes, for what was counted: each look, each pair of looks, each pair of
 /// calls, and each comparison with each look.
 pub(crate) fn instances_of(types: &TypeTable, functions: &[Function], counts: &Counts) -> u64
-    ensures { (es : List Event) → counts.now ≡ counts_of types.now functions.now es → result ≡ cut (spec.instances types.now functions.now es) }
+    ensures { (es : List Event) → counts.now ≡ counts_of types.now functions.now es
+        → result ≡ cut (spec.instances types.now functions.now es) }
 {
     let looks = all_looks(types, counts.looks.as_slice());
     by_looks(types, counts.looks.as_slice())
@@ -26,7 +27,8 @@ pub(crate) fn instances_of(types: &TypeTable, functions: &[Function], counts: &C
 
 /// Each look at a datatype.
 fn by_looks(types: &TypeTable, looks: &[u64]) -> u64
-    ensures { result ≡ cut (sum_below (length types.now.datatypes) (λ d. number_at looks.now d * (256 + 8 * spec.flat_of types.now d))) }
+    ensures { result ≡ cut (sum_below (length types.now.datatypes)
+        (λ d. number_at looks.now d * (256 + 8 * spec.flat_of types.now d))) }
 {
     let mut total = 0u64;
     for d in 0..types.datatypes.len() {
@@ -40,7 +42,8 @@ fn by_looks(types: &TypeTable, looks: &[u64]) -> u64
 
 /// Each pair of looks at one datatype.
 fn by_pairs(types: &TypeTable, looks: &[u64]) -> u64
-    ensures { result ≡ cut (sum_below (length types.now.datatypes) (λ d. pairs (number_at looks.now d) * (64 + 4 * spec.flat_of types.now d))) }
+    ensures { result ≡ cut (sum_below (length types.now.datatypes)
+        (λ d. pairs (number_at looks.now d) * (64 + 4 * spec.flat_of types.now d))) }
 {
     let mut total = 0u64;
     for d in 0..types.datatypes.len() {
@@ -54,7 +57,8 @@ fn by_pairs(types: &TypeTable, looks: &[u64]) -> u64
 
 /// Each pair of calls of one function.
 fn by_calls(functions: &[Function], calls: &[u64]) -> u64
-    ensures { result ≡ cut (sum_below (length functions.now) (λ g. pairs (number_at calls.now g) * (64 + 4 * widths_at (slice_get functions.now g)))) }
+    ensures { result ≡ cut (sum_below (length functions.now)
+        (λ g. pairs (number_at calls.now g) * (64 + 4 * widths_at (slice_get functions.now g)))) }
 {
     let mut total = 0u64;
     for g in 0..functions.len() {

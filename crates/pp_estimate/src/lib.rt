@@ -5,6 +5,7 @@ mod binding;
 mod comparing;
 mod counts;
 mod estimating;
+mod frames;
 mod instances;
 mod memo;
 mod place;

@@ -1,8 +1,8 @@
 //! Where a visit stands, and what is known there without a visit.
 
-ghost use Rattle.std.specs.Prelude.{◌≡◌, [], IfOk, OnOk, slice_get};
-ghost use Rattle.pp_estimate.specs.Counted.{framed};
+ghost use Rattle.std.specs.Prelude.{◌≡◌, [], IfOk, slice_get};
 ghost use Rattle.pp_estimate.specs.Frames as frames;
+ghost use Rattle.pp_estimate.specs.Place.{place_framed};
 ghost use Rattle.pp_estimate.specs.Visits.{word};
 
 use crate::NoMemory;
@@ -41,7 +41,7 @@ pub(crate) fn unfinished(functions: &[Function], g: FunctionId) -> Shape
 
 /// The frame of what is no function.
 pub(crate) fn no_frame(alloc: Global, place: Place<'_>) -> Result<Framed, NoMemory>
-    ensures { IfOk result (λ r. r ≡ framed place.entry.types.now place.entry.functions.now (record { shape = word; measure = []; events = [] })) }
+    ensures { IfOk result (λ r. r ≡ place_framed place.entry (record { shape = word; measure = []; events = [] })) }
 {
     Ok(Framed {
         counts: uncounted(alloc, place.types.datatypes.len(), place.functions.len())?,

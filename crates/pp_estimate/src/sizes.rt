@@ -1,17 +1,17 @@
 //! How large the values of sorts are. Each sum is cut at the greatest number.
 
-ghost use Rattle.std.specs.Prelude.{◌≡◌, ◌+◌, IfOk, OnOk, map, sum};
+ghost use Rattle.std.specs.Prelude.{◌≡◌, ◌≤◌, ◌+◌, IfOk, OnOk, length, map, sum};
 ghost use Rattle.pp_prog.specs.Calls.{joined};
 ghost use Rattle.pp_prog.specs.declared.sort.Sort.TheVariants as sort;
 ghost use Rattle.pp_prog.specs.Sizes.{flat, sorts_in_ctor, width};
 ghost use Rattle.pp_prog.specs.Sorts.{param_sorts};
-ghost use Rattle.pp_estimate.specs.Bounds.{full_row, size, sizes};
+ghost use Rattle.pp_estimate.specs.Bounds.{AreRows, full_row, size, sizes};
 ghost use Rattle.pp_estimate.specs.Cut.{cut};
 ghost use Rattle.pp_estimate.specs.Estimates.{widths};
 
 use crate::NoMemory;
 use pp_checks::ctors_of;
-use pp_list::Items;
+use pp_list::{Items, at};
 use pp_prog::{Ctor, DataId, Function, Param, Sort, TypeTable};
 use std::alloc::Global;
 
@@ -42,35 +42,90 @@ impl Size {
 /// The sizes of the values of each datatype up to one height, in the table's order.
 type Row = Items<Size>;
 
-/// The size of the values of the sort up to a height. It makes a row for each height, of the row below. The only
-/// error is want of memory.
+/// The rows of the first heights, from 0 on.
+pub(crate) type Rows = Items<Row>;
+
+/// The greatest height whose row is kept.
+const HIGHEST_KEPT: u64 = 64;
+
+/// The size of the values of the sort up to a height. The rows up to that height are kept for later questions, as far
+/// as rows are kept at all. The only error is want of memory.
 pub(crate) fn size_of(
     alloc: Global,
     types: &TypeTable,
+    rows: &mut Rows,
     s: Sort,
     height: u64,
 ) -> Result<Size, NoMemory>
-    ensures { IfOk result (λ z. z ≡ size types.now height s) }
+    requires { AreRows types.now rows.old }
+    ensures size { IfOk result (λ z. z ≡ size types.now height s) }
+    ensures rows { OnOk result (AreRows types.now rows.new) }
 {
     match s {
         Sort::Int => Ok(INT),
         Sort::Bool => Ok(BOOL),
         Sort::Tree(_) => {
-            let row = row_at(alloc, types, height)?;
+            keep_rows(alloc, types, rows, height)?;
+            size_by(alloc, types, rows.as_slice(), s, height)
+        }
+    }
+}
+
+/// Keeps the rows up to this height, or up to the greatest one whose row is kept.
+fn keep_rows(alloc: Global, types: &TypeTable, rows: &mut Rows, height: u64) -> Result<(), NoMemory>
+    requires { AreRows types.now rows.old }
+    ensures { OnOk result (AreRows types.now rows.new) }
+{
+    let count = height.min(HIGHEST_KEPT) as usize + 1;
+    for _ in rows.len()..count {
+        let row = row_after(alloc, types, rows.as_slice())?;
+        rows.push(row)?;
+    }
+    Ok(())
+}
+
+/// The size of the values of the sort up to a height, which is looked up where these rows have it.
+fn size_by(
+    alloc: Global,
+    types: &TypeTable,
+    rows: &[Row],
+    s: Sort,
+    height: u64,
+) -> Result<Size, NoMemory>
+    requires { AreRows types.now rows.now }
+    ensures { IfOk result (λ z. z ≡ size types.now height s) }
+{
+    match at(rows, height as usize) {
+        Some(row) => Ok(size_in(types, row.as_slice(), height, s)),
+        None => {
+            let row = row_above(alloc, types, rows, height)?;
             Ok(size_in(types, row.as_slice(), height, s))
         }
     }
 }
 
-/// The sizes up to a height.
-fn row_at(alloc: Global, types: &TypeTable, height: u64) -> Result<Row, NoMemory>
+/// The row of a height that these rows don't reach.
+fn row_above(alloc: Global, types: &TypeTable, rows: &[Row], height: u64) -> Result<Row, NoMemory>
+    requires rows { AreRows types.now rows.now }
+    requires above { length rows.now ≤ height }
     ensures { IfOk result (λ row. row ≡ full_row types.now height) }
 {
-    let mut row = lowest(alloc, types)?;
-    for h in 0..height {
+    let mut row = row_after(alloc, types, rows)?;
+    for h in rows.len() as u64..height {
         row = next_row(alloc, types, row.as_slice(), h)?;
     }
     Ok(row)
+}
+
+/// The row of the first height that these rows don't reach.
+fn row_after(alloc: Global, types: &TypeTable, rows: &[Row]) -> Result<Row, NoMemory>
+    requires { AreRows types.now rows.now }
+    ensures { IfOk result (λ row. row ≡ full_row types.now (length rows.now)) }
+{
+    match rows.split_last() {
+        None => lowest(alloc, types),
+        Some((below, lower)) => next_row(alloc, types, below.as_slice(), lower.len() as u64),
+    }
 }
 
 /// The sizes up to the height 0, which no tree has.

@@ -1,45 +1,45 @@
 //! The visit of an expression: the shape of its value, and what is counted.
 
-ghost use Rattle.std.specs.Prelude.{◌≡◌, false, IfOk, OnOk, map, slice_get};
+ghost use Rattle.std.specs.Prelude.{◌≡◌, IfOk, OnOk, map};
 ghost use Rattle.std.specs.Option.{option_map};
-ghost use Rattle.pp_estimate.specs.Counted.{AllTrue, IsFrameAt, Sound, counted, framed};
-ghost use Rattle.pp_estimate.specs.Frames as frames;
-ghost use Rattle.pp_estimate.specs.Frames.{calls_from, components, contract_events, frame, frame_at, inner_calls};
-ghost use Rattle.pp_estimate.specs.Visits.{all_events, arms, guard_events, matched, shape_of, visit_case, visit_of, visits};
+ghost use Rattle.pp_estimate.specs.Counted.{counted};
+ghost use Rattle.pp_estimate.specs.Place.{IsSound, place_arm, place_visit};
+ghost use Rattle.pp_estimate.specs.Visits.{all_events, arms, guard_events, matched, shape_of, visits};
 
 use crate::NoMemory;
 use crate::binding::bind;
-use crate::comparing::compare;
-use crate::counts::{Counts, add_look, add_node, uncounted};
-use crate::memo::{Framed, Known, find};
-use crate::place::{Place, no_frame, unfinished};
+use crate::counts::{Counts, add_look, add_node};
+use crate::frames::call;
+use crate::memo::Memo;
+use crate::place::Place;
 use crate::shape::{
     Shape, Shapes, first_sort, part_of, shape_at, tallest_of, tree_sort, truncate, unary_sort,
 };
-use crate::weights::{UNFINISHED, binary_extra, choice_extra, unary_extra};
+use crate::weights::{binary_extra, choice_extra, unary_extra};
 use pp_checks::{field_sort, operator_sort};
-use pp_list::{Items, at};
-use pp_prog::{Case, CheckId, Expr, Function, FunctionId, Sort};
+use pp_list::Items;
+use pp_prog::{Case, Expr, Sort};
 use std::alloc::Global;
 
 /// The visit of an expression: the shape of its value, with the components of the frame's measure and the shapes of
 /// the variables in scope, which are the same afterwards.
 #[cycle(visit)]
 #[tactic(auto, using(crate::proofs::Merged::counted_append))]
-fn visit(
+pub(crate) fn visit(
     alloc: Global,
     place: Place<'_>,
-    memo: &mut Items<Known>,
+    memo: &mut Memo,
     counts: &mut Counts,
     old: &[Shape],
     env: &mut Shapes,
     e: &Expr,
 ) -> Result<Shape, NoMemory>
-    requires { Sound place.types.now place.functions.now memo.old counts.old }
-    ensures shape { IfOk result (λ s. s ≡ (visit_of place.entry.types.now (calls_from place.entry.types.now place.entry.functions.now place.entry.own place.entry.fuel) e.now old.now env.old).shape) }
-    ensures counted { OnOk result (counts.new ≡ counted counts.old (visit_of place.entry.types.now (calls_from place.entry.types.now place.entry.functions.now place.entry.own place.entry.fuel) e.now old.now env.old).events) }
+    requires { IsSound place memo.old counts.old }
+    ensures shape { IfOk result (λ s. s ≡ (place_visit place.entry e.now old.now env.old).shape) }
+    ensures counted { OnOk result (counts.new
+        ≡ counted counts.old (place_visit place.entry e.now old.now env.old).events) }
     ensures kept { OnOk result (env.new ≡ env.old) }
-    ensures sound { OnOk result (Sound place.entry.types.now place.entry.functions.now memo.new counts.new) }
+    ensures sound { OnOk result (IsSound place.entry memo.new counts.new) }
 {
     match e {
         Expr::Int(_) => {
@@ -71,7 +71,7 @@ fn visit(
         Expr::Binary(op, a, b, _) => {
             let left = visit(alloc, place, memo, counts, old, env, a.get())?;
             let right = visit(alloc, place, memo, counts, old, env, b.get())?;
-            let extra = binary_extra(alloc, place.types, *op, left, right)?;
+            let extra = binary_extra(alloc, place.types, &mut memo.rows, *op, left, right)?;
             add_node(counts, extra);
             Ok(Shape {
                 sort: operator_sort(*op, left.sort),
@@ -99,7 +99,7 @@ fn visit(
             let left = visit(alloc, place, memo, counts, old, env, a.get())?;
             let right = visit(alloc, place, memo, counts, old, env, b.get())?;
             let height = left.height.max(right.height);
-            let extra = choice_extra(alloc, place.types, left.sort, height)?;
+            let extra = choice_extra(alloc, place.types, &mut memo.rows, left.sort, height)?;
             add_node(counts, extra);
             Ok(Shape {
                 sort: left.sort,
@@ -149,20 +149,22 @@ fn visit(
 
 /// The visits of expressions, one after another: their shapes.
 #[cycle(visit)]
-fn visit_all(
+pub(crate) fn visit_all(
     alloc: Global,
     place: Place<'_>,
-    memo: &mut Items<Known>,
+    memo: &mut Memo,
     counts: &mut Counts,
     old: &[Shape],
     env: &mut Shapes,
     es: &[Expr],
 ) -> Result<Shapes, NoMemory>
-    requires { Sound place.types.now place.functions.now memo.old counts.old }
-    ensures shape { IfOk result (λ ss. ss ≡ map shape_of (visits (map (visit_of place.entry.types.now (calls_from place.entry.types.now place.entry.functions.now place.entry.own place.entry.fuel)) es.now) old.now env.old)) }
-    ensures counted { OnOk result (counts.new ≡ counted counts.old (all_events (visits (map (visit_of place.entry.types.now (calls_from place.entry.types.now place.entry.functions.now place.entry.own place.entry.fuel)) es.now) old.now env.old))) }
+    requires { IsSound place memo.old counts.old }
+    ensures shape { IfOk result (λ ss. ss ≡ map shape_of
+        (visits (map (place_visit place.entry) es.now) old.now env.old)) }
+    ensures counted { OnOk result (counts.new
+        ≡ counted counts.old (all_events (visits (map (place_visit place.entry) es.now) old.now env.old))) }
     ensures kept { OnOk result (env.new ≡ env.old) }
-    ensures sound { OnOk result (Sound place.entry.types.now place.entry.functions.now memo.new counts.new) }
+    ensures sound { OnOk result (IsSound place.entry memo.new counts.new) }
 {
     let mut shapes = Items::new(alloc);
     for e in es {
@@ -177,23 +179,26 @@ fn visit_all(
 fn visit_cases(
     alloc: Global,
     place: Place<'_>,
-    memo: &mut Items<Known>,
+    memo: &mut Memo,
     counts: &mut Counts,
     old: &[Shape],
     env: &mut Shapes,
     s: Shape,
     cases: &[Case],
 ) -> Result<Shape, NoMemory>
-    requires { Sound place.types.now place.functions.now memo.old counts.old }
-    ensures shape { IfOk result (λ r. r ≡ (matched place.entry.types.now (arms (map (visit_case place.entry.types.now (calls_from place.entry.types.now place.entry.functions.now place.entry.own place.entry.fuel)) cases.now) s old.now env.old)).shape) }
-    ensures counted { OnOk result (counts.new ≡ counted counts.old (matched place.entry.types.now (arms (map (visit_case place.entry.types.now (calls_from place.entry.types.now place.entry.functions.now place.entry.own place.entry.fuel)) cases.now) s old.now env.old)).events) }
+    requires { IsSound place memo.old counts.old }
+    ensures shape { IfOk result (λ r. r ≡ (matched place.entry.types.now
+        (arms (map (place_arm place.entry) cases.now) s old.now env.old)).shape) }
+    ensures counted { OnOk result (counts.new
+        ≡ counted counts.old (matched place.entry.types.now
+        (arms (map (place_arm place.entry) cases.now) s old.now env.old)).events) }
     ensures kept { OnOk result (env.new ≡ env.old) }
-    ensures sound { OnOk result (Sound place.entry.types.now place.entry.functions.now memo.new counts.new) }
+    ensures sound { OnOk result (IsSound place.entry memo.new counts.new) }
 {
     let shapes = visit_each(alloc, place, memo, counts, old, env, s, cases)?;
     let sort = first_sort(shapes.as_slice());
     let height = tallest_of(shapes.as_slice());
-    let extra = choice_extra(alloc, place.types, sort, height)?;
+    let extra = choice_extra(alloc, place.types, &mut memo.rows, sort, height)?;
     add_node(counts, extra.saturating_mul(cases.len() as u64));
     Ok(Shape { sort, height })
 }
@@ -203,18 +208,20 @@ fn visit_cases(
 fn visit_each(
     alloc: Global,
     place: Place<'_>,
-    memo: &mut Items<Known>,
+    memo: &mut Memo,
     counts: &mut Counts,
     old: &[Shape],
     env: &mut Shapes,
     s: Shape,
     cases: &[Case],
 ) -> Result<Shapes, NoMemory>
-    requires { Sound place.types.now place.functions.now memo.old counts.old }
-    ensures shape { IfOk result (λ ss. ss ≡ map shape_of (arms (map (visit_case place.entry.types.now (calls_from place.entry.types.now place.entry.functions.now place.entry.own place.entry.fuel)) cases.now) s old.now env.old)) }
-    ensures counted { OnOk result (counts.new ≡ counted counts.old (all_events (arms (map (visit_case place.entry.types.now (calls_from place.entry.types.now place.entry.functions.now place.entry.own place.entry.fuel)) cases.now) s old.now env.old))) }
+    requires { IsSound place memo.old counts.old }
+    ensures shape { IfOk result (λ ss. ss ≡ map shape_of
+        (arms (map (place_arm place.entry) cases.now) s old.now env.old)) }
+    ensures counted { OnOk result (counts.new
+        ≡ counted counts.old (all_events (arms (map (place_arm place.entry) cases.now) s old.now env.old))) }
     ensures kept { OnOk result (env.new ≡ env.old) }
-    ensures sound { OnOk result (Sound place.entry.types.now place.entry.functions.now memo.new counts.new) }
+    ensures sound { OnOk result (IsSound place.entry memo.new counts.new) }
 {
     let mut shapes = Items::new(alloc);
     for c in cases {
@@ -230,18 +237,19 @@ fn visit_each(
 fn visit_one(
     alloc: Global,
     place: Place<'_>,
-    memo: &mut Items<Known>,
+    memo: &mut Memo,
     counts: &mut Counts,
     old: &[Shape],
     env: &mut Shapes,
     s: Shape,
     c: &Case,
 ) -> Result<Shape, NoMemory>
-    requires { Sound place.types.now place.functions.now memo.old counts.old }
-    ensures shape { IfOk result (λ r. r ≡ (visit_case place.entry.types.now (calls_from place.entry.types.now place.entry.functions.now place.entry.own place.entry.fuel) c.now s old.now env.old).shape) }
-    ensures counted { OnOk result (counts.new ≡ counted counts.old (visit_case place.entry.types.now (calls_from place.entry.types.now place.entry.functions.now place.entry.own place.entry.fuel) c.now s old.now env.old).events) }
+    requires { IsSound place memo.old counts.old }
+    ensures shape { IfOk result (λ r. r ≡ (place_arm place.entry c.now s old.now env.old).shape) }
+    ensures counted { OnOk result (counts.new
+        ≡ counted counts.old (place_arm place.entry c.now s old.now env.old).events) }
     ensures kept { OnOk result (env.new ≡ env.old) }
-    ensures sound { OnOk result (Sound place.entry.types.now place.entry.functions.now memo.new counts.new) }
+    ensures sound { OnOk result (IsSound place.entry memo.new counts.new) }
 {
     let depth = env.len();
     bind(place.types.ctors.as_slice(), counts, &c.pattern, s, env)?;
@@ -253,19 +261,20 @@ fn visit_one(
 
 /// The visit of a guard, if one is written.
 #[cycle(visit)]
-fn visit_guard(
+pub(crate) fn visit_guard(
     alloc: Global,
     place: Place<'_>,
-    memo: &mut Items<Known>,
+    memo: &mut Memo,
     counts: &mut Counts,
     old: &[Shape],
     env: &mut Shapes,
     guard: &Option<Expr>,
 ) -> Result<(), NoMemory>
-    requires { Sound place.types.now place.functions.now memo.old counts.old }
-    ensures counted { OnOk result (counts.new ≡ counted counts.old (guard_events (option_map (visit_of place.entry.types.now (calls_from place.entry.types.now place.entry.functions.now place.entry.own place.entry.fuel)) guard.now) old.now env.old)) }
+    requires { IsSound place memo.old counts.old }
+    ensures counted { OnOk result (counts.new
+        ≡ counted counts.old (guard_events (option_map (place_visit place.entry) guard.now) old.now env.old)) }
     ensures kept { OnOk result (env.new ≡ env.old) }
-    ensures sound { OnOk result (Sound place.entry.types.now place.entry.functions.now memo.new counts.new) }
+    ensures sound { OnOk result (IsSound place.entry memo.new counts.new) }
 {
     match guard {
         None => Ok(()),
@@ -274,184 +283,4 @@ fn visit_guard(
             Ok(())
         }
     }
-}
-
-/// A call, from a frame whose measure has these components: what it gives, for arguments of these shapes.
-#[cycle(visit)]
-fn call(
-    alloc: Global,
-    place: Place<'_>,
-    memo: &mut Items<Known>,
-    counts: &mut Counts,
-    g: FunctionId,
-    check: Option<CheckId>,
-    old: &[Shape],
-    args: &[Shape],
-) -> Result<Shape, NoMemory>
-    requires { Sound place.types.now place.functions.now memo.old counts.old }
-    ensures shape { IfOk result (λ s. s ≡ (calls_from place.entry.types.now place.entry.functions.now place.entry.own place.entry.fuel g check old.now args.now).shape) }
-    ensures counted { OnOk result (counts.new ≡ counted counts.old (calls_from place.entry.types.now place.entry.functions.now place.entry.own place.entry.fuel g check old.now args.now).events) }
-    ensures sound { OnOk result (Sound place.entry.types.now place.entry.functions.now memo.new counts.new) }
-{
-    if place.fuel == 0 {
-        counts.add_work(UNFINISHED);
-        if place.own {
-            let measure = contract_of(alloc, place, memo, counts, g, args)?;
-            compare(alloc, place.types, counts, check, measure.as_slice(), old)?;
-        }
-        return Ok(unfinished(place.functions, g));
-    }
-    let inner = Place {
-        types: place.types,
-        functions: place.functions,
-        fuel: place.fuel - 1,
-        own: false,
-    };
-    let i = known_frame(alloc, inner, memo, g, args)?;
-    let frame = &memo.as_slice()[i].frame;
-    counts.add_all(&frame.counts);
-    compare(
-        alloc,
-        place.types,
-        counts,
-        check,
-        frame.measure.as_slice(),
-        old,
-    )?;
-    Ok(frame.shape)
-}
-
-/// The visit of a precondition, if one is written, and of a measure list: the shapes of the measure's components.
-#[cycle(visit)]
-#[tactic(auto, using(crate::proofs::Merged::counted_append))]
-fn contracts(
-    alloc: Global,
-    place: Place<'_>,
-    memo: &mut Items<Known>,
-    counts: &mut Counts,
-    f: &Function,
-    env: &mut Shapes,
-) -> Result<Shapes, NoMemory>
-    requires { Sound place.types.now place.functions.now memo.old counts.old }
-    ensures shape { IfOk result (λ ss. ss ≡ map shape_of (components place.entry.types.now (calls_from place.entry.types.now place.entry.functions.now place.entry.own place.entry.fuel) f.now.measure env.old)) }
-    ensures counted { OnOk result (counts.new ≡ counted counts.old (contract_events place.entry.types.now (calls_from place.entry.types.now place.entry.functions.now place.entry.own place.entry.fuel) f.now env.old)) }
-    ensures kept { OnOk result (env.new ≡ env.old) }
-    ensures sound { OnOk result (Sound place.entry.types.now place.entry.functions.now memo.new counts.new) }
-{
-    visit_guard(alloc, place, memo, counts, &[], env, &f.pre)?;
-    let measure = visit_all(alloc, place, memo, counts, &[], env, f.measure.as_slice())?;
-    Ok(measure)
-}
-
-/// The visit of the contract of a called function, with no fuel: the shapes of its measure's components.
-#[cycle(visit)]
-fn contract_of(
-    alloc: Global,
-    place: Place<'_>,
-    memo: &mut Items<Known>,
-    counts: &mut Counts,
-    g: FunctionId,
-    args: &[Shape],
-) -> Result<Shapes, NoMemory>
-    requires { Sound place.types.now place.functions.now memo.old counts.old }
-    ensures shape { IfOk result (λ ss. ss ≡ frames.measure_at place.entry.types.now place.entry.functions.now (slice_get place.entry.functions.now g.0) args.now) }
-    ensures counted { OnOk result (counts.new ≡ counted counts.old (frames.contract_at place.entry.types.now place.entry.functions.now (slice_get place.entry.functions.now g.0) args.now)) }
-    ensures sound { OnOk result (Sound place.entry.types.now place.entry.functions.now memo.new counts.new) }
-{
-    match at(place.functions, g.0 as usize) {
-        None => Ok(Items::new(alloc)),
-        Some(f) => {
-            let inner = Place {
-                types: place.types,
-                functions: place.functions,
-                fuel: 0,
-                own: false,
-            };
-            let mut env = Items::from_slice(alloc, args)?;
-            let measure = contracts(alloc, inner, memo, counts, f, &mut env)?;
-            Ok(measure)
-        }
-    }
-}
-
-/// The frame of a function on arguments of these shapes, counted.
-#[cycle(visit)]
-#[tactic(auto, using(crate::proofs::Merged::counted_append))]
-pub(crate) fn frame_of(
-    alloc: Global,
-    place: Place<'_>,
-    memo: &mut Items<Known>,
-    f: &Function,
-    args: &[Shape],
-) -> Result<Framed, NoMemory>
-    requires { AllTrue place.types.now place.functions.now memo.old }
-    ensures frame { IfOk result (λ r. r ≡ framed place.entry.types.now place.entry.functions.now (frame place.entry.types.now (calls_from place.entry.types.now place.entry.functions.now place.entry.own place.entry.fuel) f.now args.now)) }
-    ensures sound { OnOk result (AllTrue place.entry.types.now place.entry.functions.now memo.new) }
-{
-    let mut counts = uncounted(alloc, place.types.datatypes.len(), place.functions.len())?;
-    let mut env = Items::from_slice(alloc, args)?;
-    let measure = contracts(alloc, place, memo, &mut counts, f, &mut env)?;
-    let result = visit(
-        alloc,
-        place,
-        memo,
-        &mut counts,
-        measure.as_slice(),
-        &mut env,
-        &f.body,
-    )?;
-    match &f.post {
-        None => {}
-        Some(post) => {
-            env.push(result)?;
-            visit(
-                alloc,
-                place,
-                memo,
-                &mut counts,
-                measure.as_slice(),
-                &mut env,
-                &post.1,
-            )?;
-        }
-    }
-    Ok(Framed {
-        counts,
-        shape: Shape {
-            sort: f.result,
-            height: result.height,
-        },
-        measure,
-    })
-}
-
-/// The place in the memo of a called frame, which is added where it isn't known yet.
-#[cycle(visit)]
-fn known_frame(
-    alloc: Global,
-    place: Place<'_>,
-    memo: &mut Items<Known>,
-    g: FunctionId,
-    args: &[Shape],
-) -> Result<usize, NoMemory>
-    requires memo { AllTrue place.types.now place.functions.now memo.old }
-    requires called { place.own ≡ false }
-    ensures frame { IfOk result (λ i. IsFrameAt memo.new i (framed place.entry.types.now place.entry.functions.now (frame_at place.entry.types.now (inner_calls place.entry.types.now place.entry.functions.now place.entry.fuel) (slice_get place.entry.functions.now g.0) args.now))) }
-    ensures sound { OnOk result (AllTrue place.entry.types.now place.entry.functions.now memo.new) }
-{
-    if let Some(i) = find(memo.as_slice(), g, place.fuel, args) {
-        return Ok(i);
-    }
-    let frame = match at(place.functions, g.0 as usize) {
-        None => no_frame(alloc, place)?,
-        Some(f) => frame_of(alloc, place, memo, f, args)?,
-    };
-    let i = memo.len();
-    memo.push(Known {
-        function: g.0,
-        fuel: place.fuel,
-        args: Items::from_slice(alloc, args)?,
-        frame,
-    })?;
-    Ok(i)
 }

@@ -2,12 +2,13 @@
 
 ghost use Rattle.std.specs.Prelude.{◌≡◌, ◌+◌, ◌*◌, IfOk, OnOk};
 ghost use Rattle.pp_prog.specs.Sizes.{bits, nodes};
+ghost use Rattle.pp_estimate.specs.Bounds.{AreRows};
 ghost use Rattle.pp_estimate.specs.Cut.{cut};
 ghost use Rattle.pp_estimate.specs.Visits as spec;
 
 use crate::NoMemory;
 use crate::shape::Shape;
-use crate::sizes::size_of;
+use crate::sizes::{Rows, size_of};
 use pp_prog::{BinaryOp, Sort, TypeTable, UnaryOp};
 use std::alloc::Global;
 
@@ -39,10 +40,18 @@ fn bits_extra(s: Sort) -> u64
     }
 }
 
-fn equality_extra(alloc: Global, types: &TypeTable, a: Shape, b: Shape) -> Result<u64, NoMemory>
-    ensures { IfOk result (λ n. n ≡ cut (spec.equality_extra types.now a b)) }
+fn equality_extra(
+    alloc: Global,
+    types: &TypeTable,
+    rows: &mut Rows,
+    a: Shape,
+    b: Shape,
+) -> Result<u64, NoMemory>
+    requires { AreRows types.now rows.old }
+    ensures weight { IfOk result (λ n. n ≡ cut (spec.equality_extra types.now a b)) }
+    ensures rows { OnOk result (AreRows types.now rows.new) }
 {
-    let size = size_of(alloc, types, a.sort, a.height.max(b.height))?;
+    let size = size_of(alloc, types, rows, a.sort, a.height.max(b.height))?;
     Ok(size.bits.saturating_add(32).saturating_mul(4))
 }
 
@@ -50,18 +59,21 @@ fn equality_extra(alloc: Global, types: &TypeTable, a: Shape, b: Shape) -> Resul
 pub(crate) fn binary_extra(
     alloc: Global,
     types: &TypeTable,
+    rows: &mut Rows,
     op: BinaryOp,
     a: Shape,
     b: Shape,
 ) -> Result<u64, NoMemory>
-    ensures { IfOk result (λ n. n ≡ cut (spec.binary_extra types.now op a b)) }
+    requires { AreRows types.now rows.old }
+    ensures weight { IfOk result (λ n. n ≡ cut (spec.binary_extra types.now op a b)) }
+    ensures rows { OnOk result (AreRows types.now rows.new) }
 {
     match op {
         BinaryOp::Add | BinaryOp::Sub => Ok(256),
         BinaryOp::Less | BinaryOp::AtMost | BinaryOp::More | BinaryOp::AtLeast => Ok(256),
         BinaryOp::Mul => Ok(8192),
         BinaryOp::Div | BinaryOp::Rem => Ok(16384),
-        BinaryOp::Equal | BinaryOp::Differ => equality_extra(alloc, types, a, b),
+        BinaryOp::Equal | BinaryOp::Differ => equality_extra(alloc, types, rows, a, b),
         BinaryOp::AndAlso | BinaryOp::OrElse => Ok(0),
         BinaryOp::And | BinaryOp::Or | BinaryOp::Xor => Ok(bits_extra(a.sort)),
         BinaryOp::Shl | BinaryOp::Shr | BinaryOp::Ushr => Ok(512),
@@ -72,12 +84,15 @@ pub(crate) fn binary_extra(
 pub(crate) fn choice_extra(
     alloc: Global,
     types: &TypeTable,
+    rows: &mut Rows,
     s: Sort,
     height: u64,
 ) -> Result<u64, NoMemory>
-    ensures { IfOk result (λ n. n ≡ cut (spec.choice_extra types.now s height)) }
+    requires { AreRows types.now rows.old }
+    ensures weight { IfOk result (λ n. n ≡ cut (spec.choice_extra types.now s height)) }
+    ensures rows { OnOk result (AreRows types.now rows.new) }
 {
-    let size = size_of(alloc, types, s, height)?;
+    let size = size_of(alloc, types, rows, s, height)?;
     Ok(size.bits.saturating_add(32))
 }
 
@@ -85,13 +100,17 @@ pub(crate) fn choice_extra(
 pub(crate) fn descent_weight(
     alloc: Global,
     types: &TypeTable,
+    rows: &mut Rows,
     new: Shape,
     old: u64,
 ) -> Result<u64, NoMemory>
-    ensures { IfOk result (λ n. n ≡ cut (64 + 4 * (32 + bits types.now new.height new.sort) * (1 + nodes types.now old new.sort))) }
+    requires { AreRows types.now rows.old }
+    ensures weight { IfOk result (λ n. n ≡ cut (64 + 4 * (32 + bits types.now new.height new.sort)
+        * (1 + nodes types.now old new.sort))) }
+    ensures rows { OnOk result (AreRows types.now rows.new) }
 {
-    let size = size_of(alloc, types, new.sort, new.height)?;
-    let old_size = size_of(alloc, types, new.sort, old)?;
+    let size = size_of(alloc, types, rows, new.sort, new.height)?;
+    let old_size = size_of(alloc, types, rows, new.sort, old)?;
     let equal = size.bits.saturating_add(32).saturating_mul(4);
     let nodes = old_size.nodes.saturating_add(1);
     Ok(equal.saturating_mul(nodes).saturating_add(64))

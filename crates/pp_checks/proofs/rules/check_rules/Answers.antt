@@ -17,5 +17,5 @@ returns c f function lt is = c.loop-f.invariant f function (omega (
   arith,
   lt,
   c.loop-f-test.false,
-  c.functions-f-end.ensures,
+  c.function_count-f-end.ensures,
 )) is

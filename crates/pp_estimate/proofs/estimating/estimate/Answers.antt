@@ -4,4 +4,8 @@ use Rattle.pp_estimate.proofs.estimating.estimate.Goals as goal
 
 pub returns-in-Some : goal.returns-in-Some
 returns-in-Some c =
-    subst (λ (n : ℕ). IfOk c.rounds.result (λ (e : ℕ). e ≡ n)) (estimate_is c.args.program.now.types _ c.args.program.now.functions _ c.args.program.now.checks _ c.in-Some.f.now c.args.check.0 c.args.round c.args.depth _ c.requires.check c.types.ensures c.as_slice-functions.ensures (c.checks.ensures c.args.program.now c.requires.plan) c.in-Some.ensures) c.rounds.ensures
+    subst (λ (n : ℕ). IfOk c.rounds.result (λ (e : ℕ). e ≡ n))
+    (estimate_is c.args.program.now.types _ c.args.program.now.functions _ c.args.program.now.checks _
+    c.in-Some.f.now c.args.check.0 c.args.round c.args.depth _ c.requires.check c.types.ensures
+    c.as_slice-functions.ensures (c.checks.ensures c.args.program.now c.requires.plan) c.in-Some.ensures)
+    c.rounds.ensures

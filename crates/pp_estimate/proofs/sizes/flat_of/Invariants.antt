@@ -6,4 +6,5 @@ use Rattle.pp_estimate.specs.Cut.{cut}
 use Rattle.pp_estimate.proofs.sizes.flat_of.Given as goal
 
 abbrev pub invariant-loop-c : goal.invariant-loop-c
-invariant-loop-c l = l.total ≡ cut (length l.ctors + sum (map width (joined (map sorts_in_ctor (take l.c-index l.ctors)))))
+invariant-loop-c l = l.total ≡ cut (length l.ctors + sum
+    (map width (joined (map sorts_in_ctor (take l.c-index l.ctors)))))

@@ -13,7 +13,8 @@ bounds-row-d c =
 pub returns-then-d-len : goal.returns-then-d-len
 returns-then-d-len c =
     ap (λ (l : List Size). get_or l c.in-Tree.d.0 (record { bits = 0; nodes = 0 })) c.requires
-    ∙ row_at c.args.types.now c.args.height (length c.args.types.now.datatypes) c.in-Tree.d.0 _ (omega (arith, c.if-d-len.true, c.len.ensures))
+    ∙ row_at c.args.types.now c.args.height (length c.args.types.now.datatypes) c.in-Tree.d.0 _
+    (omega (arith, c.if-d-len.true, c.len.ensures))
     ∙ ap (size c.args.types.now c.args.height) (sym c.in-Tree.is)
 
 pub returns-else-d-len : goal.returns-else-d-len
