@@ -1,4 +1,3 @@
-pub mod Values
 pub mod Kept
 pub mod Operands
 pub mod Performing

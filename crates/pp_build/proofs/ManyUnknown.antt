@@ -28,7 +28,7 @@ use Rattle.pp_domain.specs.Symbols.{AreSymbols, IsSymbol, SymbolStands, SymbolsS
 use Rattle.pp_domain.proofs.Composition.{Extended_none, Moves_more, Moves_none}
 use Rattle.pp_domain.proofs.Symbols.{AreSymbols_later, SymbolsStand_later, symbol_height_later}
 use Rattle.pp_steps.specs.Gates.{open_gates}
-use Rattle.pp_sound.proofs.Env.{have_more, have_one}
+use Rattle.pp_prog.proofs.ValueSorts.{have_more, have_one}
 use Rattle.pp_build.specs.Unknown.{AreUnknown, AreUpTo, IsUnknownSymbol, IsUpTo}
 use Rattle.pp_build.proofs.Kept.{agree_self}
 

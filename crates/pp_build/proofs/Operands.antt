@@ -23,7 +23,7 @@ use Rattle.pp_steps.specs.Meaning.{Values}
 use Rattle.pp_steps.specs.Sorted.{Sorts}
 use Rattle.pp_build_operators.specs.Operated.{StandsAs}
 use Rattle.pp_build.specs.Registers.{AreRegisters, IsKnown, IsLiteralAt}
-use Rattle.pp_sound.proofs.Env.{truth_has}
+use Rattle.pp_prog.proofs.ValueSorts.{truth_has}
 
 module _ {D T : Type 0} (m : Sense D T) where
   -- the register of a truth value

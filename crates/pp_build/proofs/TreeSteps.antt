@@ -30,11 +30,11 @@ use Rattle.pp_steps.specs.declared.step.Step.TheVariants as steps
 use Rattle.pp_steps.specs.Gates.{Heights}
 use Rattle.pp_steps.specs.Meaning.{Values, has_ctor}
 use Rattle.pp_steps.specs.Sorted.{Sorts}
-use Rattle.pp_sound.proofs.Env.{have_at, tree_has_sort}
+use Rattle.pp_prog.proofs.ValueSorts.{have_at, tree_has_sort}
 use Rattle.pp_build.specs.Performed.{CanPerform, Performs}
 use Rattle.pp_build.specs.Registers.{AreAt, AreRegisters, IsKnown}
-use Rattle.pp_build.proofs.Fields.{OnlyCtor, ctor_field_is, datatype_within, field_is, fields_sorted, has_ctor_is}
-use Rattle.pp_build.proofs.Fields.{only_ctor}
+use Rattle.pp_prog.proofs.Fields.{OnlyCtor, datatype_within, fields_sorted, only_ctor}
+use Rattle.pp_build.proofs.Fields.{ctor_field_is, field_is, has_ctor_is}
 use Rattle.pp_build.proofs.Operands.{operand_stands, step_known, tree_of, truth_known}
 use Rattle.pp_build.proofs.Performing.{exactly}
 

@@ -31,8 +31,9 @@ use Rattle.pp_build.specs.Registers.{IsKnown, IsLiteralAt}
 use Rattle.pp_build.proofs.Operands.{bit_known, literal_of, operand_stands, step_known, truth_known}
 use Rattle.pp_build.proofs.Gates.{choose_gates_are}
 use Rattle.pp_build.proofs.Performing.{IsCount, exactly}
-use Rattle.pp_build.proofs.Values.{alike, bit_truth}
-use Rattle.pp_sound.proofs.Env.{int_has}
+use Rattle.pp_eval.proofs.Alike.{alike}
+use Rattle.pp_steps.proofs.Bits.{bit_truth}
+use Rattle.pp_prog.proofs.ValueSorts.{int_has}
 
 module _ {D T : Type 0} (m : Sense D T) (types : TypeTable) (law : Lawful m) (d : D) (gs : List Gate)
     (rs : List (Symbol T)) (fits : m.Fits types d gs) where

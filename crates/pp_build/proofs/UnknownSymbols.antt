@@ -26,11 +26,11 @@ use Rattle.pp_domain.specs.Naming.{Naming}
 use Rattle.pp_domain.specs.Sense.{Good, Sense}
 use Rattle.pp_domain.proofs.Composition.{Extended_grown, Extended_steady, Moves_grown}
 use Rattle.pp_steps.specs.Gates.{open_gates}
-use Rattle.pp_sound.proofs.Env.{int_has, truth_has}
+use Rattle.pp_prog.proofs.ValueSorts.{bool_value, int_has, int_value, truth_has}
 use Rattle.pp_build_operators.proofs.Results.{word_is_int}
 use Rattle.pp_build.specs.Unknown.{IsUnknownSymbol}
 use Rattle.pp_build.proofs.Performing.{exactly}
-use Rattle.pp_build.proofs.Values.{bool_value, int_fits, int_value}
+use Rattle.pp_eval.proofs.Ranges.{int_fits}
 
 module _ {D T : Type 0} (m : Sense D T) (types : TypeTable) (law : Lawful m) (d : D) (gs hs : List Gate)
     (fits : m.Fits types d gs) where

@@ -160,8 +160,10 @@ module _ (asked : Option CheckId) (site : Site) (o : Work) (env : List ℕ) (rea
       → IsMade o n (compile asked site e (length o.steps) env reach) r
   match_arm {m = m} {n = n} {e = e} {a = a} {b = b} {check = check} {ks = ks} {js = js} {inner = inner} {x = x} {r = r}
       {y = y} is f g h i q j j2 =
-      let C = λ (z : List ℕ) (l : List Case). cases asked (map (arm asked site) l) check x.out (length m.steps) z x.alive in
-      let q1 = subst (λ (l : List Case). IsCased m n (C env l) y) g (subst (λ (z : List ℕ). IsCased m n (C z js) y) i q) in
+      let C = λ (z : List ℕ) (l : List Case). cases asked (map (arm asked site) l) check x.out (length m.steps) z
+      x.alive in
+      let q1 = subst (λ (l : List Case). IsCased m n (C env l) y) g
+      (subst (λ (z : List ℕ). IsCased m n (C z js) y) i q) in
       let made : IsMade m n (matched x.out (C env ks)) r = record {
         written = record { steps = q1.written.steps; fails = q1.written.fails };
         out = j ∙ ap (number_or x.out) q1.out;

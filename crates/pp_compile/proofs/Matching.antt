@@ -55,7 +55,8 @@ four_assoc a b c d q =
     append_assoc a (b ++ (c ++ d)) q ∙ ap (λ l. a ++ l)
     (append_assoc b (c ++ d) q ∙ ap (λ l. b ++ l) (append_assoc c d q))
 
-pub attempt_made : (asked : Option CheckId) (site : Site) (case : Case) (o : Work) (value : ℕ) (env : List ℕ) (reach : ℕ)
+pub attempt_made : (asked : Option CheckId) (site : Site) (case : Case) (o : Work) (value : ℕ) (env : List ℕ)
+    (reach : ℕ)
     {m l w n : Work} {p0 p1 : Tests} {ts inner last : List ℕ} {fits : ℕ} {goes : Goes} {left : Ends}
     → p0.tests ≡ [] → p0.bound ≡ [] → IsFitted o m p0 p1 (fitting case.pattern (length o.steps) value)
     → ts ≡ p1.tests → IsWritten m l (all_of (length m.steps) ts reach) → fits ≡ (all_of (length m.steps) ts reach).out
@@ -63,9 +64,16 @@ pub attempt_made : (asked : Option CheckId) (site : Site) (case : Case) (o : Wor
     → IsDecided l w (deciding (option_map (compile asked site) case.guard) (length l.steps) inner reach fits) goes
     → last ≡ inner
     → IsMade w n (compile asked site case.body (length w.steps) last goes.taken) left
-    → IsTried o n (arm asked site case) value (length o.steps) env reach (record { taken = goes.taken; missed = goes.missed; left = left })
-attempt_made asked site case o value env reach {m = m} {l = l} {w = w} {n = n} {p0 = p0} {p1 = p1} {ts = ts} {inner = inner} {last = last} {fits = fits} {goes = goes} {left = left} z1 z2 hf e ha hn hi hd hl hb =
-    let a : Arm = record { pattern = case.pattern; guard = option_map (compile asked site) case.guard; body = compile asked site case.body } in
+    → IsTried o n (arm asked site case) value (length o.steps) env reach
+    (record { taken = goes.taken; missed = goes.missed; left = left })
+attempt_made asked site case o value env reach {m = m} {l = l} {w = w} {n = n} {p0 = p0} {p1 = p1} {ts = ts}
+    {inner = inner} {last = last} {fits = fits} {goes = goes} {left = left} z1 z2 hf e ha hn hi hd hl hb =
+    let a : Arm = record {
+      pattern = case.pattern;
+      guard = option_map (compile asked site) case.guard;
+      body =
+          compile asked site case.body;
+    } in
     let k = length o.steps in
     let F = fitting case.pattern k value in
     let known = env ++ F.bound in
@@ -77,7 +85,8 @@ attempt_made asked site case o value env reach {m = m} {l = l} {w = w} {n = n} {
     let T = all_of kt F.tests reach in
     let hT0 = subst (λ (q : List ℕ). IsWritten m l (all_of (length m.steps) q reach)) et ha in
     let hT = subst (λ i. IsWritten m l (all_of i F.tests reach)) e1 hT0 in
-    let ef = hn ∙ ap (λ (q : List ℕ). (all_of (length m.steps) q reach).out) et ∙ ap (λ i. (all_of i F.tests reach).out) e1 in
+    let ef = hn ∙ ap (λ (q : List ℕ). (all_of (length m.steps) q reach).out) et
+    ∙ ap (λ i. (all_of i F.tests reach).out) e1 in
     let kg = after kt T in
     let e2 = end_is m l T hT ∙ ap (λ i. after i T) e1 in
     let ei = hi ∙ ap (λ (q : List ℕ). env ++ q) (hf.bound ∙ ap (λ (q : List ℕ). q ++ F.bound) z2) in
@@ -94,7 +103,8 @@ attempt_made asked site case o value env reach {m = m} {l = l} {w = w} {n = n} {
     let end : Attempt = record { taken = G.out.0; missed = G.out.1; out = X.out } in
     let Z : Piece Attempt = record { steps = X.steps; out = end; alive = X.alive; calls = X.calls; fails = X.fails } in
     let hZ : IsWritten w n Z = record { steps = hX.written.steps; fails = hX.written.fails } in
-    subst (λ (q : Arm). IsTried o n q value k env reach (record { taken = goes.taken; missed = goes.missed; left = left })) (sym (arm_is asked site case))
+    subst (λ (q : Arm). IsTried o n q value k env reach
+    (record { taken = goes.taken; missed = goes.missed; left = left })) (sym (arm_is asked site case))
     (record {
       written = written_join o m n P (joined T (joined G Z)) hP
           (written_join m l n T (joined G Z) hT (written_join l w n G Z hG.written hZ));
@@ -129,22 +139,29 @@ case_made asked site check value o env reach cs {case = case} {rest = rest} {m =
     let i = after lk X in
     let end : Attempt = record { taken = G.out.0; missed = G.out.1; out = X.out } in
     let Z : Piece Attempt = record { steps = X.steps; out = end; alive = X.alive; calls = X.calls; fails = X.fails } in
-    let shift = after_joined k P (joined T (joined G Z)) ∙ after_joined (after k P) T (joined G Z) ∙ after_joined kg G Z in
+    let shift = after_joined k P (joined T (joined G Z)) ∙ after_joined (after k P) T (joined G Z)
+    ∙ after_joined kg G Z in
     let e1 : length m.steps ≡ i = end_is o m (attempting a value k env reach) ht.written ∙ shift in
     let Y = cases asked as' check value i env G.out.1 in
     let y1 = subst (λ j. IsCased m l (cases asked as' check value j inner tried.missed) right) e1 hr in
     let y2 = subst (λ (q : List ℕ). IsCased m l (cases asked as' check value i q tried.missed) right) hi y1 in
     let hY = subst (λ j. IsCased m l (cases asked as' check value i env j) right) ht.missed y2 in
     let e2 : length l.steps ≡ after i Y = end_is m l Y hY.written ∙ ap (λ j. after j Y) e1 in
-    let tail = λ (j tk lo la : ℕ) (ro : Option ℕ) (ra : ℕ). plain (steps.Choose tk la ra ∷ pick_step tk lo ro) (picked (suc j) lo ro) j in
-    let t1 = subst (λ j. IsMade l n (tail j tried.taken tried.left.out tried.left.alive right.out right.alive) both) e2 hb in
-    let t2 = subst (λ j. IsMade l n (tail (after i Y) j tried.left.out tried.left.alive right.out right.alive) both) ht.taken t1 in
-    let t3 = subst (λ j. IsMade l n (tail (after i Y) G.out.0 j tried.left.alive right.out right.alive) both) ht.out t2 in
+    let tail = λ (j tk lo la : ℕ) (ro : Option ℕ) (ra : ℕ). plain (steps.Choose tk la ra ∷ pick_step tk lo ro)
+    (picked (suc j) lo ro) j in
+    let t1 = subst (λ j. IsMade l n (tail j tried.taken tried.left.out tried.left.alive right.out right.alive) both) e2
+    hb in
+    let t2 = subst (λ j. IsMade l n (tail (after i Y) j tried.left.out tried.left.alive right.out right.alive) both)
+    ht.taken t1 in
+    let t3 = subst (λ j. IsMade l n (tail (after i Y) G.out.0 j tried.left.alive right.out right.alive) both) ht.out
+    t2 in
     let t4 = subst (λ j. IsMade l n (tail (after i Y) G.out.0 X.out j right.out right.alive) both) ht.alive t3 in
-    let t5 = subst (λ (j : Option ℕ). IsMade l n (tail (after i Y) G.out.0 X.out X.alive j right.alive) both) hY.out t4 in
+    let t5 = subst (λ (j : Option ℕ). IsMade l n (tail (after i Y) G.out.0 X.out X.alive j right.alive) both) hY.out
+    t4 in
     let hT = subst (λ j. IsMade l n (tail (after i Y) G.out.0 X.out X.alive Y.out j) both) hY.alive t5 in
     let L : Piece ℕ = tail (after i Y) G.out.0 X.out X.alive Y.out Y.alive in
-    let whole = written_join o m n (attempting a value k env reach) (joined Y L) ht.written (written_join m l n Y L hY.written hT.written) in
+    let whole = written_join o m n (attempting a value k env reach) (joined Y L) ht.written
+    (written_join m l n Y L hY.written hT.written) in
     subst (λ (q : List Case). IsCased o n (cases asked (map (arm asked site) q) check value k env reach)
     (record { out = Some both.out; alive = both.alive })) (sym is)
     (record {

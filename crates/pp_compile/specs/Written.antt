@@ -74,7 +74,14 @@ attempting arm t k env reach =
     bind n (all_of n p.tests reach) (λ m fits _.
     bind m (deciding arm.guard m inner reach fits) (λ l goes _.
     let x = arm.body l inner goes.0 in
-    record { steps = x.steps; out = record { taken = goes.0; missed = goes.1; out = x.out }; alive = x.alive; calls = x.calls; fails = x.fails })))
+    record {
+      steps = x.steps;
+      out = record { taken = goes.0; missed = goes.1; out = x.out };
+      alive = x.alive;
+      calls =
+          x.calls;
+      fails = x.fails;
+    })))
 
 pub record IsTried (o n : Work) (arm : Arm) (t k : ℕ) (env : List ℕ) (reach : ℕ) (r : Tried) : Type 0 where
   pub written : IsWritten o n (attempting arm t k env reach)

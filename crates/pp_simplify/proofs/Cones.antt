@@ -1,5 +1,5 @@
 -- The numbers of needed steps, marked from the last step down.
-use Rattle.std.proofs.Common.{◌≡◌, ◌⊎◌, ℕ, zero, suc, ◌+◌, ◌-◌, ◌<◌, ◌≤◌, Bool, true, false, List, [], ◌∷◌, length}
+use Rattle.std.proofs.Common.{◌≡◌, ℕ, zero, suc, ◌+◌, ◌-◌, ◌<◌, ◌≤◌, Bool, true, false, List, [], ◌∷◌, length}
 use Rattle.std.proofs.Common.{slice_get, slice_index_or, Some, Contains, replicate, refl, sym, ap, ◌∙◌, subst, inl, inr}
 use Rattle.std.proofs.Common.{arith}
 use Rattle.std.proofs.lemmas.Bool.{false≢true, cases_lt}
@@ -179,7 +179,8 @@ module _ (first asked : ℕ) (ss : List Step) where
       i = length ss - 1 - done
 
       by : (b : Bool) → is_marked old i ≡ b → IsConeFrom i marks
-      by true h = cone_turn i (length ss - done) s old marks reads (omega arith) (at_read ss i s (omega arith) e) h (on h) c
+      by true h = cone_turn i (length ss - done) s old marks reads (omega arith) (at_read ss i s (omega arith) e) h
+          (on h) c
       by false h = subst (IsConeFrom i) (sym (off h)) (cone_skip i (length ss - done) old (omega arith) h c)
 
   pub cone_end : (n : ℕ) (marks : List Bool) → n ≡ 0 → IsConeFrom n marks → AreNeeded first asked ss marks

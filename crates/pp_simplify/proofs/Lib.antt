@@ -1,4 +1,6 @@
-mod Cones
+pub mod Cones
+pub mod Naming
+pub mod Stating
 pub mod Turns
 mod Marking
 mod Replacing

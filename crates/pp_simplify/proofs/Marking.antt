@@ -1,5 +1,5 @@
 -- Marks on numbers, set one after another.
-use Rattle.std.proofs.Common.{◌≡◌, ◌⊎◌, ℕ, zero, suc, ◌+◌, ◌<◌, Bool, true, false, List, [], ◌∷◌, ◌++◌, length}
+use Rattle.std.proofs.Common.{◌≡◌, ◌⊎◌, ℕ, zero, suc, ◌<◌, Bool, true, false, List, [], ◌∷◌, ◌++◌, length}
 use Rattle.std.proofs.Common.{slice_index_or, slice_set, Contains, replicate, refl, sym, ap, ◌∙◌, inl, inr, arith}
 use Rattle.std.proofs.Common.{subst}
 use Rattle.std.proofs.lemmas.Bool.{false≢true}
@@ -59,7 +59,8 @@ contains_either : (xs ys : List ℕ) (k : ℕ) → Contains (xs ++ ys) k → Con
 contains_either [] ys k c = inr c
 contains_either (x ∷ xs) ys k (zero, lt, e) = inl (zero, omega arith, e)
 contains_either (x ∷ xs) ys k (suc i, lt, e) =
-    elim (contains_either xs ys k (i, omega arith, e)) [ inl c ↦ inl (suc c.0, omega (arith, c.1), c.2) | inr c ↦ inr c ]
+    elim (contains_either xs ys k (i, omega arith, e))
+    [ inl c ↦ inl (suc c.0, omega (arith, c.1), c.2) | inr c ↦ inr c ]
 
 pub marks_none : (ms : List Bool) → Marks ms ms []
 marks_none ms = record {

@@ -1,119 +1,66 @@
 -- Steps that are folded one after another.
-use Rattle.std.proofs.Common.{◌≡◌, ℕ, zero, suc, ◌+◌, ◌<◌, Bool, true, false, List, [], ◌∷◌, ◌++◌, length, slice_get}
-use Rattle.std.proofs.Common.{slice_set, Option, Some, None, refl, sym, ap, ◌∙◌, arith, subst, length-append}
-use Rattle.std.specs.Prelude.{MatchOption}
-use Rattle.std.proofs.lemmas.List.{append_assoc}
-use Rattle.std.proofs.lemmas.Option.{same_Some}
+use Rattle.std.proofs.Common.{◌≡◌, ℕ, zero, suc, ◌+◌, ◌<◌, ◌≤◌, Bool, true, false, List, [], ◌∷◌, ◌++◌, length, map}
+use Rattle.std.proofs.Common.{slice_get, slice_index_or, take, Option, Some, None, refl, sym, ap, ◌∙◌, arith, subst}
+use Rattle.std.proofs.Common.{inl, inr}
+use Rattle.std.proofs.lemmas.List.{take_all, take_more}
 use Rattle.pp_prog.specs.declared.id.CtorId.{CtorId}
 use Rattle.pp_steps.specs.declared.step.Step.{Step}
 use Rattle.pp_steps.specs.declared.step.Step.TheVariants as steps
+use Rattle.pp_steps.specs.Compile.{number_or}
 use Rattle.pp_steps.specs.Reads.{AllRead, Below, Reads}
-use Rattle.pp_simplify.specs.Folded.{both, bool_at, bool_of, chosen, folded, folded_rest, taken, tested, turned}
-use Rattle.pp_simplify.specs.Operands.{operands}
+use Rattle.pp_simplify.specs.Folded.{Folding, all_folded, both, bool_at, chosen, folded, folded_from, next}
+use Rattle.pp_simplify.specs.Folded.{nothing_folded, source, taken, tested, turned}
+use Rattle.pp_simplify.specs.Literals.{computed}
+use Rattle.pp_simplify.specs.Names.{Names, named}
+use Rattle.pp_simplify.specs.Operands.{renamed}
 use Rattle.pp_simplify.proofs.Cones.{reads_at}
+use Rattle.pp_simplify.proofs.Stating.{stated_by}
+use Rattle.pp_simplify.proofs.Naming.{IsSource, named_push, source_or}
 
--- the steps of which the first n are folded
-abbrev pub folded_to : ℕ → List Step → List Step → List Step
-folded_to zero news ss = ss
-folded_to (suc n) news [] = []
-folded_to (suc n) news (s ∷ ss) = folded news s ∷ folded_to n (news ++ folded news s ∷ []) ss
+-- steps behind others
+pub folded_behind : (f : Folding) (xs ys : List Step) → folded_from f (xs ++ ys) ≡ folded_from (folded_from f xs) ys
+folded_behind f [] ys = refl
+folded_behind f (x ∷ xs) ys = folded_behind (next f x) xs ys
 
-pub folded_to_length : (n : ℕ) (news ss : List Step) → length (folded_to n news ss) ≡ length ss
-folded_to_length zero news ss = refl
-folded_to_length (suc n) news [] = refl
-folded_to_length (suc n) news (s ∷ ss) = ap suc (folded_to_length n (news ++ folded news s ∷ []) ss)
-
-all_folded : (news ss : List Step) → folded_to (length ss) news ss ≡ folded_rest news ss
-all_folded news [] = refl
-all_folded news (s ∷ ss) = ap (λ l. folded news s ∷ l) (all_folded (news ++ folded news s ∷ []) ss)
-
-pub folded_all : (n : ℕ) (ss : List Step) → n ≡ length ss → folded_to n [] ss ≡ folded_rest [] ss
-folded_all n ss e = ap (λ i. folded_to i [] ss) e ∙ all_folded [] ss
-
-folded_at : (n : ℕ) (news ss : List Step) → slice_get (folded_to n news ss) n ≡ slice_get ss n
-folded_at zero news ss = refl
-folded_at (suc n) news [] = refl
-folded_at (suc n) news (s ∷ ss) = folded_at n (news ++ folded news s ∷ []) ss
-
--- ---- what is folded hangs on the steps that are read
-
-front_get : (xs ys : List Step) (a : ℕ) → a < length xs → slice_get (xs ++ ys) a ≡ slice_get xs a
-front_get [] ys a lt = absurd (omega arith)
-front_get (x ∷ xs) ys zero lt = refl
-front_get (x ∷ xs) ys (suc a) lt = front_get xs ys a (omega arith)
-
-front_folded : (xs ys : List Step) (s : Step) → Below (length xs) (operands s) → folded (xs ++ ys) s ≡ folded xs s
-front_folded xs ys (steps.Not a) b = ap (λ o. turned a (bool_of o)) (front_get xs ys a b.0)
-front_folded xs ys (steps.Both x y) b =
-    ap (λ o. both x y (bool_of o) (bool_at (xs ++ ys) y)) (front_get xs ys x b.0)
-    ∙ ap (λ o. both x y (bool_at xs x) (bool_of o)) (front_get xs ys y b.1.0)
-front_folded xs ys (steps.Choose c x y) b =
-    ap (λ o. chosen c x y (bool_of o) (bool_at (xs ++ ys) x) (bool_at (xs ++ ys) y)) (front_get xs ys c b.0)
-    ∙ ap (λ o. chosen c x y (bool_at xs c) (bool_of o) (bool_at (xs ++ ys) y)) (front_get xs ys x b.1.0)
-    ∙ ap (λ o. chosen c x y (bool_at xs c) (bool_at xs x) (bool_of o)) (front_get xs ys y b.1.1.0)
-front_folded xs ys (steps.IsCtor c n a) b = ap (tested c n a) (front_get xs ys a b.0)
-front_folded xs ys s b = refl
-
-set_same : (xs : List Step) (n : ℕ) (s : Step) → slice_get xs n ≡ Some s → slice_set xs n s ≡ xs
-set_same [] n s at = refl
-set_same (x ∷ xs) zero s at = ap (λ y. y ∷ xs) (sym (same_Some x s at))
-set_same (x ∷ xs) (suc n) s at = ap (λ l. x ∷ l) (set_same xs n s at)
+-- one more step at the end
+pub folded_more : (f : Folding) (ss : List Step) (s : Step) → folded_from f (ss ++ s ∷ []) ≡ next (folded_from f ss) s
+folded_more f ss s = folded_behind f ss (s ∷ [])
 
 -- ---- a turn of the loop
 
-turn_from : (n : ℕ) (news ss : List Step) (s : Step) → slice_get ss n ≡ Some s
-    → Below (length news + n) (operands s)
-    → slice_set (folded_to n news ss) n (folded (news ++ folded_to n news ss) s) ≡ folded_to (suc n) news ss
-turn_from n news [] s at b = absurd (cc)
-turn_from zero news (x ∷ ss) s at b =
-    let none : length news + 0 ≡ length news = omega arith in
-    ap (λ y. y ∷ ss) (front_folded news (x ∷ ss) s (subst (λ k. Below k (operands s)) none b)
-    ∙ ap (folded news) (sym (same_Some x s at)))
-turn_from (suc n) news (x ∷ ss) s at b =
-    let f = folded news x in
-    let more = length-append news (f ∷ []) in
-    let next : length news + suc n ≡ length (news ++ f ∷ []) + n = omega arith in
-    let rest = folded_to n (news ++ f ∷ []) ss in
-    ap (λ l. f ∷ slice_set rest n (folded l s)) (sym (append_assoc news (f ∷ []) rest))
-    ∙ ap (λ l. f ∷ l) (turn_from n (news ++ f ∷ []) ss s at (subst (λ k. Below k (operands s)) next b))
+-- the first i steps are folded
+pub record AreFolded (ss : List Step) (i : ℕ) (news : List Step) (names : Names) : Type 0 where
+  pub steps : news ≡ (all_folded (take i ss)).steps
+  pub named : names ≡ (all_folded (take i ss)).names
 
--- a place has a step
-some_at : (ss : List Step) (n : ℕ) → n < length ss → (s : Step) × (slice_get ss n ≡ Some s)
-some_at [] n lt = absurd (omega arith)
-some_at (x ∷ ss) zero lt = (x, refl)
-some_at (x ∷ ss) (suc n) lt = some_at ss n (omega arith)
+pub folded_turn : (ss : List Step) (i m : ℕ) (s t : Step) (o : Option ℕ) (news more : List Step) (names called : Names)
+    → i < length ss → m ≡ i + 1 → s ≡ slice_index_or ss i s → AreFolded ss i news names
+    → t ≡ folded news (renamed (named names) s) → o ≡ source news t → more ≡ news ++ t ∷ []
+    → called ≡ names ++ o ∷ [] → AreFolded ss m more called
+folded_turn ss i m s t o news more names called lt e item h is from pushed listed =
+    let taken : take m ss ≡ take i ss ++ s ∷ [] =
+    ap (λ n. take n ss) e ∙ take_more ss i s lt ∙ ap (λ x. take i ss ++ x ∷ []) (sym item) in
+    let turn : all_folded (take m ss) ≡ next (all_folded (take i ss)) s =
+    ap all_folded taken ∙ folded_more nothing_folded (take i ss) s in
+    let f : Folding = all_folded (take i ss) in
+    let same : t ≡ folded f.steps (renamed (named f.names) s) =
+    is ∙ ap (λ l. folded l (renamed (named names) s)) h.steps
+    ∙ ap (λ l. folded f.steps (renamed (named l) s)) h.named in
+    record {
+      steps = pushed ∙ ap (λ l. l ++ t ∷ []) h.steps ∙ ap (λ x. f.steps ++ x ∷ []) same
+          ∙ ap (λ (g : Folding). g.steps) (sym turn);
+      named = listed ∙ ap (λ l. l ++ o ∷ []) h.named
+          ∙ ap (λ x. f.names ++ x ∷ []) (from ∙ ap (λ l. source l t) h.steps ∙ ap (source f.steps) same)
+          ∙ ap (λ (g : Folding). g.names) (sym turn);
+    }
 
-module _ (n m : ℕ) (ss now : List Step) (reads : AllRead 0 ss) (is : now ≡ folded_to n [] ss) (lt : n < length ss)
-    (next : m ≡ suc n) (o : Option Step)
-    (folds : (s : Step) → slice_get now n ≡ Some s
-    → MatchOption o (folded now s ≡ s) (λ t. t ≡ folded now s))
-  where
-    here : (s : Step) × (slice_get now n ≡ Some s)
-    here = some_at now n (subst (λ k. n < k) (sym (ap length is ∙ folded_to_length n [] ss)) lt)
-
-    at_old : slice_get ss n ≡ Some here.0
-    at_old = sym (folded_at n [] ss) ∙ ap (λ l. slice_get l n) (sym is) ∙ here.1
-
-    below : Below (0 + n) (operands here.0)
-    below = let e : n ≡ 0 + n = omega arith in
-        subst (λ k. Below k (operands here.0)) e (reads_at ss n here.0 reads at_old)
-
-    turn : slice_set now n (folded now here.0) ≡ folded_to m [] ss
-    turn = ap (λ l. slice_set l n (folded l here.0)) is ∙ turn_from n [] ss here.0 at_old below
-        ∙ ap (λ i. folded_to i [] ss) (sym next)
-
-    pub fold_turn : (after : List Step) (t : Step) → o ≡ Some t → after ≡ slice_set now n t
-        → after ≡ folded_to m [] ss
-    fold_turn after t some set =
-        let f = subst (λ x. MatchOption x (folded now here.0 ≡ here.0) (λ y. y ≡ folded now here.0)) some
-        (folds here.0 here.1) in
-        set ∙ ap (slice_set now n) f ∙ turn
-
-    pub keep_turn : o ≡ None → now ≡ folded_to m [] ss
-    keep_turn none =
-        let f = subst (λ x. MatchOption x (folded now here.0 ≡ here.0) (λ y. y ≡ folded now here.0)) none
-        (folds here.0 here.1) in
-        sym (ap (slice_set now n) f ∙ set_same now n here.0 here.1) ∙ turn
+pub folded_end : (ss : List Step) (i : ℕ) (news : List Step) (names : Names) → length ss ≤ i → AreFolded ss i news names
+    → (news ≡ (all_folded ss).steps) × (names ≡ (all_folded ss).names)
+folded_end ss i news names le h =
+    let all : take i ss ≡ ss = take_all i ss le in (
+      h.steps ∙ ap (λ l. (all_folded l).steps) all,
+      h.named ∙ ap (λ l. (all_folded l).names) all,
+    )
 
 -- ---- folded steps look at earlier ones
 
@@ -148,13 +95,129 @@ folded_reads k news (steps.Both a b) r = both_reads k a b (bool_at news a) (bool
 folded_reads k news (steps.Choose c a b) r =
     chosen_reads k c a b (bool_at news c) (bool_at news a) (bool_at news b) r.0 r.1 r.2
 folded_reads k news (steps.IsCtor c n a) r = tested_reads k c n a (slice_get news a) r
-folded_reads k news s r = r
+folded_reads k news s r = stated_by (Reads k) s (computed news s) r (λ n e. tt) (λ b e. tt)
 
-pub rest_reads : (k : ℕ) (news ss : List Step) → AllRead k ss → AllRead k (folded_rest news ss)
-rest_reads k news [] r = tt
-rest_reads k news (s ∷ ss) r =
-    (folded_reads k news s r.0, rest_reads (suc k) (news ++ folded news s ∷ []) ss r.1)
+-- ---- and so do their names
 
-pub rest_length : (news ss : List Step) → length (folded_rest news ss) ≡ length ss
-rest_length news [] = refl
-rest_length news (s ∷ ss) = ap suc (rest_length (news ++ folded news s ∷ []) ss)
+module _ (r : ℕ → ℕ) (k : ℕ) (low : (a : ℕ) → r a ≤ a) where
+  lower : (a : ℕ) → a < k → r a < k
+  lower a lt = let le = low a in omega arith
+
+  all_lower : (ns : List ℕ) → Below k ns → Below k (map r ns)
+  all_lower [] b = tt
+  all_lower (n ∷ ns) b = (lower n b.0, all_lower ns b.1)
+
+  renamed_reads : (s : Step) → Reads k s → Reads k (renamed r s)
+  renamed_reads (steps.Open s) b = tt
+  renamed_reads (steps.Int n) b = tt
+  renamed_reads (steps.Bool v) b = tt
+  renamed_reads (steps.Not a) b = lower a b
+  renamed_reads (steps.Both x y) b = (lower x b.0, lower y b.1)
+  renamed_reads (steps.Choose c x y) b = (lower c b.0, lower x b.1, lower y b.2)
+  renamed_reads (steps.Unary op a) b = lower a b
+  renamed_reads (steps.Binary op x y) b = (lower x b.0, lower y b.1)
+  renamed_reads (steps.Construct c fields) b = all_lower fields b
+  renamed_reads (steps.IsCtor c n a) b = lower a b
+  renamed_reads (steps.CtorField c i a) b = lower a b
+  renamed_reads (steps.Field a i) b = lower a b
+  renamed_reads (steps.IsAlike x y) b = (lower x b.0, lower y b.1)
+  renamed_reads (steps.GoesDown x y) b = (lower x b.0, lower y b.1)
+
+-- the steps look at earlier ones, each has a name or none, and no name is a later step
+pub record Reading (f : Folding) : Type 0 where
+  pub reads : AllRead 0 f.steps
+  pub many : length f.names ≡ length f.steps
+  pub low : (k : ℕ) → named f.names k ≤ k
+
+plus_zero : (k : ℕ) → k + 0 ≡ k
+plus_zero k = omega arith
+
+add_suc : (k n : ℕ) → k + suc n ≡ suc k + n
+add_suc k n = omega arith
+
+reads_push : (k : ℕ) (ss : List Step) (t : Step) → AllRead k ss → Reads (k + length ss) t → AllRead k (ss ++ t ∷ [])
+reads_push k [] t reads r = (subst (λ n. Reads n t) (plus_zero k) r, tt)
+reads_push k (x ∷ ss) t reads r =
+    (reads.0, reads_push (suc k) ss t reads.1 (subst (λ n. Reads n t) (add_suc k (length ss)) r))
+
+at_most : (k : ℕ) → k ≤ k
+at_most k = omega arith
+
+within : (k n a : ℕ) → n < a → a < k → n < k
+within k n a l m = omega arith
+
+less : (k a : ℕ) → a < k → a ≤ k
+less k a l = omega arith
+
+pub push_length : {X : Type 0} (xs : List X) (y : X) → length (xs ++ y ∷ []) ≡ suc (length xs)
+push_length [] y = refl
+push_length (x ∷ xs) y = ap suc (push_length xs y)
+
+listed : (fields : List ℕ) (i n : ℕ) → slice_get fields i ≡ Some n → (k : ℕ) → Below k fields → n < k
+listed [] i n at k b = absurd (cc)
+listed (x ∷ fields) zero n at k b = let e : x ≡ n = same x n at in subst (λ y. y < k) e b.0
+  where
+    same : (x y : ℕ) → Some x ≡ Some y → x ≡ y
+    same x y e = cc
+listed (x ∷ fields) (suc i) n at k b = listed fields i n at k b.1
+
+-- the source of a step is an earlier one
+pub source_below : (k : ℕ) (news : List Step) (t : Step) (n : ℕ) → AllRead 0 news → Reads k t → IsSource news t n
+    → n < k
+source_below k news t n reads r (inl h) = let b = subst (Reads k) h.is r in b.1
+source_below k news t n reads r (inr h) =
+    within k n h.operand
+    (listed h.fields h.place n h.there h.operand (reads_at news h.operand (steps.Construct h.made h.fields) reads h.at))
+    (subst (Reads k) h.is r)
+
+-- what stands in the place of a step looks at earlier ones
+pub next_reads : (f : Folding) (s : Step) → Reading f → Reads (length f.steps) s
+    → Reads (length f.steps) (folded f.steps (renamed (named f.names) s))
+next_reads f s h r =
+    folded_reads (length f.steps) f.steps (renamed (named f.names) s)
+    (renamed_reads (named f.names) (length f.steps) h.low s r)
+
+pub reading_next : (f : Folding) (s : Step) → Reading f → Reads (length f.steps) s → Reading (next f s)
+reading_next f s h r =
+    let k = length f.steps in
+    let t = folded f.steps (renamed (named f.names) s) in
+    let is = next_reads f s h r in
+    record {
+      reads = reads_push 0 f.steps t h.reads (subst (λ n. Reads n t) (sym (zero_plus k)) is);
+      many = push_length f.names (source f.steps t) ∙ ap suc h.many ∙ sym (push_length f.steps t);
+      low = named_push (λ i n. n ≤ i) f.names (source f.steps t) h.low
+          (subst (λ n. number_or n (source f.steps t) ≤ n) (sym h.many)
+          (source_or f.steps (λ n. n ≤ k) k t (at_most k) (λ n o. less k n (source_below k f.steps t n h.reads is o))));
+    }
+  where
+    zero_plus : (k : ℕ) → 0 + k ≡ k
+    zero_plus k = omega arith
+
+pub reading_from : (f : Folding) (ss : List Step) → Reading f → AllRead (length f.steps) ss
+    → Reading (folded_from f ss)
+reading_from f [] h reads = h
+reading_from f (s ∷ ss) h reads =
+    let t = folded f.steps (renamed (named f.names) s) in
+    reading_from (next f s) ss (reading_next f s h reads.0)
+    (subst (λ n. AllRead n ss) (sym (push_length f.steps t)) reads.1)
+
+pub reading_nothing : Reading nothing_folded
+reading_nothing = record { reads = tt; many = refl; low = λ k. at_most k }
+
+pub reading : (ss : List Step) → AllRead 0 ss → Reading (all_folded ss)
+reading ss reads = reading_from nothing_folded ss reading_nothing reads
+
+-- ---- and they are as many
+
+many_from : (f : Folding) (ss : List Step) → length (folded_from f ss).steps ≡ length f.steps + length ss
+many_from f [] = sym (plus_zero (length f.steps))
+many_from f (s ∷ ss) =
+    let t = folded f.steps (renamed (named f.names) s) in
+    many_from (next f s) ss ∙ ap (λ n. n + length ss) (push_length f.steps t)
+    ∙ sym (add_suc (length f.steps) (length ss))
+
+pub as_many : (ss : List Step) → length (all_folded ss).steps ≡ length ss
+as_many ss = many_from nothing_folded ss ∙ zero_plus (length ss)
+  where
+    zero_plus : (k : ℕ) → 0 + k ≡ k
+    zero_plus k = omega arith

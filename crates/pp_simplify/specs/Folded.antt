@@ -1,10 +1,13 @@
--- Steps whose values are known before the run: what stands in their place. Source: own; constant folding, as compilers do
--- it on straight-line code.
-use Rattle.std.specs.Prelude.{ℕ, nat_eq, Bool, true, false, not, ◌&&◌, List, [], ◌∷◌, ◌++◌, Option, Some, None, length}
-use Rattle.std.specs.Prelude.{slice_get}
+-- Steps whose values are known before the run: what stands in their place. Source: own; constant folding, as compilers
+-- do it on straight-line code.
+use Rattle.std.specs.Prelude.{ℕ, nat_eq, Bool, true, false, not, ◌&&◌, if◌then◌else◌, List, [], ◌∷◌, ◌++◌, Option}
+use Rattle.std.specs.Prelude.{Some, None, length, slice_get}
 use Rattle.pp_prog.specs.declared.id.CtorId.{CtorId}
 use Rattle.pp_steps.specs.declared.step.Step.{Step}
 use Rattle.pp_steps.specs.declared.step.Step.TheVariants as steps
+use Rattle.pp_simplify.specs.Literals.{computed, stated}
+use Rattle.pp_simplify.specs.Names.{Names, named}
+use Rattle.pp_simplify.specs.Operands.{renamed}
 
 abbrev pub bool_of : Option Step → Option Bool
 bool_of (Some (steps.Bool b)) = Some b
@@ -49,9 +52,39 @@ folded news (steps.Not a) = turned a (bool_at news a)
 folded news (steps.Both a b) = both a b (bool_at news a) (bool_at news b)
 folded news (steps.Choose c a b) = chosen c a b (bool_at news c) (bool_at news a) (bool_at news b)
 folded news (steps.IsCtor c n a) = tested c n a (slice_get news a)
-folded news s = s
+folded news s = stated s (computed news s)
 
--- the steps behind these ones, each in its turn
-abbrev pub folded_rest : List Step → List Step → List Step
-folded_rest news [] = []
-folded_rest news (s ∷ ss) = folded news s ∷ folded_rest (news ++ folded news s ∷ []) ss
+-- the field at the place, of a step that makes the constructor
+abbrev pub field_of : CtorId → ℕ → Option Step → Option ℕ
+field_of c i (Some (steps.Construct d fields)) = if nat_eq c.0 d.0 then slice_get fields i else None
+field_of c i o = None
+
+-- the earlier step that has the value of a step behind these steps, where one is known: the step that is chosen where
+-- there is no other, or the field of what was made
+abbrev pub source : List Step → Step → Option ℕ
+source news (steps.Choose c a b) = if nat_eq a b then Some a else None
+source news (steps.CtorField c i a) = field_of c i (slice_get news a)
+source news s = None
+
+-- folded steps, and the names of those that have an earlier step's value
+pub record Folding : Type 0 where
+  pub steps : List Step
+  pub names : Names
+
+-- with one more step, whose operands are named first
+abbrev pub next : Folding → Step → Folding
+next f s =
+    let t = folded f.steps (renamed (named f.names) s) in
+    record { steps = f.steps ++ t ∷ []; names = f.names ++ source f.steps t ∷ [] }
+
+-- with these steps behind, each in its turn
+abbrev pub folded_from : Folding → List Step → Folding
+folded_from f [] = f
+folded_from f (s ∷ ss) = folded_from (next f s) ss
+
+abbrev pub nothing_folded : Folding
+nothing_folded = record { steps = []; names = [] }
+
+-- the folded steps, and their names
+abbrev pub all_folded : List Step → Folding
+all_folded = folded_from nothing_folded

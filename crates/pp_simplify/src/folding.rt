@@ -1,35 +1,73 @@
 //! Steps whose values are known before the run.
 
-ghost use Rattle.std.specs.Prelude.{◌≡◌, [], Some, slice_get, MatchOption};
+ghost use Rattle.std.specs.Prelude.{◌≡◌, slice_get, IfOk, MatchOption};
 ghost use Rattle.pp_steps.specs.declared.step.Step.{Step};
 ghost use Rattle.pp_steps.specs.declared.step.Step.TheVariants as steps;
-ghost use Rattle.pp_steps.specs.Reads.{AllRead};
 ghost use Rattle.pp_simplify.specs.Folded as spec;
+ghost use Rattle.pp_simplify.specs.Names.{named};
+ghost use Rattle.pp_simplify.specs.Operands.{renamed};
 
-use pp_list::at;
+use crate::NoMemory;
+use crate::literals::literal;
+use crate::renaming::{self, Names};
+use pp_list::{Items, at};
 use pp_prog::CtorId;
 use pp_steps::{Step, Steps};
+use std::alloc::Global;
 
-/// Puts in the place of each step what is known of its value.
-pub(crate) fn fold(steps: &mut Steps)
-    requires { AllRead 0 steps.old }
-    ensures { steps.new ≡ spec.folded_rest [] steps.old }
+/// The steps, each with what is known of its value in its place, and the names of those that have an earlier step's
+/// value.
+pub(crate) struct Folding {
+    pub steps: Steps,
+    pub names: Names,
+}
+
+/// Folds the steps, from the first one on. The only error is want of memory.
+pub(crate) fn fold(alloc: Global, steps: &[Step]) -> Result<Folding, NoMemory>
+    ensures steps { IfOk result (λ f. f.steps ≡ (spec.all_folded steps.now).steps) }
+    ensures names { IfOk result (λ f. f.names ≡ (spec.all_folded steps.now).names) }
 {
-    for number in 0..steps.len() {
-        if let Some(step) = folded_at(steps.as_slice(), number) {
-            steps.set(number, step);
-        }
+    let mut news = Items::new(alloc);
+    let mut names = Items::new(alloc);
+    for step in steps {
+        let new = next(alloc, news.as_slice(), names.as_slice(), step)?;
+        names.push(source(news.as_slice(), &new))?;
+        news.push(new)?;
+    }
+    Ok(Folding { steps: news, names })
+}
+
+/// What stands behind these steps in the place of the step, whose operands have these names.
+fn next(alloc: Global, news: &[Step], names: &[Option<u32>], step: &Step) -> Result<Step, NoMemory>
+    ensures { IfOk result (λ t. t ≡ spec.folded news.now (renamed (named names.now) step.now)) }
+{
+    let step = renaming::renamed(alloc, names, step)?;
+    match folded(news, &step) {
+        Some(new) => Ok(new),
+        None => Ok(step),
     }
 }
 
-/// What stands in the place of the step with the number, if another one does.
-fn folded_at(steps: &[Step], number: usize) -> Option<Step>
-    ensures { (s : Step) → slice_get steps.now number ≡ Some s
-        → MatchOption result (spec.folded steps.now s ≡ s) (λ t. t ≡ spec.folded steps.now s) }
+/// The earlier step that has the value of the step behind these ones, where one is known.
+fn source(news: &[Step], step: &Step) -> Option<u32>
+    ensures { result ≡ spec.source news.now step.now }
 {
-    match at(steps, number) {
-        Some(step) => folded(steps, step),
-        None => None,
+    match step {
+        Step::Choose(_, a, b) if a == b => Some(*a),
+        Step::CtorField(ctor, place, a) => field(news, *ctor, *place, *a),
+        _ => None,
+    }
+}
+
+/// The field of the constructor at the place, where the step with the number makes that constructor.
+fn field(news: &[Step], ctor: CtorId, place: u32, a: u32) -> Option<u32>
+    ensures { result ≡ spec.field_of ctor place (slice_get news.now a) }
+{
+    match at(news, a as usize) {
+        Some(Step::Construct(made, fields)) if ctor.0 == made.0 => {
+            fields.get(place as usize).copied()
+        }
+        _ => None,
     }
 }
 
@@ -46,7 +84,7 @@ fn folded(news: &[Step], step: &Step) -> Option<Step>
             chosen(*c, *a, *b, bool_at(news, *c), left, right)
         }
         Step::IsCtor(ctor, count, a) => tested(news, *ctor, *count, *a),
-        _ => None,
+        _ => literal(news, step),
     }
 }
 

@@ -1,27 +1,36 @@
 //! Steps for which nothing asked is replaced by constants.
 
-ghost use Rattle.std.specs.Prelude.{◌≡◌, ◌<◌, ◌≤◌, [], length, IfOk, OnOk};
+ghost use Rattle.std.specs.Prelude.{◌≡◌, ◌<◌, ◌≤◌, length, IfOk, OnOk};
 ghost use Rattle.pp_steps.specs.Reads.{AllRead};
-ghost use Rattle.pp_simplify.specs.Folded.{folded_rest};
+ghost use Rattle.pp_simplify.specs.Folded.{all_folded};
+ghost use Rattle.pp_simplify.specs.Names.{named};
 ghost use Rattle.pp_simplify.specs.Pruned.{AreNeeded, IsPruned};
 
 use crate::NoMemory;
-use crate::folding::fold;
+use crate::folding::{Folding, fold};
 use crate::marks::{mark, mark_through};
+use crate::renaming::named;
 use pp_steps::{Step, Steps};
 use std::alloc::Global;
 
 /// Puts what is known of a step in its place, and then a constant in the place of each step on which neither one of the
-/// first ones, as many as are said, nor the asked one stands. The only error is want of memory.
-pub fn simplify(alloc: Global, steps: &mut Steps, first: usize, asked: u32) -> Result<(), NoMemory>
+/// first ones, as many as are said, nor the one that has the asked one's value stands: the number of this one. The only
+/// error is want of memory.
+pub fn simplify(alloc: Global, steps: &mut Steps, first: usize, asked: u32) -> Result<u32, NoMemory>
     requires reads { AllRead 0 steps.old }
     requires first { first ≤ length steps.old }
     requires asked { asked < length steps.old }
-    ensures { OnOk result (IsPruned first asked (folded_rest [] steps.old) steps.new) }
+    ensures asked { IfOk result (λ n. n ≡ named (all_folded steps.old).names asked) }
+    ensures pruned { IfOk result (λ n. IsPruned first n (all_folded steps.old).steps steps.new) }
 {
-    fold(steps);
-    prune(alloc, steps, first, asked)?;
-    Ok(())
+    let Folding {
+        steps: folded,
+        names,
+    } = fold(alloc, steps.as_slice())?;
+    *steps = folded;
+    let name = named(names.as_slice(), asked);
+    prune(alloc, steps, first, name)?;
+    Ok(name)
 }
 
 /// Puts a constant in the place of each step on which neither one of the first ones, as many as are said, nor the asked

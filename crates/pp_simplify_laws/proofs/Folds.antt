@@ -1,9 +1,9 @@
 -- Folded steps do what the old ones do.
-use Rattle.std.proofs.Common.{◌≡◌, ℕ, zero, suc, ◌+◌, ◌<◌, ◌≤◌, Bool, true, false, List, [], ◌∷◌, ◌++◌, length, map}
-use Rattle.std.proofs.Common.{slice_get, Option, Some, None, refl, sym, ap, ◌∙◌, subst, arith, length-append}
+use Rattle.std.proofs.Common.{◌≡◌, ℕ, zero, suc, ◌+◌, Bool, true, false, List, [], ◌∷◌, ◌++◌, length, map}
+use Rattle.std.proofs.Common.{slice_get, Option, Some, None, refl, sym, ap, ◌∙◌, subst, arith}
 use Rattle.std.specs.Prelude.{if◌then◌else◌, not, ◌&&◌, nat_eq}
 use Rattle.std.proofs.lemmas.Bool.{false≢true}
-use Rattle.std.proofs.lemmas.List.{append_assoc, length-map}
+use Rattle.std.proofs.lemmas.List.{length-map}
 use Rattle.std.proofs.lemmas.Option.{same_Some}
 use Rattle.pp_prog.specs.declared.id.CtorId.{CtorId}
 use Rattle.pp_prog.specs.declared.sort.Sort.{Sort}
@@ -11,23 +11,23 @@ use Rattle.pp_prog.specs.declared.sort.Sort.TheVariants as sort
 use Rattle.pp_prog.specs.declared.types.Ctor.{Ctor}
 use Rattle.pp_prog.specs.declared.types.TypeTable.{TypeTable}
 use Rattle.pp_prog.specs.declared.value.Value.{Value}
-use Rattle.pp_prog.specs.declared.value.Value.TheVariants.{Bool as Truth, Tree, outs-Bool, outs-Tree}
+use Rattle.pp_prog.specs.declared.value.Value.TheVariants.{Bool as Truth, outs-Bool, outs-Tree}
 use Rattle.pp_steps.specs.declared.step.Step.{Step}
 use Rattle.pp_steps.specs.declared.step.Step.TheVariants as steps
-use Rattle.pp_steps.specs.Known.{AllTell, Tells}
+use Rattle.pp_steps.specs.Known.{Tells}
 use Rattle.pp_steps.specs.Meaning.{Does, Missing, Obeys, Values, bit, bit_in, has_ctor, has_ctor_in}
 use Rattle.pp_steps.specs.Sorted.{AllSorted, IsSorted, Sorts}
-use Rattle.pp_simplify.specs.Folded.{both, bool_at, bool_of, chosen, folded, folded_rest, taken, tested, turned}
+use Rattle.pp_simplify.specs.Folded.{both, bool_at, bool_of, chosen, folded, taken, tested, turned}
+use Rattle.pp_simplify.specs.Literals.{computed, stated}
+use Rattle.pp_simplify.proofs.Stating.{stated_by}
+use Rattle.pp_simplify_laws.proofs.Computed.{computed_does, computed_sorted}
+use Rattle.pp_simplify_laws.proofs.Forms.{tells_anyway}
 
 plus_zero : (k : ℕ) → k + 0 ≡ k
 plus_zero k = omega arith
 
 add_suc : (k n : ℕ) → k + suc n ≡ suc k + n
 add_suc k n = omega arith
-
-pub push_length : (news : List Step) (t : Step) → length (news ++ t ∷ []) ≡ suc (length news)
-push_length [] t = refl
-push_length (x ∷ news) t = ap suc (push_length news t)
 
 bool_is : (o : Option Step) (b : Bool) → bool_of o ≡ Some b → o ≡ Some (steps.Bool b)
 bool_is (Some (steps.Bool v)) b e = ap (λ x. Some (steps.Bool x)) (same_Some v b e)
@@ -62,13 +62,13 @@ module _ (ctors : List Ctor) (missing : Missing) (ρ : Values) where
     here : (i : ℕ) → 0 + i ≡ i
     here i = omega arith
 
-    value_of : (i : ℕ) (s : Step) → slice_get news i ≡ Some s → Does ctors missing ρ s (ρ i)
+    pub value_of : (i : ℕ) (s : Step) → slice_get news i ≡ Some s → Does ctors missing ρ s (ρ i)
     value_of i s at = subst (λ j. Does ctors missing ρ s (ρ j)) (here i) (does_at 0 news i s obeys at)
 
     truth_at : (a : ℕ) (b : Bool) → bool_at news a ≡ Some b → ρ a ≡ Truth b
     truth_at a b e = value_of a (steps.Bool b) (bool_is (slice_get news a) b e)
 
-    bit_at : (a : ℕ) (b : Bool) → bool_at news a ≡ Some b → bit (ρ a) ≡ b
+    pub bit_at : (a : ℕ) (b : Bool) → bool_at news a ≡ Some b → bit (ρ a) ≡ b
     bit_at a b e = ap bit (truth_at a b e) ∙ truth_bit b
 
     -- ---- values
@@ -120,7 +120,7 @@ module _ (ctors : List Ctor) (missing : Missing) (ρ : Values) where
     folded_does (steps.Choose c a b) v d =
         chosen_does c a b v (bool_at news c) (bool_at news a) (bool_at news b) refl refl refl d
     folded_does (steps.IsCtor c n a) v d = tested_does c n a v (slice_get news a) refl d
-    folded_does s v d = d
+    folded_does s v d = computed_does ctors missing ρ news value_of s v d
 
     -- ---- what is known
 
@@ -152,50 +152,22 @@ module _ (ctors : List Ctor) (missing : Missing) (ρ : Values) where
       tested_tells c n a (Some (steps.Construct d fields)) t = λ x. t
       tested_tells c n a o t = t
 
+      computed_tells : (s : Step) → Tells ρ K (stated s (computed news s)) k → Tells ρ K s k
+      computed_tells s t = stated_by (λ u. Tells ρ K u k → Tells ρ K s k) s (computed news s) (λ h. h)
+          (λ n e h. tells_anyway ρ K k s h) (λ b e h. tells_anyway ρ K k s h) t
+
       pub folded_tells : (s : Step) → Tells ρ K (folded news s) k → Tells ρ K s k
       folded_tells (steps.Not a) t = turned_tells a (bool_at news a) t
       folded_tells (steps.Both a b) t = both_tells a b (bool_at news a) (bool_at news b) t
       folded_tells (steps.Choose c a b) t =
           chosen_tells c a b (bool_at news c) (bool_at news a) (bool_at news b) refl t
       folded_tells (steps.IsCtor c n a) t = tested_tells c n a (slice_get news a) t
-      folded_tells s t = t
-
-  -- ---- all steps
-
-  pub rest_obeys : (news ss : List Step) → Obeys ctors missing ρ 0 news → Obeys ctors missing ρ (length news) ss
-      → Obeys ctors missing ρ (length news) (folded_rest news ss)
-  rest_obeys news [] before obeys = tt
-  rest_obeys news (s ∷ ss) before obeys =
-      let t = folded news s in
-      let does = folded_does news before s (ρ (length news)) obeys.0 in
-      let more = obeys_push 0 news t before
-      (subst (λ j. Does ctors missing ρ t (ρ j)) (sym (here news before (length news))) does) in (
-        does,
-        subst (λ j. Obeys ctors missing ρ j (folded_rest (news ++ t ∷ []) ss)) (push_length news t)
-            (rest_obeys (news ++ t ∷ []) ss more
-            (subst (λ j. Obeys ctors missing ρ j ss) (sym (push_length news t)) obeys.1)),
-      )
-
-  pub rest_tells : (K : ℕ → Type 0) (news ss : List Step) → Obeys ctors missing ρ 0 news
-      → Obeys ctors missing ρ (length news) ss → AllTell ρ K (length news) (folded_rest news ss)
-      → AllTell ρ K (length news) ss
-  rest_tells K news [] before obeys tells = tt
-  rest_tells K news (s ∷ ss) before obeys tells =
-      let t = folded news s in
-      let does = folded_does news before s (ρ (length news)) obeys.0 in
-      let more = obeys_push 0 news t before
-      (subst (λ j. Does ctors missing ρ t (ρ j)) (sym (here news before (length news))) does) in (
-        folded_tells news before K (length news) s tells.0,
-        subst (λ j. AllTell ρ K j ss) (push_length news t)
-            (rest_tells K (news ++ t ∷ []) ss more
-            (subst (λ j. Obeys ctors missing ρ j ss) (sym (push_length news t)) obeys.1)
-            (subst (λ j. AllTell ρ K j (folded_rest (news ++ t ∷ []) ss)) (sym (push_length news t)) tells.1)),
-      )
+      folded_tells s t = computed_tells s t
 
 -- ---- sorts
 
 module _ (types : TypeTable) (σ : Sorts) where
-  sorted_at : (k : ℕ) (ss : List Step) (i : ℕ) (s : Step) → AllSorted types σ k ss → slice_get ss i ≡ Some s
+  pub sorted_at : (k : ℕ) (ss : List Step) (i : ℕ) (s : Step) → AllSorted types σ k ss → slice_get ss i ≡ Some s
       → IsSorted types σ s (σ (k + i))
   sorted_at k [] i s all at = absurd (cc)
   sorted_at k (x ∷ ss) zero s all at =
@@ -204,7 +176,7 @@ module _ (types : TypeTable) (σ : Sorts) where
   sorted_at k (x ∷ ss) (suc i) s all at =
       subst (λ j. IsSorted types σ s (σ j)) (sym (add_suc k i)) (sorted_at (suc k) ss i s all.1 at)
 
-  sorted_push : (k : ℕ) (ss : List Step) (t : Step) → AllSorted types σ k ss
+  pub sorted_push : (k : ℕ) (ss : List Step) (t : Step) → AllSorted types σ k ss
       → IsSorted types σ t (σ (k + length ss)) → AllSorted types σ k (ss ++ t ∷ [])
   sorted_push k [] t all is = (subst (λ j. IsSorted types σ t (σ j)) (plus_zero k) is, tt)
   sorted_push k (x ∷ ss) t all is = (
@@ -216,9 +188,11 @@ module _ (types : TypeTable) (σ : Sorts) where
     from : (i : ℕ) → 0 + i ≡ i
     from i = omega arith
 
+    step_sort : (i : ℕ) (s : Step) → slice_get news i ≡ Some s → IsSorted types σ s (σ i)
+    step_sort i s at = subst (λ j. IsSorted types σ s (σ j)) (from i) (sorted_at 0 news i s all at)
+
     bool_sort : (a : ℕ) (b : Bool) → bool_at news a ≡ Some b → σ a ≡ sort.Bool
-    bool_sort a b e =
-        subst (λ j. σ j ≡ sort.Bool) (from a) (sorted_at 0 news a (steps.Bool b) all (bool_is (slice_get news a) b e))
+    bool_sort a b e = step_sort a (steps.Bool b) (bool_is (slice_get news a) b e)
 
     turned_sorted : (a : ℕ) (t : Sort) (o : Option Bool) → IsSorted types σ (steps.Not a) t
         → IsSorted types σ (turned a o) t
@@ -250,24 +224,10 @@ module _ (types : TypeTable) (σ : Sorts) where
     tested_sorted c n a t (Some (steps.Construct d fields)) h = h.1
     tested_sorted c n a t o h = h
 
-    folded_sorted : (s : Step) (t : Sort) → IsSorted types σ s t → IsSorted types σ (folded news s) t
+    pub folded_sorted : (s : Step) (t : Sort) → IsSorted types σ s t → IsSorted types σ (folded news s) t
     folded_sorted (steps.Not a) t h = turned_sorted a t (bool_at news a) h
     folded_sorted (steps.Both a b) t h = both_sorted a b t (bool_at news a) (bool_at news b) h
     folded_sorted (steps.Choose c a b) t h =
         chosen_sorted c a b t (bool_at news c) (bool_at news a) (bool_at news b) refl refl h
     folded_sorted (steps.IsCtor c n a) t h = tested_sorted c n a t (slice_get news a) h
-    folded_sorted s t h = h
-
-  pub rest_sorted : (news ss : List Step) → AllSorted types σ 0 news → AllSorted types σ (length news) ss
-      → AllSorted types σ (length news) (folded_rest news ss)
-  rest_sorted news [] before all = tt
-  rest_sorted news (s ∷ ss) before all =
-      let t = folded news s in
-      let is = folded_sorted news before s (σ (length news)) all.0 in
-      let more = sorted_push 0 news t before
-      (subst (λ j. IsSorted types σ t (σ j)) (sym (from news before (length news))) is) in (
-        is,
-        subst (λ j. AllSorted types σ j (folded_rest (news ++ t ∷ []) ss)) (push_length news t)
-            (rest_sorted (news ++ t ∷ []) ss more
-            (subst (λ j. AllSorted types σ j ss) (sym (push_length news t)) all.1)),
-      )
+    folded_sorted s t h = computed_sorted types σ news step_sort s t h

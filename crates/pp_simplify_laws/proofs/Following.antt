@@ -1,16 +1,21 @@
 -- Steps that follow others: what they do for the arguments and the step that is asked for.
-use Rattle.std.proofs.Common.{◌≡◌, ℕ, ◌<◌, List, [], refl, ap, ◌∙◌, true, false, Bool}
+use Rattle.std.proofs.Common.{◌≡◌, ℕ, ◌<◌, List, ◌++◌, false, length, map, refl, sym, ap, ◌∙◌, subst}
 use Rattle.std.specs.Prelude.{if◌then◌else◌}
+use Rattle.pp_prog.specs.declared.sort.Sort.{Sort}
 use Rattle.pp_prog.specs.declared.types.Ctor.{Ctor}
 use Rattle.pp_prog.specs.declared.value.Value.TheVariants.{Bool as Truth}
 use Rattle.pp_steps.specs.declared.step.Step.{Step}
+use Rattle.pp_steps.specs.Frames.{open_step}
 use Rattle.pp_steps.specs.Known.{AllTell}
 use Rattle.pp_steps.specs.Meaning.{Missing, Obeys, Values}
-use Rattle.pp_simplify.specs.Folded.{folded_rest}
+use Rattle.pp_steps.specs.Reads.{AllRead}
+use Rattle.pp_simplify.specs.Folded.{all_folded}
 use Rattle.pp_simplify.specs.Marks.{is_marked}
+use Rattle.pp_simplify.specs.Names.{named}
 use Rattle.pp_simplify.specs.Pruned.{IsPruned}
+use Rattle.pp_simplify_laws.specs.Fully.{IsFully, folded_known, fully}
 use Rattle.pp_simplify_laws.specs.Kept.{kept_known, kept_values}
-use Rattle.pp_simplify_laws.proofs.FoldLaws.{folded_obey, folded_tell}
+use Rattle.pp_simplify_laws.proofs.FoldLaws.{folded_obey, folded_tell, opens_fully}
 use Rattle.pp_simplify_laws.proofs.Laws.{pruned_keep, pruned_obey, pruned_tell}
 
 -- where K says of the new numbers what is known, so much is known of the old ones
@@ -47,20 +52,27 @@ follows_pruned ctors missing first asked old new ρ is obeys =
       };
     }
 
-pub follows_folded : (ctors : List Ctor) (missing : Missing) (many asked : ℕ) (old : List Step) (ρ : Values)
-    → Obeys ctors missing ρ 0 old → Follows ctors missing many asked asked old (folded_rest [] old) ρ
-follows_folded ctors missing many asked old ρ obeys = record {
-  values = ρ;
-  obeys = folded_obey old ctors missing ρ obeys;
-  front = λ k lt. refl;
-  target = refl;
-  learns = λ K tells. record {
-    known = K;
-    tells = folded_tell K old ctors missing ρ obeys tells;
-    front = λ k lt known. known;
-    target = λ known. known;
-  };
-}
+known_fully : (news : List Step) (K : ℕ → Type 0) (k : ℕ) → IsFully news K k → K k
+known_fully news K k (fully j known fields) = known
+
+pub follows_folded : (ctors : List Ctor) (missing : Missing) (params : List Sort) (rest : List Step) (asked : ℕ)
+    (old : List Step) (ρ : Values) → old ≡ map open_step params ++ rest → AllRead 0 old → Obeys ctors missing ρ 0 old
+    → Follows ctors missing (length params) asked (named (all_folded old).names asked) old (all_folded old).steps ρ
+follows_folded ctors missing params rest asked old ρ split reads obeys =
+    let agree = folded_obey old reads ctors missing ρ obeys in
+    record {
+      values = ρ;
+      obeys = agree.obeys;
+      front = λ k lt. refl;
+      target = agree.same asked;
+      learns = λ K tells. record {
+        known = folded_known (all_folded old) K;
+        tells = folded_tell K old reads ctors missing ρ obeys tells;
+        front = λ k lt known. subst (λ l. folded_known (all_folded l) K k) (sym split)
+            (opens_fully K params rest k lt known);
+        target = known_fully (all_folded old).steps K (named (all_folded old).names asked);
+      };
+    }
 
 -- steps that follow steps that follow others
 pub follows_more : (ctors : List Ctor) (missing : Missing) (many a b c : ℕ) (old mid new : List Step) (ρ : Values)

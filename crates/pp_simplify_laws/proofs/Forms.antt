@@ -1,10 +1,9 @@
 -- Steps with renamed operands do the same, where the operands have the same values, sorts and heights.
-use Rattle.std.proofs.Common.{◌≡◌, ℕ, suc, ◌+◌, ◌<◌, Bool, true, false, List, [], ◌∷◌, map, max, min, refl, sym, ap}
-use Rattle.std.proofs.Common.{◌∙◌, subst, Some, length}
-use Rattle.std.specs.Prelude.{All, slice_get, if◌then◌else◌, not, ◌&&◌}
+use Rattle.std.proofs.Common.{◌≡◌, ℕ, false, List, [], ◌∷◌, map, refl, sym, ap}
+use Rattle.std.proofs.Common.{◌∙◌, subst, Some}
+use Rattle.std.specs.Prelude.{All, if◌then◌else◌, not, ◌&&◌}
 use Rattle.std.proofs.lemmas.List.Elements.{All-cons, All-head, All-nil, All-tail}
 use Rattle.pp_prog.specs.declared.sort.Sort.{Sort}
-use Rattle.pp_prog.specs.declared.sort.Sort.TheVariants as sort
 use Rattle.pp_prog.specs.declared.types.Ctor.{Ctor}
 use Rattle.pp_prog.specs.declared.types.TypeTable.{TypeTable}
 use Rattle.pp_prog.specs.declared.value.Value.{Value}
@@ -97,7 +96,13 @@ module _ (r : ℕ → ℕ) where
       ∙ ap (λ x. operated_sort op (Some (σ a)) (Some x)) e.1.0 ∙ h
   sorted_renamed types σ τ (steps.Construct c fields) t e h =
       let made : Constructs types σ c fields t = h in
-      record { ctor = made.ctor; stands = made.stands; fields = map_agree r σ τ fields e ∙ made.fields; result = made.result }
+      record {
+        ctor = made.ctor;
+        stands = made.stands;
+        fields = map_agree r σ τ fields e ∙ made.fields;
+        result =
+            made.result;
+      }
   sorted_renamed types σ τ (steps.IsCtor c n a) t e h =
       let made : Distinguishes types σ c n a = h.0 in (
         record { ctor = made.ctor; stands = made.stands; operand = e.0 ∙ made.operand; fields = made.fields },

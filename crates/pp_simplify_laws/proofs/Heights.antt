@@ -1,6 +1,5 @@
 -- Heights and gates of steps whose operands have the same sorts and heights.
 use Rattle.std.proofs.Common.{◌≡◌, ℕ, ◌+◌, ◌-◌, List, [], ◌∷◌, map, max, min, refl, ap, ◌∙◌}
-use Rattle.pp_prog.specs.declared.sort.Sort.{Sort}
 use Rattle.pp_prog.specs.declared.types.TypeTable.{TypeTable}
 use Rattle.pp_prog.specs.Sizes.{height_at}
 use Rattle.pp_prog.specs.Values.{greatest}

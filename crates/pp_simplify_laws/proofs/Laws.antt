@@ -1,20 +1,18 @@
 -- The laws of pruned steps.
-use Rattle.std.proofs.Common.{◌≡◌, ℕ, zero, suc, ◌+◌, ◌<◌, ◌≤◌, Bool, true, false, List, [], ◌∷◌, ◌++◌, length, map}
+use Rattle.std.proofs.Common.{◌≡◌, ℕ, suc, ◌+◌, Bool, List, [], ◌∷◌, ◌++◌, length, map}
 use Rattle.std.proofs.Common.{slice_get, Some, Contains, refl, sym, ap, ◌∙◌, subst, arith}
 use Rattle.pp_prog.specs.declared.sort.Sort.{Sort}
-use Rattle.pp_prog.specs.declared.types.TypeTable.{TypeTable}
 use Rattle.pp_steps.specs.declared.step.Step.{Step}
 use Rattle.pp_steps.specs.Frames.{open_step}
-use Rattle.pp_steps.specs.Gates.{AllHigh, Heights, all_gates}
 use Rattle.pp_steps.specs.Known.{AllTell}
 use Rattle.pp_steps.specs.Meaning.{Obeys}
 use Rattle.pp_steps.specs.Reads.{AllRead}
-use Rattle.pp_steps.specs.Sorted.{AllSorted, Sorts}
+use Rattle.pp_steps.specs.Sorted.{AllSorted}
 use Rattle.pp_simplify.specs.Marks.{is_marked}
 use Rattle.pp_simplify.specs.Operands.{Each, operands}
-use Rattle.pp_simplify.specs.Pruned.{AreNeeded, IsPruned, asked_one, first_one, operand, pruned}
-use Rattle.pp_simplify_laws.specs.Kept.{kept_heights, kept_known, kept_sorts, kept_values}
-use Rattle.pp_simplify_laws.specs.Laws.{AreKept, IsPrunedRest, PrunedFit, PrunedKeep, PrunedLast, PrunedObey}
+use Rattle.pp_simplify.specs.Pruned.{IsPruned, asked_one, first_one, operand, pruned}
+use Rattle.pp_simplify_laws.specs.Kept.{kept_sorts, kept_values}
+use Rattle.pp_simplify_laws.specs.Laws.{AreKept, PrunedFit, PrunedKeep, PrunedLast, PrunedObey}
 use Rattle.pp_simplify_laws.specs.Laws.{PrunedRead, PrunedSorted, PrunedTell}
 use Rattle.pp_simplify_laws.proofs.Pruned.{AllClosed, IsOn, gates_pruned, high_pruned, length_pruned, obeys_pruned}
 use Rattle.pp_simplify_laws.proofs.Pruned.{opens_pruned, reads_pruned, sorted_pruned, tells_pruned}

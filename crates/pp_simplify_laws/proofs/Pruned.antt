@@ -1,13 +1,12 @@
 -- Pruned steps, one after another.
-use Rattle.std.proofs.Common.{◌≡◌, ℕ, zero, suc, ◌+◌, ◌<◌, ◌≤◌, Bool, true, false, List, [], ◌∷◌, ◌++◌, length, map}
-use Rattle.std.proofs.Common.{slice_get, Some, Contains, refl, sym, ap, ◌∙◌, subst, arith}
+use Rattle.std.proofs.Common.{◌≡◌, ℕ, suc, ◌+◌, ◌<◌, ◌≤◌, Bool, true, false, List, [], ◌∷◌, ◌++◌, length, map}
+use Rattle.std.proofs.Common.{refl, sym, ap, ◌∙◌, subst, arith}
 use Rattle.std.specs.Prelude.{if◌then◌else◌}
 use Rattle.std.proofs.lemmas.Bool.{false≢true}
 use Rattle.pp_prog.specs.declared.sort.Sort.{Sort}
 use Rattle.pp_prog.specs.declared.sort.Sort.TheVariants as sort
 use Rattle.pp_prog.specs.declared.types.Ctor.{Ctor}
 use Rattle.pp_prog.specs.declared.types.TypeTable.{TypeTable}
-use Rattle.pp_prog.specs.declared.value.Value.{Value}
 use Rattle.pp_prog.specs.declared.value.Value.TheVariants.{Bool as Truth}
 use Rattle.pp_steps.specs.declared.step.Step.{Step}
 use Rattle.pp_steps.specs.declared.step.Step.TheVariants as steps
@@ -17,12 +16,12 @@ use Rattle.pp_steps.specs.Known.{AllTell, Tells}
 use Rattle.pp_steps.specs.Meaning.{Does, Missing, Obeys, Values}
 use Rattle.pp_steps.specs.Reads.{AllRead, Reads}
 use Rattle.pp_steps.specs.Sorted.{AllSorted, IsSorted, Sorts}
-use Rattle.pp_simplify.specs.Operands.{Each, operands, renamed}
+use Rattle.pp_simplify.specs.Operands.{Each, operands}
 use Rattle.pp_simplify.specs.Pruned.{pruned}
 use Rattle.pp_simplify_laws.specs.Kept.{kept_heights, kept_known, kept_sorts, kept_values}
-use Rattle.pp_simplify_laws.proofs.Forms.{Agree, IsGiven, does_renamed, renamed_same, sorted_renamed, tells_anyway}
+use Rattle.pp_simplify_laws.proofs.Forms.{IsGiven, does_renamed, renamed_same, sorted_renamed, tells_anyway}
 use Rattle.pp_simplify_laws.proofs.Forms.{tells_renamed}
-use Rattle.pp_simplify_laws.proofs.Heights.{SameAt, gates_same, height_same}
+use Rattle.pp_simplify_laws.proofs.Heights.{gates_same, height_same}
 
 each_map : (P Q : ℕ → Type 0) (ns : List ℕ) → ((a : ℕ) → P a → Q a) → Each P ns → Each Q ns
 each_map P Q [] go e = tt

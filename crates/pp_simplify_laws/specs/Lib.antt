@@ -1,2 +1,3 @@
+pub mod Fully
 pub mod Kept
 pub mod Laws

@@ -50,12 +50,12 @@ pub fn pruned_fit()
     ensures { PrunedFit }
 {}
 
-/// Values that obey the old steps obey the folded ones.
+/// Values that obey the old steps obey the folded ones, and each step has the value of the one that stands for it.
 pub fn folded_obey()
     ensures { FoldedObey }
 {}
 
-/// What the folded steps tell the old ones tell.
+/// What the folded steps tell the old ones tell, by those that stand for them.
 pub fn folded_tell<K: Knowledge>()
     ensures { FoldedTell K.known }
 {}
@@ -65,12 +65,12 @@ pub fn folded_read()
     ensures { FoldedRead }
 {}
 
-/// They are as many as the old ones.
+/// They are as many as the old ones, and the step that stands for one of them is no later one.
 pub fn folded_last()
     ensures { FoldedLast }
 {}
 
-/// They have the sorts of the old ones.
+/// They have the sorts of the old ones, and each step has the sort of the one that stands for it.
 pub fn folded_sorted()
     ensures { FoldedSorted }
 {}

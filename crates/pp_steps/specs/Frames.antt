@@ -1,5 +1,5 @@
--- The steps of calls and of a run. A call is followed: its own frame's steps stand at the site, and those of the calls in
--- it with one unit of fuel less. Source: own.
+-- The steps of calls and of a run. A call is followed: its own frame's steps stand at the site, and those of the calls
+-- in it with one unit of fuel less. Source: own.
 use Rattle.std.specs.Prelude.{ℕ, zero, suc, true, false, List, [], ◌∷◌, ◌++◌, Option, Some, None, map, slice_get}
 use Rattle.pp_prog.specs.declared.expr.BinaryOp.TheVariants.{Equal}
 use Rattle.pp_prog.specs.declared.expr.Expr.{Expr}
@@ -71,8 +71,8 @@ result_of (Some f) = f.result
 abbrev pub stopped : Option Function → ℕ → Piece ℕ
 stopped f k = plain (steps.Open (result_of f) ∷ steps.Bool false ∷ []) k (suc k)
 
--- a call of the function: its precondition, its measure list, which is compared, and its body. What the calls in it leave
--- is a parameter, by the frame that they come from.
+-- a call of the function: its precondition, its measure list, which is compared, and its body. What the calls in it
+-- leave is a parameter, by the frame that they come from.
 abbrev pub entering : (Frame → Site) → Option CheckId → Frame → Option Function → ℕ → ℕ → Option CheckId
     → Option CheckId → List ℕ → Piece ℕ
 entering inner asked frame None k reach pre measure args = stopped None k

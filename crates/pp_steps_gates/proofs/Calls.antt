@@ -23,7 +23,7 @@ use Rattle.pp_estimate.specs.Visits.{Calls, Visit, all_events, compared, in_env,
 use Rattle.pp_estimate_laws.proofs.Growth.{cost_of_both}
 use Rattle.pp_estimate_laws.proofs.Numbers.{le_same}
 use Rattle.pp_sound.proofs.Calls.{IsWhole, whole}
-use Rattle.pp_sound.proofs.Sorting.{has_the_sort_is, some_sort}
+use Rattle.pp_prog.proofs.PartSorts.{has_the_sort_is, some_sort}
 use Rattle.pp_steps.specs.Compile.{Site, all, compile}
 use Rattle.pp_steps.specs.Frames.{Frame, admitting, descending, entering, inlined, measuring, stopped}
 use Rattle.pp_steps.specs.Gates.{Heights, open_gates}

@@ -18,7 +18,7 @@ use Rattle.pp_estimate.specs.Visits.{node, pattern_events, shape_of, tallest, vi
 use Rattle.pp_estimate_laws.proofs.Growth.{cost_of_both}
 use Rattle.pp_estimate_laws.proofs.Numbers.{le_same, le_then}
 use Rattle.pp_sound.proofs.Cases.{EachArm, each_arm}
-use Rattle.pp_sound.proofs.Sorting.{bool_then, sort_then}
+use Rattle.pp_prog.proofs.PartSorts.{bool_then, sort_then}
 use Rattle.pp_steps.specs.declared.step.Step.TheVariants as steps
 use Rattle.pp_steps.specs.Compile.{Arm, Compiling, all_of, cases, deciding, matched, unless, when}
 use Rattle.pp_steps.specs.Gates.{Heights}

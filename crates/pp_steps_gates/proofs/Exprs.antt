@@ -19,7 +19,7 @@ use Rattle.pp_estimate.specs.Cut.{top}
 use Rattle.pp_estimate.specs.Visits as visits
 use Rattle.pp_estimate.specs.Visits.{Calls, Visiting, node, shape, shape_at, visit, visit_case, visit_of, visit_step}
 use Rattle.pp_estimate_laws.proofs.Numbers.{le_same}
-use Rattle.pp_sound.proofs.Sorting.{sort_there}
+use Rattle.pp_prog.proofs.PartSorts.{sort_there}
 use Rattle.pp_steps.specs.declared.step.Step.TheVariants as steps
 use Rattle.pp_steps.specs.Compile.{Arm, Compiling, Site, arm, arm_step, compile, compile_step, one}
 use Rattle.pp_steps.specs.Gates.{Heights}

@@ -17,7 +17,7 @@ use Rattle.pp_estimate.specs.declared.shape.Shape.{Shape}
 use Rattle.pp_estimate.specs.Visits.{Visiting, choice_extra, node, shape, unary_extra, visit}
 use Rattle.pp_estimate_laws.proofs.Growth.{cost_of_both}
 use Rattle.pp_estimate_laws.proofs.Numbers.{le_same}
-use Rattle.pp_sound.proofs.Sorting.{alike_are, bool_then, int_then, sort_then}
+use Rattle.pp_prog.proofs.PartSorts.{alike_are, bool_then, int_then, sort_then}
 use Rattle.pp_steps.specs.declared.step.Step.TheVariants as steps
 use Rattle.pp_steps.specs.Compile.{Compiling, branches, one, unless, when}
 use Rattle.pp_steps.specs.Gates.{Heights, unary_gates}

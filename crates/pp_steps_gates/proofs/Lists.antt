@@ -28,7 +28,7 @@ use Rattle.pp_estimate.specs.Visits.{visit, visits}
 use Rattle.pp_estimate_laws.proofs.Growth.{cost_of_both}
 use Rattle.pp_estimate_laws.proofs.Numbers.{le_same}
 use Rattle.pp_estimate_laws.proofs.Sizes.{height_grows}
-use Rattle.pp_sound.proofs.Sorting.{call_sort_is, tree_sort_is, tree_then}
+use Rattle.pp_prog.proofs.PartSorts.{call_sort_is, tree_sort_is, tree_then}
 use Rattle.pp_steps.specs.declared.step.Step.TheVariants as steps
 use Rattle.pp_steps.specs.Compile.{Compiling, Site, all, all_from, one}
 use Rattle.pp_steps.specs.Gates.{Heights}

@@ -21,7 +21,7 @@ use Rattle.pp_estimate.specs.Visits.{Visiting, binary_extra, node, shape, visit}
 use Rattle.pp_estimate_laws.proofs.Growth.{cost_of_both}
 use Rattle.pp_estimate_laws.proofs.Numbers.{le_same, le_then, plus_grows, times_grow}
 use Rattle.pp_estimate_laws.proofs.Sizes.{bits_grow}
-use Rattle.pp_sound.proofs.Sorting.{alike_are, bool_then, int_then, sort_then}
+use Rattle.pp_prog.proofs.PartSorts.{alike_are, bool_then, int_then, sort_then}
 use Rattle.pp_steps.specs.declared.step.Step.TheVariants as steps
 use Rattle.pp_steps.specs.Compile.{Compiling, binary, one, quotient, skipping, unless, when}
 use Rattle.pp_steps.specs.Gates.{Heights, binary_gates, equality_gates}

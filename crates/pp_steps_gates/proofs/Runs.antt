@@ -16,7 +16,7 @@ use Rattle.pp_estimate.specs.Frames.{components, frame, own_calls, post_events, 
 use Rattle.pp_estimate.specs.Visits.{Calls, all_events, shape_of, visit_of}
 use Rattle.pp_estimate_laws.proofs.Growth.{cost_of_both}
 use Rattle.pp_sound.proofs.Calls.{IsWhole}
-use Rattle.pp_sound.proofs.Sorting.{has_the_sort_is}
+use Rattle.pp_prog.proofs.PartSorts.{has_the_sort_is}
 use Rattle.pp_steps.specs.declared.step.Step.TheVariants as steps
 use Rattle.pp_steps.specs.Compile.{Site, compile, one}
 use Rattle.pp_steps.specs.Frames.{allowing, any_of, finishing, inlined, measuring, running}

@@ -7,8 +7,7 @@ use Rattle.pp_prog.specs.declared.sort.Sort.{Sort}
 use Rattle.pp_prog.specs.declared.types.TypeTable.{TypeTable}
 use Rattle.pp_prog.specs.Sizes.{height_at}
 use Rattle.pp_prog.specs.Sorts.{param_sorts}
-use Rattle.pp_checks.specs.declared.tables.Plan.{Plan}
-use Rattle.pp_checks.specs.Plan.{IsPlanOf}
+use Rattle.pp_checks.specs.Plan.{IsPlanOf, Plan}
 use Rattle.pp_estimate.specs.Estimates.{estimate}
 use Rattle.pp_sound.specs.Sound.{IsCheckOf}
 use Rattle.pp_steps.specs.declared.step.Step.{Step}

@@ -9,7 +9,7 @@ use Rattle.pp_prog.specs.Fits.{fit}
 use Rattle.pp_eval.specs.Meaning.{Frame, Meaning, attempt, attempt_with, first_case, guarded, or_next, taken}
 use Rattle.pp_eval.specs.Meaning as run
 use Rattle.pp_eval.specs.Part.{Part, and_then, failed}
-use Rattle.pp_eval.proofs.Extends.{Extends, same_extends, then_extends}
+use Rattle.pp_eval.proofs.Extends.{Extends, next_extends, same_extends, taken_extends, then_extends}
 use Rattle.pp_steps.specs.declared.step.Asked.{Asked}
 use Rattle.pp_steps.specs.Meaning.{Missing, Values, bit}
 use Rattle.pp_steps.specs.Compile as steps
@@ -57,10 +57,6 @@ module _ (ctors : List Ctor) (missing : Missing) (ρ : Values) (Meets : Asked �
 
   -- ---- what the second calls do
 
-  taken_extends : (t : Bool) (r s : Part Value) → Extends r s → Extends (taken t r) (taken t s)
-  taken_extends true r s e = then_extends r s _ _ e (λ v. refl)
-  taken_extends false r s e = refl
-
   with_extends : (x : steps.Arm) (a b : run.Arm) → RightArm x a b
       → (o : Option (List Value)) (f : Frame) (vs : List Value)
       → Extends (attempt_with o a f vs) (attempt_with o b f vs)
@@ -74,10 +70,6 @@ module _ (ctors : List Ctor) (missing : Missing) (ρ : Values) (Meets : Asked �
   arm_extends x a b r v f vs =
       subst (λ (p : Pattern). Extends (attempt a v f vs) (attempt_with (fit p v) b f vs))
       (r.pattern ∙ sym r.full_pattern) (with_extends x a b r (fit a.pattern v) f vs)
-
-  next_extends : (o : Option Value) (r s : Part Value) → Extends r s → Extends (or_next o r) (or_next o s)
-  next_extends None r s e = e
-  next_extends (Some v) r s e = refl
 
   pub arms_extend : (xs : List steps.Arm) (as' bs : List run.Arm) → RightArms xs as' bs
       → (check : Option CheckId) (v : Value) (f : Frame) (vs : List Value)

@@ -1,6 +1,7 @@
 -- Demands, tests and choices.
 use Rattle.std.proofs.Common.{◌≡◌, ℕ, suc, List, ◌∷◌, Bool, true, false, Option, Some, None, Ok, Err, refl, ap, ◌∙◌}
 use Rattle.std.specs.Prelude.{not, ◌&&◌, if◌then◌else◌}
+use Rattle.std.proofs.lemmas.Bool.{and_from}
 use Rattle.pp_prog.specs.declared.id.CheckId.{CheckId}
 use Rattle.pp_prog.specs.declared.types.Ctor.{Ctor}
 use Rattle.pp_prog.specs.declared.value.Value.{Value}
@@ -15,10 +16,6 @@ use Rattle.pp_steps_run.specs.Told.{AllOf, Flags, IsMade, IsQuiet, IsTold, IsVal
 use Rattle.pp_steps_run.proofs.Pieces.{all_join, all_left, all_right, bit_truth, flags_left, flags_right, obeys_left}
 use Rattle.pp_steps_run.proofs.Pieces.{obeys_right}
 
-pub both_true : (a b : Bool) → a ≡ true → b ≡ true → (a && b) ≡ true
-both_true true b h g = g
-both_true false b h g = cc
-
 pub both_left : (a b : Bool) → a ≡ false → (a && b) ≡ false
 both_left false b h = refl
 both_left true b h = cc
@@ -27,11 +24,11 @@ pub both_right : (a b : Bool) → b ≡ false → (a && b) ≡ false
 both_right true b h = h
 both_right false b h = refl
 
-if_true : {A : Type 0} (t : Bool) (a b v : A) → v ≡ (if t then a else b) → t ≡ true → v ≡ a
+pub if_true : {A : Type 0} (t : Bool) (a b v : A) → v ≡ (if t then a else b) → t ≡ true → v ≡ a
 if_true true a b v h e = h
 if_true false a b v h e = absurd (cc)
 
-if_false : {A : Type 0} (t : Bool) (a b v : A) → v ≡ (if t then a else b) → t ≡ false → v ≡ b
+pub if_false : {A : Type 0} (t : Bool) (a b v : A) → v ≡ (if t then a else b) → t ≡ false → v ≡ b
 if_false true a b v h e = absurd (cc)
 if_false false a b v h e = h
 
@@ -47,7 +44,7 @@ module _ (ctors : List Ctor) (missing : Missing) (ρ : Values) (Meets : Asked �
 
   -- where both numbers are true
   pub when_on : (k alive test : ℕ) → Made k (when k alive test) → On ρ alive → On ρ test → On ρ k
-  when_on k alive test h a t = both_is k alive test h.steps.0 ∙ both_true _ _ a t
+  when_on k alive test h a t = both_is k alive test h.steps.0 ∙ and_from _ _ a t
 
   pub when_dead : (k alive test : ℕ) → Made k (when k alive test) → Off ρ alive → Off ρ k
   when_dead k alive test h a = both_is k alive test h.steps.0 ∙ both_left _ _ a
@@ -58,7 +55,7 @@ module _ (ctors : List Ctor) (missing : Missing) (ρ : Values) (Meets : Asked �
   -- where the first is true and the second isn't
   pub unless_on : (k alive test : ℕ) → Made k (unless k alive test) → On ρ alive → Off ρ test → On ρ (suc k)
   unless_on k alive test h a t =
-      both_is (suc k) alive k h.steps.1.0 ∙ both_true _ _ a (not_is k test h.steps.0 ∙ ap not t)
+      both_is (suc k) alive k h.steps.1.0 ∙ and_from _ _ a (not_is k test h.steps.0 ∙ ap not t)
 
   pub unless_dead : (k alive test : ℕ) → Made k (unless k alive test) → Off ρ alive → Off ρ (suc k)
   unless_dead k alive test h a = both_is (suc k) alive k h.steps.1.0 ∙ both_left _ _ a
@@ -72,20 +69,20 @@ module _ (ctors : List Ctor) (missing : Missing) (ρ : Values) (Meets : Asked �
   pub demand_on : (b : Bool) (k alive test : ℕ) → Made k (demand b k alive test) → On ρ alive → On ρ test
       → On ρ (demand b k alive test).alive × AllOf (Off ρ) (demand b k alive test).fails
   demand_on true k alive test h a t = (
-    both_is k alive test h.steps.0 ∙ both_true _ _ a t,
+    both_is k alive test h.steps.0 ∙ and_from _ _ a t,
     (
       both_is (suc (suc k)) alive (suc k) h.steps.1.1.0 ∙ both_right _ _
           (not_is (suc k) test h.steps.1.0 ∙ ap not t),
       tt,
     ),
   )
-  demand_on false k alive test h a t = (both_is k alive test h.steps.0 ∙ both_true _ _ a t, tt)
+  demand_on false k alive test h a t = (both_is k alive test h.steps.0 ∙ and_from _ _ a t, tt)
 
   pub demand_off : (b : Bool) (k alive test : ℕ) → Made k (demand b k alive test) → On ρ alive → Off ρ test
       → Off ρ (demand b k alive test).alive × Flags ρ b (demand b k alive test).fails
   demand_off true k alive test h a t = (
     both_is k alive test h.steps.0 ∙ both_right _ _ t,
-    here (both_is (suc (suc k)) alive (suc k) h.steps.1.1.0 ∙ both_true _ _ a
+    here (both_is (suc (suc k)) alive (suc k) h.steps.1.1.0 ∙ and_from _ _ a
         (not_is (suc k) test h.steps.1.0 ∙ ap not t)),
   )
   demand_off false k alive test h a t = (both_is k alive test h.steps.0 ∙ both_right _ _ t, tt)

@@ -1,7 +1,6 @@
 -- Where a case of a match is taken, and where the next one is tried.
 use Rattle.std.proofs.Common.{◌≡◌, ℕ, suc, Bool, true, false, List, [], ◌∷◌, Option, Some, None, Ok, Err, refl, sym, ap}
 use Rattle.std.proofs.Common.{◌∙◌, subst}
-use Rattle.std.specs.Prelude.{if◌then◌else◌}
 use Rattle.pp_prog.specs.declared.id.CheckId.{CheckId}
 use Rattle.pp_prog.specs.declared.types.Ctor.{Ctor}
 use Rattle.pp_prog.specs.declared.value.Value.{Value}
@@ -16,18 +15,11 @@ use Rattle.pp_steps.specs.Compile.{Compiling, all_of, deciding, unless, when}
 use Rattle.pp_steps.specs.Piece.{Piece, after, joined, plain}
 use Rattle.pp_steps_run.specs.Told.{AllOf, AreValues, Flags, IsMade, IsQuiet, IsTold, IsValue, Off, On, SomeOf, here}
 use Rattle.pp_steps_run.specs.Told.{looked, there}
-use Rattle.pp_steps_run.proofs.Choices.{unless_dead, unless_off, unless_on, when_dead, when_off, when_on}
+use Rattle.pp_steps_run.proofs.Choices.{if_false, if_true, unless_dead, unless_off, unless_on, when_dead, when_off}
+use Rattle.pp_steps_run.proofs.Choices.{when_on}
 use Rattle.pp_steps_run.proofs.Lasting.{Lasts, lasts_first, lasts_next, truth_is}
 use Rattle.pp_steps_run.proofs.Pieces.{all_join, flags_left, made_left, made_right}
 use Rattle.pp_steps_run.proofs.Rights.{IsRight}
-
-if_on : {A : Type 0} (t : Bool) (a b v : A) → v ≡ (if t then a else b) → t ≡ true → v ≡ a
-if_on true a b v h e = h
-if_on false a b v h e = absurd (cc)
-
-if_off : {A : Type 0} (t : Bool) (a b v : A) → v ≡ (if t then a else b) → t ≡ false → v ≡ b
-if_off true a b v h e = absurd (cc)
-if_off false a b v h e = h
 
 module _ (ctors : List Ctor) (missing : Missing) (ρ : Values) (Meets : Asked → Type 0) where
   abbrev Made : {A : Type 0} → ℕ → Piece A → Type 0
@@ -163,10 +155,10 @@ module _ (ctors : List Ctor) (missing : Missing) (ρ : Values) (Meets : Asked �
 
       -- the number that follows is the missed one where the pattern fits, and the first where it doesn't
       next_fits : Made k Guarded → On ρ fits → bit (ρ l) ≡ bit (ρ (suc (after n W)))
-      next_fits h fit = ap bit (if_on _ _ _ _ (made_last h).steps.0 fit)
+      next_fits h fit = ap bit (if_true _ _ _ _ (made_last h).steps.0 fit)
 
       next_misses : Made k Guarded → Off ρ fits → bit (ρ l) ≡ bit (ρ reach)
-      next_misses h fit = ap bit (if_off _ _ _ _ (made_last h).steps.0 fit)
+      next_misses h fit = ap bit (if_false _ _ _ _ (made_last h).steps.0 fit)
 
       quiet_x : Made k Guarded → Off ρ fits → IsQuiet ρ X
       quiet_x h fit = rg.quiet k env fits (made_x h) fit

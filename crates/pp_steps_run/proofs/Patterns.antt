@@ -17,6 +17,7 @@ use Rattle.pp_prog.specs.declared.value.Value.TheViews.{out-Value}
 use Rattle.pp_prog.specs.Fits as run
 use Rattle.pp_prog.specs.Fits.{bound_before, bound_both, fit, fit_bool, fit_int, fit_step, fit_tree, fits_if}
 use Rattle.pp_eval.specs.Equality.{equal}
+use Rattle.pp_eval.proofs.Uneven.{uneven}
 use Rattle.pp_steps.specs.declared.step.Step.{Step}
 use Rattle.pp_steps.specs.declared.step.Step.TheVariants as steps
 use Rattle.pp_steps.specs.Meaning.{Missing, Obeys, Values, bit, ctor_field, ctor_field_in, has_ctor_in}
@@ -127,17 +128,6 @@ module _ (ctors : List Ctor) (missing : Missing) (ρ : Values) where
       (obeys_right ctors missing ρ (suc k) x.steps y.steps h.1) in
       both_fit ρ x y _ _ _ one rest
 
-fields_short : (ms : List (Value → Option (List Value))) (fs : List Value) → (length ms ≡ length fs → ⊥)
-    → run.fit_fields ms fs ≡ None
-fields_short [] [] h = absurd (h refl)
-fields_short [] (f ∷ fs) h = refl
-fields_short (m ∷ ms) [] h = refl
-fields_short (m ∷ ms) (f ∷ fs) h = ap (bound_both (m f)) (fields_short ms fs (λ e. h (ap suc e))) ∙ none_both (m f)
-  where
-    none_both : (o : Option (List Value)) → bound_both o None ≡ None
-    none_both None = refl
-    none_both (Some vs) = refl
-
 apart : (a b : ℕ) → nat_eq a b ≡ false → a ≡ b → ⊥
 apart a b h e = let z : nat_eq a b ≡ true = eq-eqb a b e in absurd (cc)
 
@@ -176,7 +166,7 @@ module _ (ctors : List Ctor) (missing : Missing) (ρ : Values) where
         zero_plus i = omega arith
     by_cases d fields e h true false p q on =
         subst (IsFitting ρ Whole)
-        (sym (fields_short _ fields
+        (sym (uneven _ fields
         (λ z. apart _ _ q (same_length fitting fit (patterns ctors missing ρ ps) ∙ z))))
         (record { told = here on })
     by_cases d fields e h false b p q on = record { told = here on }

@@ -1,15 +1,15 @@
 -- Pieces one after another, demands and choices.
 use Rattle.std.proofs.Common.{◌≡◌, ℕ, ◌+◌, suc, List, [], ◌∷◌, ◌++◌, length, Bool, true, false, Option, Ok, Err, refl}
-use Rattle.std.proofs.Common.{ap, arith}
+use Rattle.std.proofs.Common.{arith}
 use Rattle.pp_prog.specs.declared.id.CheckId.{CheckId}
 use Rattle.pp_prog.specs.declared.types.Ctor.{Ctor}
-use Rattle.pp_prog.specs.declared.value.Value.TheVariants.{Bool as Truth, outs-Bool}
 use Rattle.pp_eval.specs.declared.outcome.Stop.{Stop}
 use Rattle.pp_eval.specs.Part.{Part, and_then}
 use Rattle.pp_steps.specs.declared.step.Asked.{Asked}
 use Rattle.pp_steps.specs.declared.step.Step.{Step}
-use Rattle.pp_steps.specs.Meaning.{Missing, Obeys, Values, bit, bit_in}
+use Rattle.pp_steps.specs.Meaning.{Missing, Obeys, Values}
 use Rattle.pp_steps.specs.Piece.{Piece, after, joined, plain}
+pub use Rattle.pp_steps.proofs.Bits.{bit_truth}
 use Rattle.pp_steps_run.specs.Told.{AllOf, Flags, IsMade, IsQuiet, IsTold, Off, On, SomeOf, here, looked, there}
 
 module _ {A : Type 0} (p : A → Type 0) where
@@ -66,9 +66,6 @@ module _ (ctors : List Ctor) (missing : Missing) (ρ : Values) where
     }
 
 -- the truth value that a value is made of
-pub bit_truth : (b : Bool) → bit (Truth b) ≡ b
-bit_truth b = ap bit_in (outs-Bool b)
-
 module _ (ρ : Values) where
   pub flags_left : (b : Bool) (xs ys : List ℕ) → Flags ρ b xs → AllOf (Off ρ) ys → Flags ρ b (xs ++ ys)
   flags_left true xs ys h g = some_left (On ρ) xs ys h

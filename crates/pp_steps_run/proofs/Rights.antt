@@ -27,8 +27,8 @@ use Rattle.pp_steps_run.proofs.Pieces.{made_left, made_right, quiet_bind, quiet_
 
 module _ (ctors : List Ctor) (missing : Missing) (ρ : Values) (Meets : Asked → Type 0) (asked : Option CheckId)
     (frame : Frame) where
-  -- The steps tell what the expression comes to, in a run whose calls end, and one that isn't reached is neither alive nor
-  -- failing.
+  -- The steps tell what the expression comes to, in a run whose calls end, and one that isn't reached is neither alive
+  -- nor failing.
   pub record IsRight (m : Compiling) (part full : Meaning) : Type 0 where
     pub extends : Covers part full
     pub quiet : (k : ℕ) (env : List ℕ) (reach : ℕ) → IsMade ctors missing ρ Meets k (m k env reach) → Off ρ reach

@@ -59,8 +59,8 @@ module _ (ρ : Values) where
     pub alive : Off x.alive
     pub fails : AllOf Off x.fails
 
-  -- A part with a value is alive, and its outcome is the value. A part that stops isn't, and fails exactly where it stops
-  -- at the asked check.
+  -- A part with a value is alive, and its outcome is the value. A part that stops isn't, and fails exactly where it
+  -- stops at the asked check.
   abbrev pub Tells : {A B : Type 0} → Option CheckId → (A → B → Type 0) → Piece A → Part B → Type 0
   Tells asked R x (Ok b) = On x.alive × AllOf Off x.fails × R x.out b
   Tells asked R x (Err s) = Off x.alive × Flags (looked asked s) x.fails

@@ -17,15 +17,14 @@ use Rattle.pp_prog.specs.Sorts.{param_sorts}
 use Rattle.pp_prog.specs.Table.{is_sort}
 use Rattle.pp_prog.specs.Valid.{has_measure, is_in_range}
 use Rattle.pp_prog.proofs.Sure.{is_valid}
-use Rattle.pp_checks.specs.declared.tables.Plan.{Plan}
-use Rattle.pp_checks.specs.Plan.{IsPlanOf}
+use Rattle.pp_checks.specs.Plan.{IsPlanOf, Plan}
 use Rattle.pp_checks.specs.Rules.{measure_sorts}
 use Rattle.pp_checks.proofs.Called.{read_off}
 use Rattle.pp_checks.proofs.Plans.{shared_sorts}
 use Rattle.pp_sound.proofs.Calls.{whole}
 use Rattle.pp_sound.proofs.Listed.{all_at}
 use Rattle.pp_sound.proofs.Sites.{AreMet, IsMet, met_left, met_right}
-use Rattle.pp_sound.proofs.Sorting.{has_the_sort_is, some_sort}
+use Rattle.pp_prog.proofs.PartSorts.{has_the_sort_is, some_sort}
 use Rattle.pp_steps.specs.declared.step.Step.TheVariants as steps
 use Rattle.pp_steps.specs.Compile.{Site, all, compile}
 use Rattle.pp_steps.specs.Frames.{Frame, admitting, descending, entering, inlined, measuring, stopped}

@@ -22,7 +22,7 @@ use Rattle.pp_prog.specs.PatternSorts.{bound_sorts}
 use Rattle.pp_prog.specs.Sorts.{is_int, param_sorts}
 use Rattle.pp_sound.proofs.Cases.{EachArm, each_arm}
 use Rattle.pp_sound.proofs.Sites.{AreMet, IsMet, met_head, met_left, met_right, met_tail}
-use Rattle.pp_sound.proofs.Sorting.{alike_are, bool_then, call_sort_is, sort_then, sort_there, tree_sort_is, tree_then}
+use Rattle.pp_prog.proofs.PartSorts.{alike_are, bool_then, call_sort_is, sort_then, sort_there, tree_sort_is, tree_then}
 use Rattle.pp_steps.specs.declared.step.Step.TheVariants as steps
 use Rattle.pp_steps.specs.Compile.{Arm, Compiling, Site, all, arm, arm_step, compile, compile_step}
 use Rattle.pp_steps.specs.Sorted.{Sorts}

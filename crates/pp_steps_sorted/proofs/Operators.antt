@@ -11,7 +11,7 @@ use Rattle.pp_prog.specs.declared.sort.Sort.TheVariants as sort
 use Rattle.pp_prog.specs.declared.types.TypeTable.{TypeTable}
 use Rattle.pp_prog.specs.ExprSorts.{a_bool, alike, an_int, binary_sort, bits_sort, equality_sort, truth_sort}
 use Rattle.pp_prog.specs.ExprSorts.{unary_sort}
-use Rattle.pp_sound.proofs.Sorting.{alike_are, bool_then, int_then, sort_then}
+use Rattle.pp_prog.proofs.PartSorts.{alike_are, bool_then, int_then, sort_then}
 use Rattle.pp_sound.proofs.Operands.{HasASort, operand, operands}
 use Rattle.pp_steps.specs.declared.step.Step.TheVariants as steps
 use Rattle.pp_steps.specs.Compile.{Compiling, binary, one, operating, quotient, skipping, unless, when}

@@ -14,7 +14,7 @@ use Rattle.pp_prog.specs.declared.types.Ctor.{Ctor}
 use Rattle.pp_prog.specs.declared.types.TypeTable.{TypeTable}
 use Rattle.pp_prog.specs.PatternSorts.{Binding, bind_fields, bind_step, bind_tree, binds_none, bound_sorts, then_bind}
 use Rattle.pp_prog.specs.Sorts.{is_int, same_sort}
-use Rattle.pp_sound.proofs.Env.{one_sort}
+use Rattle.pp_prog.proofs.ValueSorts.{one_sort}
 use Rattle.pp_sound.proofs.Binding.{bind_then, none_binds, tree_binds}
 use Rattle.pp_steps.specs.declared.step.Step.{Step}
 use Rattle.pp_steps.specs.declared.step.Step.TheVariants as steps

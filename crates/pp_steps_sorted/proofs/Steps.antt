@@ -12,7 +12,7 @@ use Rattle.pp_prog.specs.declared.types.Ctor.{Ctor}
 use Rattle.pp_prog.specs.declared.types.TypeTable.{TypeTable}
 use Rattle.pp_prog.specs.ExprSorts.{a_tree, field_of_ctor, field_sort, sort_if, then_sort, unary_sort}
 use Rattle.pp_prog.specs.Sorts.{same_sort}
-use Rattle.pp_sound.proofs.Env.{its_sort}
+use Rattle.pp_prog.proofs.ValueSorts.{its_sort}
 use Rattle.pp_steps.specs.declared.step.Step.TheVariants as steps
 use Rattle.pp_steps.specs.Sorted.{Sorts, operated_sort}
 use Rattle.pp_steps_sorted.proofs.Assigned.{or_bool, tree_of}

@@ -73,7 +73,8 @@ module _ {D T : Type 0} (m : Sense D T) (types : TypeTable) (d : D) (gs : List G
     abbrev pub rest_gates : ℕ
     rest_gates = all_gates types can.sorts can.heights (length params) can.rest
 
-    module _ (c : D) (fs : List Gate) (args : List (Symbol T)) (unknown : AreUnknown m types d gs c fs params depth args)
+    module _ (c : D) (fs : List Gate) (args : List (Symbol T))
+        (unknown : AreUnknown m types d gs c fs params depth args)
         (moved : Moves m types d gs c fs (sum (map (open_gates types depth) params)))
       where
         many : length args ≡ length params

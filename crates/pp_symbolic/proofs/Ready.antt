@@ -15,8 +15,7 @@ use Rattle.pp_prog.specs.Valid.{is_in_range}
 use Rattle.pp_prog.proofs.Sure.{is_valid}
 use Rattle.pp_gate.specs.declared.gate.Gate.{Gate}
 use Rattle.pp_sound.specs.Sound.{IsCheckOf}
-use Rattle.pp_checks.specs.declared.tables.Plan.{Plan}
-use Rattle.pp_checks.specs.Plan.{IsPlanOf}
+use Rattle.pp_checks.specs.Plan.{IsPlanOf, Plan}
 use Rattle.pp_estimate.specs.Estimates.{estimate}
 use Rattle.pp_steps.specs.declared.step.Step.{Step}
 use Rattle.pp_steps.specs.declared.step.Step.TheVariants as steps
@@ -64,7 +63,7 @@ module _ (p : Program) (f : Function) (c : CheckId) (round : ℕ) where
   abbrev pub behind : List Step
   behind = steps.Bool true ∷ (R.steps ++ F.steps)
 
-  steps_split : (run_steps p.functions f c round).steps ≡ map open_step params ++ behind
+  pub steps_split : (run_steps p.functions f c round).steps ≡ map open_step params ++ behind
   steps_split = append_assoc (map open_step params) (steps.Bool true ∷ []) (R.steps ++ F.steps)
 
   module _ (plan : Plan) (is_plan : IsPlanOf plan p) (i : ℕ) (here : slice_get p.functions i ≡ Some f)

@@ -7,8 +7,7 @@ use Rattle.pp_prog.specs.declared.program.Program.{Program}
 use Rattle.pp_prog.specs.Sorts.{param_sorts}
 use Rattle.pp_gate.specs.declared.gate.Gate.{Gate}
 use Rattle.pp_gate.proofs.Growing.{length-Grows}
-use Rattle.pp_checks.specs.declared.tables.Plan.{Plan}
-use Rattle.pp_checks.specs.Plan.{IsPlanOf}
+use Rattle.pp_checks.specs.Plan.{IsPlanOf, Plan}
 use Rattle.pp_compile.specs.declared.work.Run.{Run}
 use Rattle.pp_compile.specs.Written.{IsRunOf}
 use Rattle.pp_domain.specs.Answers.{Fresh}
@@ -26,8 +25,9 @@ use Rattle.pp_steps_sorted.specs.Laws.{RunsAreSorted}
 use Rattle.pp_symbolic.specs.declared.frame.Frame.{Frame}
 use Rattle.pp_symbolic.specs.Evaluated.{CanEvaluate, IsEvaluated}
 use Rattle.pp_symbolic.specs.Frame.{IsFrame, IsOwner}
-use Rattle.pp_symbolic.proofs.Ready.{can_evaluate, some_gates}
-use Rattle.pp_simplify.specs.Folded.{folded_rest}
+use Rattle.pp_symbolic.proofs.Ready.{behind, can_evaluate, some_gates, steps_split}
+use Rattle.pp_simplify.specs.Folded.{all_folded}
+use Rattle.pp_simplify.specs.Names.{named}
 use Rattle.pp_simplify.specs.Pruned.{IsPruned}
 use Rattle.pp_simplify_laws.proofs.Following.{follows_folded, follows_more, follows_pruned}
 use Rattle.pp_symbolic.proofs.Simplified.{arguments_stand, can_folded, can_pruned}
@@ -41,6 +41,10 @@ pub record StepLaws : Type 0 where
   pub ask : RunsAsk
   pub sorted : RunsAreSorted
   pub fit : RunsFitEstimates
+
+-- the number that stands for the step with this one, once the steps are folded
+abbrev pub name_in : List Step → ℕ → ℕ
+name_in ss k = named (all_folded ss).names k
 
 less_all : (e : ℕ) → e - 1 ≤ e
 less_all e = omega arith
@@ -76,11 +80,18 @@ module _ {D T : Type 0} (m : Sense D T) (law : Lawful m) (laws : StepLaws) (p : 
         (subst (λ (ss : List Step). length ss < 2 ^ 32) is.steps few) laws.sorted laws.fit laws.read laws.ask
 
     -- where the steps were folded and pruned
-    module _ (new : List Step) (pruned : IsPruned (length (param_sorts f.params)) r.fails (folded_rest [] r.steps) new)
+    module _ (new : List Step) (next : ℕ) (is_next : next ≡ name_in r.steps r.fails)
+        (pruned : IsPruned (length (param_sorts f.params)) next (all_folded r.steps).steps new)
       where
-        pub can_new : Can new r.fails (most - 1)
-        can_new = can_pruned p.types gs (param_sorts f.params) depth (folded_rest [] r.steps) r.fails (most - 1)
-            (can_folded p.types gs (param_sorts f.params) depth r.steps r.fails (most - 1) can_run) new pruned
+        pruned_named : IsPruned (length (param_sorts f.params)) (name_in r.steps r.fails) (all_folded r.steps).steps new
+        pruned_named =
+            subst (λ j. IsPruned (length (param_sorts f.params)) j (all_folded r.steps).steps new) is_next pruned
+
+        pub can_new : Can new next (most - 1)
+        can_new = subst (λ j. Can new j (most - 1)) (sym is_next)
+            (can_pruned p.types gs (param_sorts f.params) depth (all_folded r.steps).steps (name_in r.steps r.fails)
+            (most - 1) (can_folded p.types gs (param_sorts f.params) depth r.steps r.fails (most - 1) can_run) new
+            pruned_named)
 
         abbrev steps_of_run : List Step
         steps_of_run = (run_steps p.functions f c round).steps
@@ -88,40 +99,49 @@ module _ {D T : Type 0} (m : Sense D T) (law : Lawful m) (laws : StepLaws) (p : 
         abbrev asked : ℕ
         asked = (run_steps p.functions f c round).fails
 
-        pruned_run : IsPruned (length (param_sorts f.params)) asked (folded_rest [] steps_of_run) new
-        pruned_run =
-            subst (λ ss. IsPruned (length (param_sorts f.params)) asked (folded_rest [] ss) new) is.steps
-            (subst (λ j. IsPruned (length (param_sorts f.params)) j (folded_rest [] r.steps) new) is.fails pruned)
+        abbrev name : ℕ
+        name = name_in steps_of_run asked
 
-        follow : FollowRun p c round f new asked
+        pruned_run : IsPruned (length (param_sorts f.params)) name (all_folded steps_of_run).steps new
+        pruned_run =
+            subst (λ ss. IsPruned (length (param_sorts f.params)) (name_in ss asked) (all_folded ss).steps new) is.steps
+            (subst (λ j. IsPruned (length (param_sorts f.params)) (name_in r.steps j) (all_folded r.steps).steps new)
+            is.fails pruned_named)
+
+        follow : FollowRun p c round f new name
         follow ρ obeys =
             let many = length (param_sorts f.params) in
-            let folds = follows_folded p.types.ctors no_field many asked steps_of_run ρ obeys in
-            follows_more p.types.ctors no_field many asked asked asked steps_of_run (folded_rest [] steps_of_run) new ρ
+            let folds = follows_folded p.types.ctors no_field (param_sorts f.params) (behind p f c round) asked
+            steps_of_run ρ (steps_split p f c round) (laws.read p.functions f c round) obeys in
+            follows_more p.types.ctors no_field many asked name name steps_of_run (all_folded steps_of_run).steps new ρ
             folds
-            (follows_pruned p.types.ctors no_field many asked (folded_rest [] steps_of_run) new folds.values pruned_run
+            (follows_pruned p.types.ctors no_field many name (all_folded steps_of_run).steps new folds.values pruned_run
             folds.obeys)
 
         module _ (e : D) (hs : List Gate) where
-          pub moves_run : ((k : ℕ) → Can new r.fails k → Moves m p.types d gs e hs k)
+          pub moves_run : ((k : ℕ) → Can new next k → Moves m p.types d gs e hs k)
               → Moves m p.types d gs e hs most
           moves_run moves = Moves_weaker m p.types d e gs hs (most - 1) most (moves (most - 1) can_new) (less_all most)
 
-          pub size_run : ((k : ℕ) → Can new r.fails k → Moves m p.types d gs e hs k) → length hs ≤ most
+          pub size_run : ((k : ℕ) → Can new next k → Moves m p.types d gs e hs k)
+              → length hs ≤ most
           size_run moves =
               let grown = (length-Grows gs hs (most - 1) (moves (most - 1) can_new).grows).1 in
               size_after (length gs) (length hs) most one some_most grown
 
+          abbrev Evaluates : Frame T → ℕ → Type 0
+          Evaluates frame j = IsEvaluated m p.types d gs (param_sorts f.params) depth new j can_new.sorts e hs frame
+
           pub frame_run : (frame : Frame T)
-              → ((k : ℕ) → (can : Can new r.fails k)
-              → IsEvaluated m p.types d gs (param_sorts f.params) depth new r.fails can.sorts e hs frame)
+              → ((k : ℕ) → (can : Can new next k)
+              → IsEvaluated m p.types d gs (param_sorts f.params) depth new next can.sorts e hs frame)
               → IsFrame m p c round depth e hs frame
           frame_run frame evaluates =
-              let σ = can_new.sorts in
-              let at_asked = subst (λ j. IsEvaluated m p.types d gs (param_sorts f.params) depth new j σ e hs frame) is.fails
-              (evaluates (most - 1) can_new) in
+              let at_name = subst (λ ss. Evaluates frame (name_in ss asked)) is.steps
+              (subst (λ j. Evaluates frame (name_in r.steps j)) is.fails
+              (subst (λ j. Evaluates frame j) is_next (evaluates (most - 1) can_new))) in
               is_frame m p c round depth d gs e hs frame law fresh one laws.tell laws.exist own.number f own.here new
-              asked follow σ at_asked own.owner
+              name follow can_new.sorts at_name own.owner
 
 -- ---- facts of results
 

@@ -1,5 +1,5 @@
--- When the steps of a run can be performed over a domain, and what is left of them: the symbols of the arguments, and the
--- literal of the step that is asked for. Source: own.
+-- When the steps of a run can be performed over a domain, and what is left of them: the symbols of the arguments, and
+-- the literal of the step that is asked for. Source: own.
 use Rattle.std.specs.Prelude.{◌≡◌, ◌≤◌, ◌<◌, ◌^◌, ℕ, ◌+◌, Bool, List, ◌++◌, Some, All, IsTrue, length, map, slice_get}
 use Rattle.std.specs.Prelude.{sum}
 use Rattle.std.specs.List.{list_all}
@@ -29,8 +29,8 @@ use Rattle.pp_build.specs.Registers.{IsKnown}
 use Rattle.pp_build.specs.Unknown.{AreUpTo, StandUpTo}
 use Rattle.pp_symbolic.specs.declared.frame.Frame.{Frame}
 
--- The steps begin with the arguments, whose sorts are these, look at earlier ones, and have sorts; the step that is asked
--- for is a truth value; and there is room for all of them, where the arguments have the asked height.
+-- The steps begin with the arguments, whose sorts are these, look at earlier ones, and have sorts; the step that is
+-- asked for is a truth value; and there is room for all of them, where the arguments have the asked height.
 pub record CanEvaluate (types : TypeTable) (gs : List Gate) (params : List Sort) (depth : ℕ) (steps : List Step)
     (asked most : ℕ)
     : Type 0 where

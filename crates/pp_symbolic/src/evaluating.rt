@@ -23,10 +23,12 @@ use pp_steps_run::tell_runs;
 use pp_steps_sorted::runs_are_sorted;
 use std::alloc::Global;
 
-/// The circuit of a round of a check, over a fresh domain and a circuit without inputs and gates: the run of the check's
-/// function with the round as its fuel, on arguments up to the depth. What the circuit gets, its constant included, is at
-/// most the estimate of the round: what is known before the run, and what the literal doesn't stand on, isn't built. Until guess runs come the mode is `Real`, and the domain is exact. After want of memory,
-/// the only error, the old gates stand and some new ones may be left; more than 2^32 - 1 steps are want of memory too.
+/// The circuit of a round of a check, over a fresh domain and a circuit without inputs and gates: the run of the
+/// check's function with the round as its fuel, on arguments up to the depth. What the circuit gets, its constant
+/// included, is at most the estimate of the round: what is known before the run, operators on known numbers and truth
+/// values among it, and what the literal doesn't stand on, isn't built. Until guess runs come the mode is `Real`, and
+/// the domain is exact. After want of memory, the only error, the old gates stand and some new ones may be left; more
+/// than 2^32 - 1 steps are want of memory too.
 pub fn symbolic<D: Domain>(
     alloc: Global,
     domain: &mut D,
@@ -64,7 +66,7 @@ pub fn symbolic<D: Domain>(
     if run.steps.len() > u32::MAX as usize {
         return Err(NoMemory);
     }
-    simplify(alloc, &mut run.steps, f.params.len(), run.fails)?;
+    let fails = simplify(alloc, &mut run.steps, f.params.len(), run.fails)?;
     evaluate(
         alloc,
         domain,
@@ -73,7 +75,7 @@ pub fn symbolic<D: Domain>(
         f.params.as_slice(),
         depth,
         run.steps.as_slice(),
-        run.fails,
+        fails,
     )
 }
 

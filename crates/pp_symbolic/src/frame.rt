@@ -11,8 +11,8 @@ pub enum Mode {
     Guess,
 }
 
-/// The symbols of the arguments; the literal that is true exactly where the run on them fails the check; and the literal
-/// that is true where all that was supposed of the inputs holds.
+/// The symbols of the arguments; the literal that is true exactly where the run on them fails the check; and the
+/// literal that is true where all that was supposed of the inputs holds.
 pub struct Frame<T> {
     pub arguments: Symbols<T>,
     pub fails: Lit,

@@ -18,8 +18,8 @@ use pp_prog::{Param, TypeTable};
 use pp_steps::Step;
 use std::alloc::Global;
 
-/// Performs the steps, which begin with the arguments: the arguments' symbols, with the literal of the step that is asked
-/// for.
+/// Performs the steps, which begin with the arguments: the arguments' symbols, with the literal of the step that is
+/// asked for.
 pub(crate) fn evaluate<D: Domain>(
     alloc: Global,
     domain: &mut D,

@@ -1,6 +1,7 @@
-//! How large the circuits of runs are, and how fast they are built: `pp_symbolic_bench PATH ROUND DEPTH TIMES` reads the
-//! source and builds the circuit of each check's round so many times. For each check it prints the steps of the run, the
-//! gates of the circuit, and the estimate. Where that is above 4,000,000, or nothing is to be built, no gates are printed.
+//! How large the circuits of runs are, and how fast they are built: `pp_symbolic_bench PATH ROUND DEPTH TIMES` reads
+//! the source and builds the circuit of each check's round so many times. For each check it prints the steps of the
+//! run, the gates of the circuit, and the estimate. Where that is above 4,000,000, or nothing is to be built, no gates
+//! are printed.
 #![tactic(auto)]
 
 mod circuits;

@@ -91,8 +91,10 @@ exprs::value_of-returns-in_ok-found-in-Match-clause-made t c =
     c.in_ok-found-in-Match.ensures.made c.matched.ensures.out c.matched.ensures.alive
 
 pub exprs::value_of-case_of-requires : goal.exprs::value_of-case_of-requires
-exprs::value_of-case_of-requires t c =
-    (omega (arith, cases_of_match _ _ _ _ c.in-Match.is, ap most_case c.as_slice-cases.ensures, c.if-cases.false), omega (arith, c.if-cases.false))
+exprs::value_of-case_of-requires t c = (
+  omega (arith, cases_of_match _ _ _ _ c.in-Match.is, ap most_case c.as_slice-cases.ensures, c.if-cases.false),
+  omega (arith, c.if-cases.false),
+)
 
 pub cases::attempt-returns-clause-made : goal.cases::attempt-returns-clause-made
 cases::attempt-returns-clause-made t c =

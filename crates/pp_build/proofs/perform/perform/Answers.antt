@@ -7,7 +7,7 @@ use Rattle.pp_build.proofs.OperatorSteps.{descent_sorts, unary_performed, unknow
 use Rattle.pp_build.proofs.Performing.{leaves_by, room_for}
 use Rattle.pp_build.proofs.TruthSteps.{alike_performed, bool_performed, both_left, both_performed, both_right}
 use Rattle.pp_build.proofs.TruthSteps.{int_performed, not_performed}
-use Rattle.pp_build.proofs.Values.{int_fits}
+use Rattle.pp_eval.proofs.Ranges.{int_fits}
 use Rattle.pp_build.proofs.perform.perform.Goals as goal
 
 pub returns-in_err-word-in-Int-clause-moves : goal.returns-in_err-word-in-Int-clause-moves

@@ -1,6 +1,5 @@
-use Rattle.std.proofs.Common.{◌≡◌, []}
-use Rattle.pp_simplify.proofs.Turns.{folded_to}
+use Rattle.pp_simplify.proofs.Turns.{AreFolded}
 use Rattle.pp_simplify.proofs.folding.fold.Given as goal
 
-abbrev pub invariant-loop-number : goal.invariant-loop-number
-invariant-loop-number l = l.steps ≡ folded_to l.number [] l.initial.steps
+abbrev pub invariant-loop-step : goal.invariant-loop-step
+invariant-loop-step l = AreFolded l.steps l.step-index l.news l.names

@@ -1,4 +1,4 @@
-use Rattle.std.proofs.Common.{◌∷◌, [], ◌++◌, arith, ap, sym, subst, ◌∙◌, take}
+use Rattle.std.proofs.Common.{sym, subst}
 use Rattle.std.proofs.lemmas.List.{take_more}
 use Rattle.pp_simplify.specs.Marks.{Marks}
 use Rattle.pp_simplify.proofs.Marking.{marks_more}

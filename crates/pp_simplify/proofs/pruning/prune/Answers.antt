@@ -1,4 +1,4 @@
-use Rattle.std.proofs.Common.{◌<◌, ◌≡◌, length, arith, ap, sym, subst, ◌∙◌}
+use Rattle.std.proofs.Common.{length, arith, ap, subst, ◌∙◌}
 use Rattle.pp_simplify.specs.Marks.{is_marked}
 use Rattle.pp_simplify.specs.Pruned.{AreNeeded}
 use Rattle.pp_simplify.proofs.Marking.{mark_read}

@@ -6,12 +6,12 @@ use Rattle.pp_prog.specs.Sorts.{param_sorts, sort_of_param}
 use Rattle.pp_estimate.specs.Estimates.{estimate}
 use Rattle.pp_compile.specs.Written.{IsRunOf}
 use Rattle.pp_domain.specs.Moves.{Moves}
-use Rattle.pp_simplify.specs.Folded.{folded_rest}
+use Rattle.pp_simplify.specs.Folded.{all_folded}
 use Rattle.pp_simplify.specs.Pruned.{IsPruned}
 use Rattle.pp_steps.specs.Frames.{run_steps}
 use Rattle.pp_symbolic.specs.Evaluated.{CanEvaluate, IsEvaluated}
-use Rattle.pp_symbolic.proofs.Whole.{StepLaws, can_new, can_run, few_arguments, frame_run, if_ok, moves_run, on_ok}
-use Rattle.pp_symbolic.proofs.Whole.{size_run}
+use Rattle.pp_symbolic.proofs.Whole.{StepLaws, can_new, can_run, few_arguments, frame_run, if_ok, moves_run}
+use Rattle.pp_symbolic.proofs.Whole.{name_in, on_ok, size_run}
 use Rattle.pp_symbolic.proofs.evaluating.symbolic.Goals as goal
 
 pub simplify-requires-clause-reads : goal.simplify-requires-clause-reads
@@ -30,7 +30,8 @@ simplify-requires-clause-reads g c =
     let is : IsRunOf (run_steps p.functions f c.args.check c.args.round) run =
     subst (λ (fs : List Function). IsRunOf (run_steps fs f c.args.check c.args.round) run) c.as_slice.ensures
     c.in_ok-run.ensures in
-    let few : length run.steps < 2 ^ 32 = (let n = c.len.ensures in let t = c.if-len.false in grind (arith, nat_tests)) in
+    let few : length run.steps < 2 ^ 32 =
+    (let n = c.len.ensures in let t = c.if-len.false in grind (arith, nat_tests)) in
     let can = can_run g.D.Domain.sense g.met.D.Domain.lawful laws p c.args.plan.now c.requires.plan c.args.check f
     c.owner-f.ensures c.args.round c.args.depth c.requires.depth.0 c.requires.size run is few
     c.args.domain.now c.args.circuit.now c.requires.fresh c.requires.empty in can.reads
@@ -51,7 +52,8 @@ simplify-requires-clause-asked g c =
     let is : IsRunOf (run_steps p.functions f c.args.check c.args.round) run =
     subst (λ (fs : List Function). IsRunOf (run_steps fs f c.args.check c.args.round) run) c.as_slice.ensures
     c.in_ok-run.ensures in
-    let few : length run.steps < 2 ^ 32 = (let n = c.len.ensures in let t = c.if-len.false in grind (arith, nat_tests)) in
+    let few : length run.steps < 2 ^ 32 =
+    (let n = c.len.ensures in let t = c.if-len.false in grind (arith, nat_tests)) in
     let can = can_run g.D.Domain.sense g.met.D.Domain.lawful laws p c.args.plan.now c.requires.plan c.args.check f
     c.owner-f.ensures c.args.round c.args.depth c.requires.depth.0 c.requires.size run is few
     c.args.domain.now c.args.circuit.now c.requires.fresh c.requires.empty in can.stands
@@ -72,14 +74,17 @@ evaluate-requires-clause-can g c =
     let is : IsRunOf (run_steps p.functions f c.args.check c.args.round) run =
     subst (λ (fs : List Function). IsRunOf (run_steps fs f c.args.check c.args.round) run) c.as_slice.ensures
     c.in_ok-run.ensures in
-    let few : length run.steps < 2 ^ 32 = (let n = c.len.ensures in let t = c.if-len.false in grind (arith, nat_tests)) in
+    let few : length run.steps < 2 ^ 32 =
+    (let n = c.len.ensures in let t = c.if-len.false in grind (arith, nat_tests)) in
     let many : c.len-2.result ≡ length (param_sorts f.params) =
     c.len-2.ensures ∙ sym (length-map f.params sort_of_param) in
-    let pruned : IsPruned (length (param_sorts f.params)) run.fails (folded_rest [] run.steps) c.simplify.new.steps =
-    subst (λ n. IsPruned n run.fails (folded_rest [] run.steps) c.simplify.new.steps) many c.in_ok-simplify.ensures in
+    let next = c.in_ok-fails.fails in
+    let is_next : next ≡ name_in run.steps run.fails = c.in_ok-fails.ensures.asked in
+    let pruned : IsPruned (length (param_sorts f.params)) next (all_folded run.steps).steps c.simplify.new.steps =
+    subst (λ n. IsPruned n next (all_folded run.steps).steps c.simplify.new.steps) many c.in_ok-fails.ensures.pruned in
     let can = can_new g.D.Domain.sense g.met.D.Domain.lawful laws p c.args.plan.now c.requires.plan c.args.check f
     c.owner-f.ensures c.args.round c.args.depth c.requires.depth.0 c.requires.size run is few
-    c.args.domain.now c.args.circuit.now c.requires.fresh c.requires.empty c.simplify.new.steps pruned in
+    c.args.domain.now c.args.circuit.now c.requires.fresh c.requires.empty c.simplify.new.steps next is_next pruned in
     rw c.types.ensures (rw c.as_slice-2.ensures (rw c.as_slice-3.ensures
     (estimate p.types p.functions p.checks c.args.check.0 c.args.round c.args.depth - 1, can)))
 
@@ -99,14 +104,17 @@ returns-clause-moves g c =
     let is : IsRunOf (run_steps p.functions f c.args.check c.args.round) run =
     subst (λ (fs : List Function). IsRunOf (run_steps fs f c.args.check c.args.round) run) c.as_slice.ensures
     c.in_ok-run.ensures in
-    let few : length run.steps < 2 ^ 32 = (let n = c.len.ensures in let t = c.if-len.false in grind (arith, nat_tests)) in
+    let few : length run.steps < 2 ^ 32 =
+    (let n = c.len.ensures in let t = c.if-len.false in grind (arith, nat_tests)) in
     let many : c.len-2.result ≡ length (param_sorts f.params) =
     c.len-2.ensures ∙ sym (length-map f.params sort_of_param) in
-    let pruned : IsPruned (length (param_sorts f.params)) run.fails (folded_rest [] run.steps) c.simplify.new.steps =
-    subst (λ n. IsPruned n run.fails (folded_rest [] run.steps) c.simplify.new.steps) many c.in_ok-simplify.ensures in
+    let next = c.in_ok-fails.fails in
+    let is_next : next ≡ name_in run.steps run.fails = c.in_ok-fails.ensures.asked in
+    let pruned : IsPruned (length (param_sorts f.params)) next (all_folded run.steps).steps c.simplify.new.steps =
+    subst (λ n. IsPruned n next (all_folded run.steps).steps c.simplify.new.steps) many c.in_ok-fails.ensures.pruned in
     moves_run g.D.Domain.sense g.met.D.Domain.lawful laws p c.args.plan.now c.requires.plan c.args.check f
     c.owner-f.ensures c.args.round c.args.depth c.requires.depth.0 c.requires.size run is few
-    c.args.domain.now c.args.circuit.now c.requires.fresh c.requires.empty c.simplify.new.steps pruned _ _
+    c.args.domain.now c.args.circuit.now c.requires.fresh c.requires.empty c.simplify.new.steps next is_next pruned _ _
     (rw (← c.types.ensures) (rw (← c.as_slice-2.ensures) (rw (← c.as_slice-3.ensures) c.evaluate.ensures.moves)))
 
 pub returns-clause-size : goal.returns-clause-size
@@ -125,15 +133,18 @@ returns-clause-size g c =
     let is : IsRunOf (run_steps p.functions f c.args.check c.args.round) run =
     subst (λ (fs : List Function). IsRunOf (run_steps fs f c.args.check c.args.round) run) c.as_slice.ensures
     c.in_ok-run.ensures in
-    let few : length run.steps < 2 ^ 32 = (let n = c.len.ensures in let t = c.if-len.false in grind (arith, nat_tests)) in
+    let few : length run.steps < 2 ^ 32 =
+    (let n = c.len.ensures in let t = c.if-len.false in grind (arith, nat_tests)) in
     let many : c.len-2.result ≡ length (param_sorts f.params) =
     c.len-2.ensures ∙ sym (length-map f.params sort_of_param) in
-    let pruned : IsPruned (length (param_sorts f.params)) run.fails (folded_rest [] run.steps) c.simplify.new.steps =
-    subst (λ n. IsPruned n run.fails (folded_rest [] run.steps) c.simplify.new.steps) many c.in_ok-simplify.ensures in
+    let next = c.in_ok-fails.fails in
+    let is_next : next ≡ name_in run.steps run.fails = c.in_ok-fails.ensures.asked in
+    let pruned : IsPruned (length (param_sorts f.params)) next (all_folded run.steps).steps c.simplify.new.steps =
+    subst (λ n. IsPruned n next (all_folded run.steps).steps c.simplify.new.steps) many c.in_ok-fails.ensures.pruned in
     on_ok c.evaluate.result
     (size_run g.D.Domain.sense g.met.D.Domain.lawful laws p c.args.plan.now c.requires.plan c.args.check f
     c.owner-f.ensures c.args.round c.args.depth c.requires.depth.0 c.requires.size run is few
-    c.args.domain.now c.args.circuit.now c.requires.fresh c.requires.empty c.simplify.new.steps pruned
+    c.args.domain.now c.args.circuit.now c.requires.fresh c.requires.empty c.simplify.new.steps next is_next pruned
     c.evaluate.new.domain
     c.evaluate.new.circuit
     (rw (← c.types.ensures) (rw (← c.as_slice-2.ensures) (rw (← c.as_slice-3.ensures) c.evaluate.ensures.moves))))
@@ -154,14 +165,18 @@ returns-clause-frame g c =
     let is : IsRunOf (run_steps p.functions f c.args.check c.args.round) run =
     subst (λ (fs : List Function). IsRunOf (run_steps fs f c.args.check c.args.round) run) c.as_slice.ensures
     c.in_ok-run.ensures in
-    let few : length run.steps < 2 ^ 32 = (let n = c.len.ensures in let t = c.if-len.false in grind (arith, nat_tests)) in
+    let few : length run.steps < 2 ^ 32 =
+    (let n = c.len.ensures in let t = c.if-len.false in grind (arith, nat_tests)) in
     let many : c.len-2.result ≡ length (param_sorts f.params) =
     c.len-2.ensures ∙ sym (length-map f.params sort_of_param) in
-    let pruned : IsPruned (length (param_sorts f.params)) run.fails (folded_rest [] run.steps) c.simplify.new.steps =
-    subst (λ n. IsPruned n run.fails (folded_rest [] run.steps) c.simplify.new.steps) many c.in_ok-simplify.ensures in
+    let next = c.in_ok-fails.fails in
+    let is_next : next ≡ name_in run.steps run.fails = c.in_ok-fails.ensures.asked in
+    let pruned : IsPruned (length (param_sorts f.params)) next (all_folded run.steps).steps c.simplify.new.steps =
+    subst (λ n. IsPruned n next (all_folded run.steps).steps c.simplify.new.steps) many c.in_ok-fails.ensures.pruned in
     if_ok c.evaluate.result c.evaluate.ensures.evaluated
     (λ frame evaluates.
     frame_run g.D.Domain.sense g.met.D.Domain.lawful laws p c.args.plan.now c.requires.plan c.args.check f
     c.owner-f.ensures c.args.round c.args.depth c.requires.depth.0 c.requires.size run is few
-    c.args.domain.now c.args.circuit.now c.requires.fresh c.requires.empty c.simplify.new.steps pruned _ _ frame
+    c.args.domain.now c.args.circuit.now c.requires.fresh c.requires.empty c.simplify.new.steps next is_next pruned
+    _ _ frame
     (rw (← c.types.ensures) (rw (← c.as_slice-2.ensures) (rw (← c.as_slice-3.ensures) evaluates))))
