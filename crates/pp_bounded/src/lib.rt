@@ -7,6 +7,3 @@ mod domain;
 pub use bounded::Bounded;
 pub use pp_bounded_trees::BoundedTree;
 pub use pp_clause::NoMemory;
-
-#[cfg(test)]
-mod tests;

@@ -1,22 +1,21 @@
 //! The calls that are measured.
 
 ghost use Rattle.pp_gate.specs.Circuit.{IsOf};
-ghost use Rattle.pp_bounded_trees.specs.Meaning.{BoundedFits};
-ghost use Rattle.pp_bounded_samples.specs.Kept.{AreAlike, Kept};
+ghost use Rattle.pp_bounded_samples.specs.Kept.{KeepsPair};
 ghost use Rattle.pp_bounded_samples.specs.Sample.{IsSample};
 
 use anyhow::{Result, bail, ensure};
-use pp_bounded::{Bounded, BoundedTree};
+use pp_bounded::Bounded;
+use pp_bounded_samples::pair::TreePair;
 use pp_bounded_samples::reading::read;
 use pp_bounded_samples::table::{LIST, WIDE, is_low};
-use pp_bounded_samples::trees::{below, equal, merge, unknown};
+use pp_bounded_samples::trees::{below, equal, fresh, merge, unknown_pair};
 use pp_clause::{Assignment, Lit};
-use pp_domain::Domain;
 use pp_gate::Circuit;
 use pp_prog::{DataId, TypeTable};
 use std::alloc::Global;
 
-/// How many gates two unknown trees add, and the call then.
+/// How many gates the constant, an input for a choice and two unknown trees have, and how many the call adds.
 pub fn measured(alloc: Global, table: &TypeTable, case: &str, call: &str) -> Result<(u32, u32)>
     requires { IsSample table.now }
 {
@@ -27,11 +26,11 @@ pub fn measured(alloc: Global, table: &TypeTable, case: &str, call: &str) -> Res
     };
     ensure!(is_low(of, height), "no such trees");
     let mut circuit = Circuit::new(alloc)?;
-    let mut domain = Bounded::fresh(&mut circuit)?;
-    let left = unknown(&mut domain, &mut circuit, table, of, height)?;
-    let right = unknown(&mut domain, &mut circuit, table, of, height)?;
+    let choice = circuit.input()?;
+    let mut domain = fresh(&mut circuit, table, choice)?;
+    let pair = unknown_pair(&mut domain, &mut circuit, table, of, height)?;
     let trees = circuit.gates();
-    call_on(alloc, &mut domain, &mut circuit, table, call, &left, &right)?;
+    call_on(alloc, &mut domain, &mut circuit, table, call, choice, &pair)?;
     Ok((trees, circuit.gates().saturating_sub(trees)))
 }
 
@@ -42,28 +41,25 @@ fn call_on(
     circuit: &mut Circuit,
     table: &TypeTable,
     call: &str,
-    left: &BoundedTree,
-    right: &BoundedTree,
+    choice: Lit,
+    pair: &TreePair,
 ) -> Result<()>
-    requires fits { BoundedFits table.now domain.old circuit.old }
-    requires left { Kept table.now domain.old circuit.old left.now }
-    requires right { Kept table.now domain.old circuit.old right.now }
-    requires alike { AreAlike left.now right.now }
+    requires choice { IsOf circuit.old choice }
+    requires pair { KeepsPair table.now domain.old circuit.old pair.now }
 {
     match call {
         "equal" => {
-            let _same = equal(domain, circuit, table, left, right)?;
+            let _same = equal(domain, circuit, table, pair)?;
         }
         "below" => {
-            let _below = below(domain, circuit, table, left, right)?;
+            let _below = below(domain, circuit, table, pair)?;
         }
         "merge" => {
-            let choice = circuit.truth();
-            let _tree = merge(domain, circuit, table, choice, left, right)?;
+            let _tree = merge(domain, circuit, table, choice, pair)?;
         }
         "read" => {
             let all = circuit.complete(&Assignment::of(alloc, &[])?)?;
-            let _value = read(alloc, domain, circuit, table, &all, left)?;
+            let _value = read(alloc, domain, circuit, table, &all, &pair.left)?;
         }
         _ => {}
     }

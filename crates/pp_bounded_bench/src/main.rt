@@ -1,7 +1,7 @@
-//! How large circuits of bounded trees are, and how fast they are built: `pp_bounded_bench CASE CALL TIMES` makes two
-//! unknown trees and the call so many times, and prints how many gates the trees and the call added. The cases are
-//! `lists` (lists of numbers at height 6) and `wide` (four constructors with three recursive fields at height 4), the
-//! calls `unknown`, `equal`, `below`, `merge` and `read`.
+//! How large circuits of bounded trees are, and how fast they are built: `pp_bounded_bench CASE CALL TIMES` makes an
+//! input for a choice, two unknown trees and the call so many times, and prints how many gates there were before the
+//! call and how many it added. The cases are `lists` (lists of numbers at height 6) and `wide` (four constructors with
+//! three recursive fields at height 4), the calls `unknown` (the trees alone), `equal`, `below`, `merge` and `read`.
 #![tactic(auto)]
 
 mod calls;

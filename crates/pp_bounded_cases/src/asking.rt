@@ -1,10 +1,8 @@
 //! What is asked of the inputs, so that trees stand for given values.
 
-ghost use Rattle.std.specs.Prelude.{OnOk, length};
-ghost use Rattle.pp_domain.specs.Answers.{IsCtorOf};
-ghost use Rattle.pp_bounded_trees.specs.Arena.{TreeFits};
+ghost use Rattle.std.specs.Prelude.{OnOk};
 ghost use Rattle.pp_bounded_trees.specs.Meaning.{BoundedFits};
-ghost use Rattle.pp_bounded_samples.specs.Kept.{Goes, IsOfSort};
+ghost use Rattle.pp_bounded_samples.specs.Kept.{CanLook, Goes, IsOfSort};
 
 use anyhow::{Context, Result, ensure};
 use pp_bounded::{Bounded, BoundedTree};
@@ -63,9 +61,7 @@ fn ask_tree(
     numbers: &mut Vec<i32>,
     asked: &mut Vec<Lit>,
 ) -> Result<()>
-    requires fits { BoundedFits table.now domain.old circuit.old }
-    requires tree { TreeFits domain.old.nodes (length domain.old.nodes) tree.now }
-    requires ctor { IsCtorOf table.now ctor tree.now.of }
+    requires { CanLook table.now domain.old circuit.old tree.now ctor }
     ensures { OnOk result (Goes table.now domain.old circuit.old domain.new circuit.new) }
 {
     let has_ctor = ctor_literal(domain, circuit, table, tree, ctor)?;

@@ -43,6 +43,13 @@ fn number(word: Option<&str>) -> Result<u32> {
     Ok(number)
 }
 
+/// The numbers that spell the value, with a blank between two.
+pub fn spelled(alloc: Global, value: &Value) -> Result<String> {
+    let mut line = String::new(alloc);
+    spell(&mut line, value)?;
+    Ok(String::from_str(alloc, line.as_str().trim())?)
+}
+
 /// Adds the numbers that spell the value, each behind a blank.
 pub fn spell(line: &mut String, value: &Value) -> Result<()> {
     match value {

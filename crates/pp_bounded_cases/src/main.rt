@@ -3,17 +3,22 @@
 //! and compares, searches and chooses in lists: `stdout` has it.
 //!
 //! A line has the number of a datatype of the samples, a height, 1 or 0 for a choice, and the two values. A value is
-//! spelled by numbers: a number by itself, a truth value by 1 or 0, and a tree by the number of its constructor with its
-//! fields behind it. Two trees of which nothing is known but their height are made, and the solver is asked to choose
-//! the inputs so that these two values are what they stand for: by `is_ctor` and `field` for each constructor of the
-//! values, and by the literals of the numbers and truth values below.
+//! spelled by numbers: a number by itself, a truth value by 1 or 0, and a tree by the number of its constructor with
+//! its fields behind it. Two trees of which nothing is known but their height are made, and the solver is asked to
+//! choose the inputs so that these two values are what they stand for: by `is_ctor` and `field` for each constructor of
+//! the values, and by the literals of the numbers and truth values below.
 //!
-//! The answer is `none` where the inputs can't be chosen so. Else it is what is read of the first tree and of the second,
-//! whether they are equal, whether the first is below the second, and what is read of the choice between them.
+//! The answer is `none` where the inputs can't be chosen so. Else it is what is read of the first tree and of the
+//! second, whether they are equal, whether the first is below the second, what is read of the choice between them, and
+//! then the parts of the first tree and of the choice: for each constructor of the datatype whether the tree has it,
+//! and behind the one that it has what is read of its fields, each in brackets. It is an error where the values that
+//! are read compare otherwise by themselves, the choice isn't the one of them that was asked for, or one is too high.
 #![tactic(auto)]
 
 mod asking;
 mod case;
+mod found;
+mod showing;
 mod solving;
 mod trying;
 

@@ -1,21 +1,24 @@
 //! What the domain makes of two values.
 
-ghost use Rattle.std.specs.Prelude.{IfOk, OnOk};
+ghost use Rattle.std.specs.Prelude.{◌≡◌, IfOk, OnOk};
 ghost use Rattle.pp_clause.specs.Assignment.{assigned};
 ghost use Rattle.pp_gate.specs.Circuit.{Gives, IsOf};
 ghost use Rattle.pp_bounded_trees.specs.Meaning.{BoundedFits};
-ghost use Rattle.pp_bounded_samples.specs.Kept.{AreAlike, Kept};
+ghost use Rattle.pp_bounded_samples.specs.Kept.{KeepsPair};
 ghost use Rattle.pp_bounded_samples.specs.Sample.{IsSample};
 ghost use Rattle.pp_bounded_cases.specs.Pair.{AreKept};
 
 use crate::asking::ask;
-use crate::case::{Case, spell};
+use crate::case::Case;
+use crate::found::Found;
+use crate::showing::{show_parts, value_of};
 use crate::solving::assignment;
-use anyhow::{Context, Result, ensure};
+use anyhow::{Result, ensure};
 use pp_bounded::{Bounded, BoundedTree};
-use pp_bounded_samples::reading::{is_true, read};
+use pp_bounded_samples::pair::TreePair;
+use pp_bounded_samples::reading::is_true;
 use pp_bounded_samples::table::is_low;
-use pp_bounded_samples::trees::{below, equal, merge, unknown};
+use pp_bounded_samples::trees::{below, equal, fresh, merge, unknown_pair};
 use pp_clause::{Assignment, Lit};
 use pp_domain::{Domain, Symbol};
 use pp_gate::Circuit;
@@ -24,9 +27,8 @@ use std::alloc::Global;
 
 /// Two trees, and what the domain makes of them.
 #[derive(Drop)]
-struct Pair {
-    left: BoundedTree,
-    right: BoundedTree,
+struct Compared {
+    pair: TreePair,
     same: Lit,
     below: Lit,
     merged: BoundedTree,
@@ -57,17 +59,6 @@ pub fn answer(alloc: Global, table: &TypeTable, line: &str) -> Result<String>
     Ok(answer)
 }
 
-/// A domain without trees.
-fn fresh(circuit: &mut Circuit, table: &TypeTable, choice: Lit) -> Result<Bounded>
-    requires { IsOf circuit.old choice }
-    ensures fits { IfOk result (λ d. BoundedFits table.now d circuit.new) }
-    ensures choice { OnOk result (IsOf circuit.new choice) }
-{
-    let domain = Bounded::fresh(circuit)?;
-    let _table = table;
-    Ok(domain)
-}
-
 /// The answer to the case, where a choice of the inputs is made so that the literal `chosen` is true.
 fn answer_from(
     alloc: Global,
@@ -82,36 +73,34 @@ fn answer_from(
     requires fits { BoundedFits table.now domain.old circuit.old }
     requires choice { IsOf circuit.old choice }
 {
-    let pair = unknown_pair(domain, circuit, table, case, choice)?;
+    let compared = compare_unknown(domain, circuit, table, case, choice)?;
     let mut asked = vec![in alloc; domain.ok(), chosen]?;
-    ask_both(domain, circuit, table, &pair, case, &mut asked)?;
+    ask_both(domain, circuit, table, &compared, case, &mut asked)?;
     match assignment(alloc, circuit, &asked)? {
         None => Ok(String::from_str(alloc, "none")?),
-        Some(a) => told(alloc, domain, circuit, table, &a, &pair),
+        Some(a) => told(alloc, domain, circuit, table, &a, &compared, case),
     }
 }
 
-/// Two trees of the case's datatype and height of which nothing else is known, compared.
-fn unknown_pair(
+/// Two trees of the case's datatype and height of which nothing else is known, and what the domain makes of them.
+fn compare_unknown(
     domain: &mut Bounded,
     circuit: &mut Circuit,
     table: &TypeTable,
     case: &Case,
     choice: Lit,
-) -> Result<Pair>
+) -> Result<Compared>
     requires sample { IsSample table.now }
     requires fits { BoundedFits table.now domain.old circuit.old }
     requires choice { IsOf circuit.old choice }
-    ensures fits { OnOk result (BoundedFits table.now domain.new circuit.new) }
-    ensures kept { IfOk result (λ t. AreKept table.now domain.new circuit.new t) }
+    ensures { IfOk result (λ t. AreKept table.now domain.new circuit.new t) }
 {
     let of = case.of;
     let height = case.height;
     ensure!(is_low(of, height), "no such trees");
-    let left = unknown(domain, circuit, table, of, height)?;
-    let right = unknown(domain, circuit, table, of, height)?;
-    let pair = compare(domain, circuit, table, choice, left, right)?;
-    Ok(pair)
+    let pair = unknown_pair(domain, circuit, table, of, height)?;
+    let compared = compare(domain, circuit, table, choice, pair)?;
+    Ok(compared)
 }
 
 /// The comparisons of the two trees, and the choice between them.
@@ -120,23 +109,17 @@ fn compare(
     circuit: &mut Circuit,
     table: &TypeTable,
     choice: Lit,
-    left: BoundedTree,
-    right: BoundedTree,
-) -> Result<Pair>
-    requires fits { BoundedFits table.now domain.old circuit.old }
+    pair: TreePair,
+) -> Result<Compared>
     requires choice { IsOf circuit.old choice }
-    requires left { Kept table.now domain.old circuit.old left }
-    requires right { Kept table.now domain.old circuit.old right }
-    requires alike { AreAlike left right }
-    ensures fits { OnOk result (BoundedFits table.now domain.new circuit.new) }
-    ensures kept { IfOk result (λ t. AreKept table.now domain.new circuit.new t) }
+    requires pair { KeepsPair table.now domain.old circuit.old pair }
+    ensures { IfOk result (λ t. AreKept table.now domain.new circuit.new t) }
 {
-    let same = equal(domain, circuit, table, &left, &right)?;
-    let below = below(domain, circuit, table, &left, &right)?;
-    let merged = merge(domain, circuit, table, choice, &left, &right)?;
-    Ok(Pair {
-        left,
-        right,
+    let same = equal(domain, circuit, table, &pair)?;
+    let below = below(domain, circuit, table, &pair)?;
+    let merged = merge(domain, circuit, table, choice, &pair)?;
+    Ok(Compared {
+        pair,
         same,
         below,
         merged,
@@ -148,18 +131,16 @@ fn ask_both(
     domain: &mut Bounded,
     circuit: &mut Circuit,
     table: &TypeTable,
-    pair: &Pair,
+    compared: &Compared,
     case: &mut Case,
     asked: &mut Vec<Lit>,
 ) -> Result<()>
-    requires fits { BoundedFits table.now domain.old circuit.old }
-    requires kept { AreKept table.now domain.old circuit.old pair.now }
-    ensures fits { OnOk result (BoundedFits table.now domain.new circuit.new) }
-    ensures kept { OnOk result (AreKept table.now domain.new circuit.new pair.now) }
+    requires { AreKept table.now domain.old circuit.old compared.now }
+    ensures { OnOk result (AreKept table.now domain.new circuit.new compared.now) }
 {
     let height = case.height.saturating_add(1);
-    let left = Symbol::Tree(pair.left);
-    let right = Symbol::Tree(pair.right);
+    let left = Symbol::Tree(compared.pair.left);
+    let right = Symbol::Tree(compared.pair.right);
     let numbers = &mut case.numbers;
     ask(domain, circuit, table, &left, height, numbers, asked)?;
     ask(domain, circuit, table, &right, height, numbers, asked)?;
@@ -167,42 +148,29 @@ fn ask_both(
     Ok(())
 }
 
-/// What is read and compared under the assignment.
+/// What is read, compared and looked at under the assignment.
 fn told(
     alloc: Global,
-    domain: &Bounded,
-    circuit: &Circuit,
+    domain: &mut Bounded,
+    circuit: &mut Circuit,
     table: &TypeTable,
     a: &Assignment,
-    pair: &Pair,
+    compared: &Compared,
+    case: &Case,
 ) -> Result<String>
-    requires fits { BoundedFits table.now domain.now circuit.now }
-    requires kept { AreKept table.now domain.now circuit.now pair.now }
-    requires gives { Gives (assigned a.now) circuit.now }
+    requires kept { AreKept table.now domain.old circuit.old compared.now }
+    requires gives { Gives (assigned a.now) circuit.old }
 {
-    let left = shown(alloc, domain, circuit, table, a, &pair.left)?;
-    let right = shown(alloc, domain, circuit, table, a, &pair.right)?;
-    let same = u8::from(is_true(a, pair.same));
-    let below = u8::from(is_true(a, pair.below));
-    let merged = shown(alloc, domain, circuit, table, a, &pair.merged)?;
-    Ok(format!(in alloc; "{left} | {right} | {same} {below} | {merged}")?)
-}
-
-/// What is read of a tree, spelled.
-fn shown(
-    alloc: Global,
-    domain: &Bounded,
-    circuit: &Circuit,
-    table: &TypeTable,
-    a: &Assignment,
-    tree: &BoundedTree,
-) -> Result<String>
-    requires fits { BoundedFits table.now domain.now circuit.now }
-    requires kept { Kept table.now domain.now circuit.now tree.now }
-    requires gives { Gives (assigned a.now) circuit.now }
-{
-    let value = read(alloc, domain, circuit, table, a, tree)?.context("no value")?;
-    let mut line = String::new(alloc);
-    spell(&mut line, &value)?;
-    Ok(String::from_str(alloc, line.as_str().trim())?)
+    let found = Found {
+        left: value_of(alloc, domain, circuit, table, a, &compared.pair.left)?,
+        right: value_of(alloc, domain, circuit, table, a, &compared.pair.right)?,
+        same: is_true(a, compared.same),
+        below: is_true(a, compared.below),
+        merged: value_of(alloc, domain, circuit, table, a, &compared.merged)?,
+    };
+    found.check(case)?;
+    let values = found.show(alloc)?;
+    let left_parts = show_parts(alloc, domain, circuit, table, a, &compared.pair.left)?;
+    let merged_parts = show_parts(alloc, domain, circuit, table, a, &compared.merged)?;
+    Ok(format!(in alloc; "{values} |{left_parts} |{merged_parts}")?)
 }

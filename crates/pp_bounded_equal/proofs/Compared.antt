@@ -2,7 +2,8 @@
 use Rattle.std.proofs.Common.{◌≡◌, ℕ, zero, suc, ◌+◌, ◌-◌, ◌*◌, ◌≤◌, min, ◌&&◌, Bool, true, false, List, [], ◌∷◌, ◌++◌}
 use Rattle.std.proofs.Common.{length, map, take, Option, Some, None, refl, sym, ap, ◌∙◌, subst, arith, slice_get, inl}
 use Rattle.std.proofs.Common.{inr}
-use Rattle.std.proofs.lemmas.Bool.{cases_lt}
+use Rattle.std.proofs.lemmas.Bool.{and_from, and_parts, cases_lt}
+use Rattle.std.proofs.lemmas.Option.{same_Some}
 use Rattle.pp_prog.specs.declared.sort.Sort.{Sort}
 use Rattle.pp_prog.specs.declared.sort.Sort.TheVariants as sort
 use Rattle.pp_prog.specs.declared.types.Ctor.{Ctor}
@@ -34,9 +35,6 @@ use Rattle.pp_bounded_trees.proofs.Candidates.{bits_of_int}
 use Rattle.pp_bounded_trees.proofs.Kept.{last_of_all, map_push}
 use Rattle.pp_bounded_merge.proofs.MergedCtors.{FoundCtor, found_ctor}
 
-some_same : {X : Type 0} (x y : X) → Some x ≡ Some y → x ≡ y
-some_same x y e = cc
-
 -- ---- the gates
 
 pub tests_taken : (types : TypeTable) (xs ys : List (Symbol BoundedTree)) (i : ℕ) (x y : Symbol BoundedTree)
@@ -49,7 +47,7 @@ tests_taken types (w ∷ xs) (z ∷ ys) zero x y at here =
     let e : 0 + 1 ≡ suc 0 = omega arith in
     let n : pair_test types w z + 0 ≡ 0 + pair_test types w z = omega arith in
     ap (λ n. pairs_test types (take n (w ∷ xs)) (take n (z ∷ ys))) e ∙ n
-    ∙ ap (λ a. 0 + pair_test types a z) (some_same w x at) ∙ ap (λ a. 0 + pair_test types x a) (some_same z y here)
+    ∙ ap (λ a. 0 + pair_test types a z) (same_Some w x at) ∙ ap (λ a. 0 + pair_test types x a) (same_Some z y here)
 tests_taken types (w ∷ xs) (z ∷ ys) (suc i) x y at here =
     let e : suc i + 1 ≡ suc (i + 1) = omega arith in
     let r = tests_taken types xs ys i x y at here in
@@ -105,7 +103,7 @@ module _ (types : TypeTable) (d : Trees) (gs : List Gate) (xs ys : List Alternat
 
   pub two_entries : (c : ℕ) (x y : Alternative) → (p : FoundCtor types d gs two.of two.left_height c x)
       → (q : FoundCtor types d gs two.of two.right_height c y) → q.entry ≡ p.entry
-  two_entries c x y p q = some_same q.entry p.entry (sym q.at ∙ p.at)
+  two_entries c x y p q = same_Some q.entry p.entry (sym q.at ∙ p.at)
 
   joined_test_within : (c : ℕ) (k : Ctor) → slice_get types.ctors c ≡ Some k
       → joined_test types (found c xs) (found c ys) ≤ 2 + 4 * field_bits types low k
@@ -119,7 +117,7 @@ module _ (types : TypeTable) (d : Trees) (gs : List Gate) (xs ys : List Alternat
           let p = found_ctor types d gs two.of two.left_height xs c x two.left e in
           let q = found_ctor types d gs two.of two.right_height ys c y two.right f in
           let same = two_entries c x y p q in
-          let own : p.entry ≡ k = some_same p.entry k (sym p.at ∙ at) in
+          let own : p.entry ≡ k = same_Some p.entry k (sym p.at ∙ at) in
           let w = fields_test_within types gs d.nodes (length d.nodes) (length d.nodes) two.left_height
           two.right_height p.entry.fields x.fields y.fields p.fits
           (subst (λ (l : Ctor). FieldsFit gs d.nodes (length d.nodes) (suc two.right_height) l.fields y.fields) same
@@ -210,14 +208,6 @@ AreEqualFields_none d hs l of = record {
     none : (vs ws : List Value) → Some [] ≡ Some vs → Some [] ≡ Some ws → vs ≡ ws
     none vs ws e f = cc
 
-both_true : (x y : Bool) → (x && y) ≡ true → (x ≡ true) × (y ≡ true)
-both_true true y e = (refl, e)
-both_true false y e = cc
-
-true_both : (x y : Bool) → x ≡ true → y ≡ true → (x && y) ≡ true
-true_both true y e f = f
-true_both false y e f = e
-
 module _ (d : Trees) (gs h1 hs : List Gate) (k m : ℕ) (first : AddsGates gs h1 k) (second : AddsGates h1 hs m)
     (b l same more : Literal) (xs ys : List (Symbol BoundedTree)) (x y : Symbol BoundedTree)
     (all : AreEqualFields d gs b b xs ys l) (one : IsEqualTest d h1 x y same)
@@ -226,7 +216,7 @@ module _ (d : Trees) (gs h1 hs : List Gate) (k m : ℕ) (first : AddsGates gs h1
   AreEqualFields_push = record {
     of = stands.of;
     guard = λ a gives is.
-        all.guard a (before a gives) (both_true _ _ (sym (stands.value a gives) ∙ is)).0;
+        all.guard a (before a gives) (and_parts _ _ (sym (stands.value a gives) ∙ is)).0;
     means = λ a vs ws gives left right vs_are ws_are.
         let f = value_of a in
         let p = last_of_all (map f xs) (f x) vs (sym (ap all_values (map_push f xs x)) ∙ vs_are) in
@@ -234,12 +224,12 @@ module _ (d : Trees) (gs h1 hs : List Gate) (k m : ℕ) (first : AddsGates gs h1
         let old = all.means a p.firsts q.firsts (before a gives) left right p.firsts_are q.firsts_are in
         let new = one.means a p.last q.last (Gives_old h1 hs m second.grows a gives) p.last_is q.last_is in (
           λ is.
-              let t = both_true _ _ (sym (stands.value a gives) ∙ is) in
+              let t = and_parts _ _ (sym (stands.value a gives) ∙ is) in
               let e = old.0 t.0 in let g = new.0 t.1 in
               p.whole ∙ (λ i. e i ++ g i ∷ []) ∙ sym q.whole,
           λ e.
               let s = push_same p.firsts q.firsts p.last q.last (sym p.whole ∙ e ∙ q.whole) in
-              stands.value a gives ∙ true_both _ _ (old.1 s.0) (new.1 s.1),
+              stands.value a gives ∙ and_from _ _ (old.1 s.0) (new.1 s.1),
         );
   }
     where
@@ -258,10 +248,10 @@ AreEqualFields_of d g1 h1 hs k m b p q same xs ys first second stands fields = r
   of = second.literals same fields.of;
   guard = λ a gives is.
       let h = Gives_old h1 hs m second.grows a gives in
-      both_true _ _ (sym (stands.value a (Gives_old g1 h1 k first a h)) ∙ (fields.guard a h is).0);
+      and_parts _ _ (sym (stands.value a (Gives_old g1 h1 k first a h)) ∙ (fields.guard a h is).0);
   means = λ a vs ws gives left right one other.
       let h = Gives_old h1 hs m second.grows a gives in
-      let t = stands.value a (Gives_old g1 h1 k first a h) ∙ true_both _ _ left right in
+      let t = stands.value a (Gives_old g1 h1 k first a h) ∙ and_from _ _ left right in
       fields.means a vs ws h t t one other;
 }
 

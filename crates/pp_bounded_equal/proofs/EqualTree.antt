@@ -3,7 +3,7 @@ use Rattle.std.proofs.Common.{◌≡◌, ℕ, zero, suc, ◌+◌, ◌-◌, ◌<�
 use Rattle.std.proofs.Common.{length, Option, Some, None, refl, sym, ap, ◌∙◌, subst, arith, slice_get, inl, inr}
 use Rattle.std.specs.Prelude.{◌↔◌}
 use Rattle.std.proofs.lemmas.Bool.{both_ways, cases_Bool, cases_lt}
-use Rattle.std.proofs.lemmas.Option.{slice_get_within}
+use Rattle.std.proofs.lemmas.Option.{same_Some, slice_get_within}
 use Rattle.pp_prog.specs.declared.id.CtorId.{CtorId}
 use Rattle.pp_prog.specs.declared.sort.Sort.{Sort}
 use Rattle.pp_prog.specs.declared.sort.Sort.TheVariants as sort
@@ -39,13 +39,10 @@ use Rattle.pp_bounded_trees.proofs.Candidates.{bits_of_ctors, in_block_ctor}
 use Rattle.pp_bounded_equal.proofs.Compared.{ctors_test_all}
 use Rattle.pp_bounded_trees.proofs.Found.{found_has, found_some}
 use Rattle.pp_bounded_trees.proofs.Locality.{node_value}
-use Rattle.pp_bounded_trees.proofs.Looks.{ctor_same, same_ctor}
+use Rattle.pp_prog.proofs.Values.{ctor_same, same_ctor}
 use Rattle.pp_bounded_merge.proofs.MergedTree.{Side, node_alternatives, side_one, side_order}
 use Rattle.pp_bounded_merge.proofs.Ranks.{tops, tops_within}
 use Rattle.pp_bounded_merge.proofs.Sides.{first_of, side_high}
-
-some_same : {X : Type 0} (x y : X) → Some x ≡ Some y → x ≡ y
-some_same x y e = cc
 
 -- ---- symbols that stand for nothing
 
@@ -217,14 +214,14 @@ module _ (types : TypeTable) (d : Trees) (gs fs hs : List Gate) (k m : ℕ) (fit
         let f = found_some (first + i) xs x has in
         let place = true_once a xs f.place o.place x o.own (side_one types d gs fits left xs lefts a gives_gs) f.at is
         o.at o.is_true in
-        some_same x o.own (sym f.at ∙ ap (slice_get xs) place ∙ o.at)
+        same_Some x o.own (sym f.at ∙ ap (slice_get xs) place ∙ o.at)
 
     right_own : (y : Alternative) → found (first + i) ys ≡ Some y → lit_value a y.lit ≡ true → y ≡ p.own
     right_own y has is =
         let f = found_some (first + i) ys y has in
         let place = true_once a ys f.place p.place y p.own (side_one types d gs fits right ys rights a gives_gs) f.at is
         p.at p.is_true in
-        some_same y p.own (sym f.at ∙ ap (slice_get ys) place ∙ p.at)
+        same_Some y p.own (sym f.at ∙ ap (slice_get ys) place ∙ p.at)
 
     later : (lit_value a any ≡ true) → (v ≡ w) × (o.own.ctor.0 < first + (i + 1))
     later is = let r = old.0 is in (r.0, (let l = r.1 in omega arith))
@@ -283,8 +280,8 @@ module _ (types : TypeTable) (d : Trees) (gs fs hs : List Gate) (k m : ℕ) (fit
           | inl less ↦ stands ∙ or_left _ _ (old.1 (e_vw, less))
           | inr past ↦
               let n : o.own.ctor.0 ≡ first + i = omega arith in
-              let l : o.own ≡ x = some_same o.own x (sym on_left ∙ ap (λ c. found c xs) n ∙ e) in
-              let r : p.own ≡ y = some_same p.own y (sym on_right ∙ ap (λ c. found c ys) (ctors_same e_vw ∙ n) ∙ f) in
+              let l : o.own ≡ x = same_Some o.own x (sym on_left ∙ ap (λ c. found c xs) n ∙ e) in
+              let r : p.own ≡ y = same_Some p.own y (sym on_right ∙ ap (λ c. found c ys) (ctors_same e_vw ∙ n) ∙ f) in
               let one = ap (λ (z : Alternative). field_values a (values_of a d.nodes) z.fields) (sym l) ∙ o.stand in
               let other = ap (λ (z : Alternative). field_values a (values_of a d.nodes) z.fields) (sym r) ∙ p.stand in
               let fs_same = same_fields o.own.ctor p.own.ctor o.fields p.fields (sym o.value ∙ e_vw ∙ p.value) in
@@ -329,7 +326,7 @@ module _ (types : TypeTable) (d : Trees) (gs hs : List Gate) (fits : BoundedFits
       let own = (fits.arena.each left.number lefts.tree.node lefts.tree.at).each o.place o.own
       (ap (λ zs. slice_get zs o.place) (sym lefts.is) ∙ o.at) in
       let b = in_block_ctor types left.of o.own.ctor.0 own.entry own.at (own.data_of ∙ lefts.tree.data_of) in
-      let same : b.datatype ≡ info = some_same b.datatype info (sym b.at_data ∙ at_info) in
+      let same : b.datatype ≡ info = same_Some b.datatype info (sym b.at_data ∙ at_info) in
       let n = b.number ∙ ap (λ (t : Datatype). t.first.0 + b.place) same in
       let within = slice_get_within (ctors_of types left.of) b.place own.entry b.at in
       (omega arith, omega arith)

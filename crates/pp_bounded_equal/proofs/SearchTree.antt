@@ -4,7 +4,7 @@ use Rattle.std.proofs.Common.{length, map, take, Option, Some, None, refl, sym, 
 use Rattle.std.proofs.Common.{inr}
 use Rattle.std.specs.Prelude.{◌↔◌}
 use Rattle.std.proofs.lemmas.Bool.{both_ways, cases_Bool, cases_lt}
-use Rattle.std.proofs.lemmas.Option.{slice_get_within}
+use Rattle.std.proofs.lemmas.Option.{same_Some, slice_get_within}
 use Rattle.std.proofs.Math.Nat.{mul-le-mul_left}
 use Rattle.pp_prog.specs.declared.id.DataId.{DataId}
 use Rattle.pp_prog.specs.declared.sort.Sort.{Sort}
@@ -47,9 +47,6 @@ use Rattle.pp_bounded_merge.proofs.MergedCtors.{found_ctor}
 use Rattle.pp_bounded_merge.proofs.MergedTree.{Side, node_alternatives, side_one, side_order}
 use Rattle.pp_bounded_equal.proofs.Searching.{below_under, under_below}
 use Rattle.pp_bounded_merge.proofs.Sides.{side_high}
-
-some_same : {X : Type 0} (x y : X) → Some x ≡ Some y → x ≡ y
-some_same x y e = cc
 
 -- ---- the gates
 
@@ -129,7 +126,7 @@ module _ (types : TypeTable) (d : Trees) (gs : List Gate) (of : DataId) (h : ℕ
       by None e = omega arith
       by (Some x) e =
           let p = found_ctor types d gs of h xs c x all e in
-          let own : p.entry ≡ k = some_same p.entry k (sym p.at ∙ at) in
+          let own : p.entry ≡ k = same_Some p.entry k (sym p.at ∙ at) in
           let w = fields_nodes_within types gs d.nodes (length d.nodes) h p.entry.fields x.fields p.fits in
           let r = ap (ctor_field_nodes types h) own in omega arith
 
@@ -205,7 +202,7 @@ module _ (types : TypeTable) (d : Trees) (gs fs hs : List Gate) (k m : ℕ) (fit
         let f = found_some (first + i) xs x has in
         let place = true_once a xs f.place o.place x o.own
         (side_one types d gs fits old xs side a (Gives_old gs fs k grown a gives_fs)) f.at is o.at o.is_true in
-        some_same x o.own (sym f.at ∙ ap (slice_get xs) place ∙ o.at)
+        same_Some x o.own (sym f.at ∙ ap (slice_get xs) place ∙ o.at)
 
     unchanged : lit_value a more ≡ lit_value a any → (o.own.ctor.0 ≡ first + i → ⊥)
         → (lit_value a more ≡ true) ↔ (IsUnder v o.fields × (o.own.ctor.0 < first + (i + 1)))
@@ -223,7 +220,7 @@ module _ (types : TypeTable) (d : Trees) (gs fs hs : List Gate) (k m : ℕ) (fit
         let no : Some o.own ≡ None = sym on_side ∙ ap (λ c. found c xs) n ∙ e in cc)
     one_step (Some x) e = elim (cases_Bool (lit_value a x.lit)) [
       | inr off ↦ unchanged ((step.there x e).off a gives off) (λ n.
-          let same : o.own ≡ x = some_same o.own x (sym on_side ∙ ap (λ c. found c xs) n ∙ e) in
+          let same : o.own ≡ x = same_Some o.own x (sym on_side ∙ ap (λ c. found c xs) n ∙ e) in
           both_ways _ off (ap (λ (z : Alternative). lit_value a z.lit) (sym same) ∙ o.is_true))
       | inl on ↦
           let same = its_own x e on in
@@ -266,7 +263,7 @@ module _ (types : TypeTable) (d : Trees) (gs hs : List Gate) (fits : BoundedFits
       let own = (fits.arena.each old.number side.tree.node side.tree.at).each o.place o.own
       (ap (λ zs. slice_get zs o.place) (sym side.is) ∙ o.at) in
       let b = in_block_ctor types old.of o.own.ctor.0 own.entry own.at (own.data_of ∙ side.tree.data_of) in
-      let same : b.datatype ≡ info = some_same b.datatype info (sym b.at_data ∙ at_info) in
+      let same : b.datatype ≡ info = same_Some b.datatype info (sym b.at_data ∙ at_info) in
       let n = b.number ∙ ap (λ (t : Datatype). t.first.0 + b.place) same in
       let within = slice_get_within (ctors_of types old.of) b.place own.entry b.at in
       (omega arith, omega arith)

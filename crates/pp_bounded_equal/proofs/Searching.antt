@@ -1,7 +1,8 @@
 -- The search through the fields of a constructor.
 use Rattle.std.proofs.Common.{◌≡◌, ℕ, zero, suc, ◌&&◌, ◌||◌, ◌⊎◌, Bool, true, false, List, [], ◌∷◌, ◌++◌, length, map}
 use Rattle.std.proofs.Common.{Option, Some, Contains, refl, sym, ap, ◌∙◌, subst, slice_get, inl, inr}
-use Rattle.std.proofs.lemmas.Option.{get_or_from_slice_get, slice_get-get_or, slice_get_within}
+use Rattle.std.proofs.lemmas.Option.{get_or_from_slice_get, same_Some, slice_get-get_or, slice_get_within}
+use Rattle.std.proofs.lemmas.Bool.{and_from, and_parts}
 use Rattle.pp_prog.specs.declared.id.CtorId.{CtorId}
 use Rattle.pp_prog.specs.declared.id.DataId.{DataId}
 use Rattle.pp_prog.specs.declared.types.Ctor.{Ctor}
@@ -30,10 +31,7 @@ use Rattle.pp_bounded_trees.proofs.Alternatives.{own_of}
 use Rattle.pp_bounded_trees.proofs.Fields.{all_first}
 use Rattle.pp_bounded_trees.proofs.Kept.{last_of_all, map_push}
 use Rattle.pp_bounded_trees.proofs.Locality.{node_value}
-use Rattle.pp_bounded_trees.proofs.Looks.{same_ctor}
-
-some_same : {X : Type 0} (x y : X) → Some x ≡ Some y → x ≡ y
-some_same x y e = cc
+use Rattle.pp_prog.proofs.Values.{same_ctor}
 
 -- ---- values
 
@@ -67,7 +65,7 @@ pub data_differ : (types : TypeTable) (t u : BoundedTree) (v w : Value) → Data
     → (t.of.0 ≡ u.of.0 → ⊥) → v ≡ w → ⊥
 data_differ types t u v w p q differ e =
     let c = same_ctor p.ctor q.ctor p.fields q.fields (sym p.is ∙ e ∙ q.is) in
-    let same : p.entry ≡ q.entry = some_same p.entry q.entry
+    let same : p.entry ≡ q.entry = same_Some p.entry q.entry
     (sym p.at ∙ ap (λ (b : CtorId). slice_get types.ctors b.0) c ∙ q.at) in
     differ (ap (λ (x : DataId). x.0) (sym p.data_of ∙ ap (λ (k : Ctor). k.of) same ∙ q.data_of))
 
@@ -171,7 +169,7 @@ AreUnderTest_push d gs hs k new lit any mid more xs x adds all one = record {
     value_of a z = symbol_value a (values_of a d.nodes) z
 
     only : (v w : Value) → IsUnder v (w ∷ []) → (v ≡ w) ⊎ IsBelow v w
-    only v w (zero, u, at, is) = subst (λ z. (v ≡ z) ⊎ IsBelow v z) (some_same u w (sym at)) is
+    only v w (zero, u, at, is) = subst (λ z. (v ≡ z) ⊎ IsBelow v z) (same_Some u w (sym at)) is
     only v w (suc j, u, at, is) = cc
 
 module _ (types : TypeTable) (d : Trees) (gs : List Gate) (fits : BoundedFits types d gs) (new : BoundedTree)
@@ -199,7 +197,7 @@ module _ (types : TypeTable) (d : Trees) (gs : List Gate) (fits : BoundedFits ty
       list_same xs ys e = cc
 
       single : (v w : Value) → IsUnder v (w ∷ []) → (v ≡ w) ⊎ IsBelow v w
-      single v w (zero, u, at, is) = subst (λ z. (v ≡ z) ⊎ IsBelow v z) (some_same u w (sym at)) is
+      single v w (zero, u, at, is) = subst (λ z. (v ≡ z) ⊎ IsBelow v z) (same_Some u w (sym at)) is
       single v w (suc j, u, at, is) = cc
 
       only : (v : Value) (ws : List Value) (w : Value) → ws ≡ w ∷ [] → IsUnder v ws → (v ≡ w) ⊎ IsBelow v w
@@ -207,14 +205,14 @@ module _ (types : TypeTable) (d : Trees) (gs : List Gate) (fits : BoundedFits ty
 
   pub under_word : (l : List Literal) → AreUnderTest d hs new lit any any (symbol.Word l ∷ [])
   under_word l = AreUnderTest_leaf (symbol.Word l) (λ a v w data_is is rel. elim rel [
-    | inl e ↦ int_no_tree _ data_is.ctor data_is.fields (some_same _ w is ∙ sym e ∙ data_is.is)
-    | inr b ↦ below_int v w _ (sym (some_same _ w is)) b
+    | inl e ↦ int_no_tree _ data_is.ctor data_is.fields (same_Some _ w is ∙ sym e ∙ data_is.is)
+    | inr b ↦ below_int v w _ (sym (same_Some _ w is)) b
   ])
 
   pub under_bit : (l : Literal) → AreUnderTest d hs new lit any any (symbol.Bit l ∷ [])
   under_bit l = AreUnderTest_leaf (symbol.Bit l) (λ a v w data_is is rel. elim rel [
-    | inl e ↦ truth_no_tree _ data_is.ctor data_is.fields (some_same _ w is ∙ sym e ∙ data_is.is)
-    | inr b ↦ below_truth v w _ (sym (some_same _ w is)) b
+    | inl e ↦ truth_no_tree _ data_is.ctor data_is.fields (same_Some _ w is ∙ sym e ∙ data_is.is)
+    | inr b ↦ below_truth v w _ (sym (same_Some _ w is)) b
   ])
 
 or_false : (x y : Bool) → y ≡ false → (x || y) ≡ x
@@ -232,14 +230,6 @@ or_left false y e = cc
 or_right : (x y : Bool) → y ≡ true → (x || y) ≡ true
 or_right true y e = refl
 or_right false y e = e
-
-both_true : (x y : Bool) → (x && y) ≡ true → (x ≡ true) × (y ≡ true)
-both_true true y e = (refl, e)
-both_true false y e = cc
-
-true_both : (x y : Bool) → x ≡ true → y ≡ true → (x && y) ≡ true
-true_both true y e f = f
-true_both false y e f = e
 
 false_both : (x y : Bool) → x ≡ false → (x && y) ≡ false
 false_both true y e = cc
@@ -263,12 +253,12 @@ under_field d g1 g2 hs k m new u lit any under here more first second test heres
         λ more_is. elim (or_cases _ _ (sym (mores.value a gives) ∙ more_is)) [
           | inl s ↦ inl s
           | inr h ↦
-              let b = both_true _ _ (sym (heres.value a g2s) ∙ h) in
+              let b = and_parts _ _ (sym (heres.value a g2s) ∙ h) in
               inr (0, o.first, ap (λ us. slice_get us 0) whole, t.0 b.1)
         ],
         λ s. mores.value a gives ∙ elim s [
           | inl any_is ↦ or_left _ _ any_is
-          | inr w ↦ or_right _ _ (heres.value a g2s ∙ true_both _ _ is (t.1 (single v o.first
+          | inr w ↦ or_right _ _ (heres.value a g2s ∙ and_from _ _ is (t.1 (single v o.first
               (subst (IsUnder v) whole w))))
         ],
       );
@@ -278,7 +268,7 @@ under_field d g1 g2 hs k m new u lit any under here more first second test heres
     list_same xs ys e = cc
 
     single : (v w : Value) → IsUnder v (w ∷ []) → (v ≡ w) ⊎ IsBelow v w
-    single v w (zero, u, at, is) = subst (λ z. (v ≡ z) ⊎ IsBelow v z) (some_same u w (sym at)) is
+    single v w (zero, u, at, is) = subst (λ z. (v ≡ z) ⊎ IsBelow v z) (same_Some u w (sym at)) is
     single v w (suc j, u, at, is) = cc
 
 -- the same or below

@@ -1,6 +1,7 @@
 -- Symbols that are chosen, and lists of them.
 use Rattle.std.proofs.Common.{◌≡◌, ℕ, zero, suc, ◌+◌, ◌≤◌, max, Bool, true, false, if◌then◌else◌, List, [], ◌∷◌, ◌++◌}
 use Rattle.std.proofs.Common.{length, map, take, Option, Some, refl, sym, ap, ◌∙◌, subst, arith, slice_get, inl, inr}
+use Rattle.std.proofs.lemmas.Option.{same_Some}
 use Rattle.pp_prog.specs.declared.sort.Sort.{Sort}
 use Rattle.pp_prog.specs.declared.sort.Sort.TheVariants as sort
 use Rattle.pp_prog.specs.declared.types.TypeTable.{TypeTable}
@@ -30,9 +31,6 @@ use Rattle.pp_bounded_trees.proofs.Candidates.{bits_of_bool, bits_of_int}
 use Rattle.pp_bounded_trees.proofs.Kept.{AreSymbols_push, all_push, field_values_before, field_values_later}
 use Rattle.pp_bounded_trees.proofs.Kept.{last_of_all, map_push}
 
-some_same : {X : Type 0} (x y : X) → Some x ≡ Some y → x ≡ y
-some_same x y e = cc
-
 agree_self : (n : ℕ) (a : ℕ → Bool) → AgreeUpTo n a a
 agree_self n a = record { agree = λ x low high. refl }
 
@@ -50,7 +48,7 @@ symbol_at d gs (s ∷ ss) [] i x are at = absurd are
 symbol_at d gs (s ∷ ss) (y ∷ xs) zero x are at = record {
   sort = s;
   at = refl;
-  is = subst (λ (z : Symbol BoundedTree). IsSymbol bounded_sense d gs s z) (some_same y x at) are.0;
+  is = subst (λ (z : Symbol BoundedTree). IsSymbol bounded_sense d gs s z) (same_Some y x at) are.0;
 }
 symbol_at d gs (s ∷ ss) (y ∷ xs) (suc i) x are at =
     let r = symbol_at d gs ss xs i x are.1 at in record { sort = r.sort; at = r.at; is = r.is }
@@ -153,7 +151,7 @@ pairs_taken types (w ∷ xs) (z ∷ ys) zero x y at here =
     let e : 0 + 1 ≡ suc 0 = omega arith in
     let n : pair_bits types w z + 0 ≡ 0 + pair_bits types w z = omega arith in
     ap (λ n. pairs_bits types (take n (w ∷ xs)) (take n (z ∷ ys))) e ∙ n
-    ∙ ap (λ a. 0 + pair_bits types a z) (some_same w x at) ∙ ap (λ a. 0 + pair_bits types x a) (some_same z y here)
+    ∙ ap (λ a. 0 + pair_bits types a z) (same_Some w x at) ∙ ap (λ a. 0 + pair_bits types x a) (same_Some z y here)
 pairs_taken types (w ∷ xs) (z ∷ ys) (suc i) x y at here =
     let e : suc i + 1 ≡ suc (i + 1) = omega arith in
     let r = pairs_taken types xs ys i x y at here in

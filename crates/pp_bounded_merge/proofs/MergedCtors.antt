@@ -2,7 +2,7 @@
 use Rattle.std.proofs.Common.{◌≡◌, ℕ, zero, suc, ◌+◌, ◌≤◌, Bool, true, false, if◌then◌else◌, List, [], ◌∷◌, ◌++◌}
 use Rattle.std.proofs.Common.{length, Option, Some, None, refl, sym, ap, ◌∙◌, subst, arith, slice_get, inl, inr}
 use Rattle.std.proofs.lemmas.Bool.{cases_lt}
-use Rattle.std.proofs.lemmas.Option.{slice_get_within}
+use Rattle.std.proofs.lemmas.Option.{same_Some, slice_get_within}
 use Rattle.pp_prog.specs.declared.id.CtorId.{CtorId}
 use Rattle.pp_prog.specs.declared.id.DataId.{DataId}
 use Rattle.pp_prog.specs.declared.sort.Sort.{Sort}
@@ -33,9 +33,6 @@ use Rattle.pp_bounded_trees.proofs.Found.{found_some}
 use Rattle.pp_bounded_trees.proofs.Kept.{field_values_before, field_values_later}
 use Rattle.pp_bounded_trees.proofs.Reading.{field_is}
 
-some_same : {X : Type 0} (x y : X) → Some x ≡ Some y → x ≡ y
-some_same x y e = cc
-
 agree_self : (n : ℕ) (a : ℕ → Bool) → AgreeUpTo n a a
 agree_self n a = record { agree = λ x low high. refl }
 
@@ -63,7 +60,7 @@ fields_low gs nodes k h [] [] fits j x at = cc
 fields_low gs nodes k h [] (y ∷ xs) fits j x at = absurd fits
 fields_low gs nodes k h (s ∷ ss) [] fits j x at = absurd fits
 fields_low gs nodes k h (s ∷ ss) (y ∷ xs) fits zero x at =
-    let e = ap height_of (some_same y x at) in
+    let e = ap height_of (same_Some y x at) in
     let l = field_low gs nodes k h s y fits.0 in omega arith
 fields_low gs nodes k h (s ∷ ss) (y ∷ xs) fits (suc j) x at = fields_low gs nodes k h ss xs fits.1 j x at
 
@@ -96,7 +93,7 @@ module _ (types : TypeTable) (d : Trees) (gs : List Gate) where
   -- one constructor has one entry
   pub same_entry : (of : DataId) (h c : ℕ) (x y : Alternative) → (p : FoundCtor of h c x) → (q : FoundCtor of h c y)
       → q.entry ≡ p.entry
-  same_entry of h c x y p q = some_same q.entry p.entry (sym q.at ∙ p.at)
+  same_entry of h c x y p q = same_Some q.entry p.entry (sym q.at ∙ p.at)
 
 module _ (types : TypeTable) (d e : Trees) (gs hs : List Gate) (k : ℕ)
     (moves : Moves bounded_sense types d gs e hs k) (choice : Literal) (of : DataId) (h : ℕ)

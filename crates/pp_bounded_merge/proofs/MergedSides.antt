@@ -1,6 +1,7 @@
 -- One constructor that is chosen from two sides, and the gates.
 use Rattle.std.proofs.Common.{◌≡◌, ℕ, zero, suc, ◌+◌, ◌≤◌, ◌&&◌, Bool, true, false, not, if◌then◌else◌, List, length}
 use Rattle.std.proofs.Common.{take, Option, Some, None, refl, sym, ap, ◌∙◌, subst, arith, slice_get}
+use Rattle.std.proofs.lemmas.Option.{same_Some}
 use Rattle.pp_prog.specs.declared.id.CtorId.{CtorId}
 use Rattle.pp_prog.specs.declared.id.DataId.{DataId}
 use Rattle.pp_prog.specs.declared.sort.Sort.{Sort}
@@ -32,9 +33,6 @@ use Rattle.pp_bounded_trees.proofs.Candidates.{ctor_in_block, total_taken}
 use Rattle.pp_bounded_merge.proofs.Chosen.{fields_within}
 use Rattle.pp_bounded_merge.proofs.MergedCtors.{FoundCtor, found_ctor, same_entry}
 
-some_same : {X : Type 0} (x y : X) → Some x ≡ Some y → x ≡ y
-some_same x y e = cc
-
 -- the gates
 module _ (types : TypeTable) (d : Trees) (gs : List Gate) (of : DataId) (h : ℕ) (xs ys : List Alternative)
     (left : AreAlternatives types d gs of (suc h) xs) (right : AreAlternatives types d gs of (suc h) ys) where
@@ -51,7 +49,7 @@ module _ (types : TypeTable) (d : Trees) (gs : List Gate) (of : DataId) (h : ℕ
           let p = found_ctor types d gs of h xs c x left e in
           let q = found_ctor types d gs of h ys c y right f in
           let same : q.entry ≡ p.entry = same_entry types d gs of h c x y p q in
-          let own : p.entry ≡ k = some_same p.entry k (sym p.at ∙ at) in
+          let own : p.entry ≡ k = same_Some p.entry k (sym p.at ∙ at) in
           let w = fields_within types gs d.nodes (length d.nodes) h p.entry.fields x.fields y.fields p.fits
           (subst (λ (l : Ctor). FieldsFit gs d.nodes (length d.nodes) (suc h) l.fields y.fields) same q.fits) in
           let r = ap (field_bits types h) own in
@@ -95,7 +93,7 @@ module _ (types : TypeTable) (d : Trees) (gs : List Gate) (of : DataId) (h : ℕ
     merged_both x y z on_xs on_ys ctor stands chosen = record {
       absent = λ none. cc;
       there = λ w some.
-          let same : z ≡ w = some_same z w some in
+          let same : z ≡ w = same_Some z w some in
           subst (λ (v : Alternative). (v.ctor ≡ c) × IsMerged types e hs choice of h xs ys v) same (ctor, own);
     }
       where
@@ -124,10 +122,10 @@ module _ (types : TypeTable) (d : Trees) (gs : List Gate) (of : DataId) (h : ℕ
             → AreSymbols bounded_sense e hs p.entry.fields w.fields
         sides true w is =
             subst (λ (v : Alternative). AreSymbols bounded_sense e hs p.entry.fields v.fields)
-            (some_same x w (on_left ∙ is)) (later x p.entry.fields p.symbols)
+            (same_Some x w (on_left ∙ is)) (later x p.entry.fields p.symbols)
         sides false w is =
             subst (λ (v : Alternative). AreSymbols bounded_sense e hs p.entry.fields v.fields)
-            (some_same y w (on_right ∙ is))
+            (same_Some y w (on_right ∙ is))
             (later y p.entry.fields (subst (λ (l : Ctor). AreSymbols bounded_sense d gs l.fields y.fields)
             (same_entry types d gs of h c.0 x y p q) q.symbols))
 
@@ -137,11 +135,11 @@ module _ (types : TypeTable) (d : Trees) (gs : List Gate) (of : DataId) (h : ℕ
             → field_values a (values_of a e.nodes) z.fields ≡ Some vs
         means a true w vs gives side is stand =
             (chosen (both_sorts x y on_xs on_ys)).means a true vs gives side
-            (ap (λ (v : Alternative). field_values a (values_of a e.nodes) v.fields) (some_same x w (on_left ∙ is))
+            (ap (λ (v : Alternative). field_values a (values_of a e.nodes) v.fields) (same_Some x w (on_left ∙ is))
             ∙ stand)
         means a false w vs gives side is stand =
             (chosen (both_sorts x y on_xs on_ys)).means a false vs gives side
-            (ap (λ (v : Alternative). field_values a (values_of a e.nodes) v.fields) (some_same y w (on_right ∙ is))
+            (ap (λ (v : Alternative). field_values a (values_of a e.nodes) v.fields) (same_Some y w (on_right ∙ is))
             ∙ stand)
 
         own : IsMerged types e hs choice of h xs ys z
@@ -173,7 +171,7 @@ module _ (types : TypeTable) (d : Trees) (gs : List Gate) (of : DataId) (h : ℕ
     merged_left x on_xs none stands fields = record {
       absent = λ e. cc;
       there = λ w some.
-          let same : z ≡ w = some_same z w some in
+          let same : z ≡ w = same_Some z w some in
           subst (λ (v : Alternative). (v.ctor ≡ c) × IsMerged types d hs choice of h xs ys v) same (ctor, own);
     }
       where
@@ -197,7 +195,7 @@ module _ (types : TypeTable) (d : Trees) (gs : List Gate) (of : DataId) (h : ℕ
             → AreSymbols bounded_sense d hs p.entry.fields w.fields
         sides true w is =
             subst (λ (v : Alternative). AreSymbols bounded_sense d hs p.entry.fields v.fields)
-            (some_same x w (on_left ∙ is)) symbols
+            (same_Some x w (on_left ∙ is)) symbols
         sides false w is = let n : None ≡ Some w = on_right ∙ is in cc
 
         means : (a : ℕ → Bool) (b : Bool) (w : Alternative) (vs : List Value)
@@ -206,7 +204,7 @@ module _ (types : TypeTable) (d : Trees) (gs : List Gate) (of : DataId) (h : ℕ
             → field_values a (values_of a d.nodes) z.fields ≡ Some vs
         means a true w vs is stand =
             ap (field_values a (values_of a d.nodes)) fields
-            ∙ ap (λ (v : Alternative). field_values a (values_of a d.nodes) v.fields) (some_same x w (on_left ∙ is))
+            ∙ ap (λ (v : Alternative). field_values a (values_of a d.nodes) v.fields) (same_Some x w (on_left ∙ is))
             ∙ stand
         means a false w vs is stand = let n : None ≡ Some w = on_right ∙ is in cc
 
@@ -234,7 +232,7 @@ module _ (types : TypeTable) (d : Trees) (gs : List Gate) (of : DataId) (h : ℕ
     merged_right y turned none on_ys negated stands fields = record {
       absent = λ e. cc;
       there = λ w some.
-          let same : z ≡ w = some_same z w some in
+          let same : z ≡ w = same_Some z w some in
           subst (λ (v : Alternative). (v.ctor ≡ c) × IsMerged types d hs choice of h xs ys v) same (ctor, own);
     }
       where
@@ -259,7 +257,7 @@ module _ (types : TypeTable) (d : Trees) (gs : List Gate) (of : DataId) (h : ℕ
         sides true w is = let n : None ≡ Some w = on_left ∙ is in cc
         sides false w is =
             subst (λ (v : Alternative). AreSymbols bounded_sense d hs q.entry.fields v.fields)
-            (some_same y w (on_right ∙ is)) symbols
+            (same_Some y w (on_right ∙ is)) symbols
 
         means : (a : ℕ → Bool) (b : Bool) (w : Alternative) (vs : List Value)
             → found z.ctor.0 (if b then xs else ys) ≡ Some w
@@ -268,7 +266,7 @@ module _ (types : TypeTable) (d : Trees) (gs : List Gate) (of : DataId) (h : ℕ
         means a true w vs is stand = let n : None ≡ Some w = on_left ∙ is in cc
         means a false w vs is stand =
             ap (field_values a (values_of a d.nodes)) fields
-            ∙ ap (λ (v : Alternative). field_values a (values_of a d.nodes) v.fields) (some_same y w (on_right ∙ is))
+            ∙ ap (λ (v : Alternative). field_values a (values_of a d.nodes) v.fields) (same_Some y w (on_right ∙ is))
             ∙ stand
 
         own : IsMerged types d hs choice of h xs ys z

@@ -2,7 +2,7 @@
 use Rattle.std.proofs.Common.{◌≡◌, ℕ, zero, suc, ◌+◌, ◌<◌, ◌≤◌, max, Bool, true, false, if◌then◌else◌, List, [], ◌∷◌}
 use Rattle.std.proofs.Common.{◌++◌, length, Option, Some, None, refl, sym, ap, ◌∙◌, subst, arith, slice_get, inl, inr}
 use Rattle.std.proofs.lemmas.Bool.{cases_Bool, cases_order}
-use Rattle.std.proofs.lemmas.Option.{slice_get_within}
+use Rattle.std.proofs.lemmas.Option.{same_Some, slice_get_within}
 use Rattle.pp_prog.specs.declared.id.CtorId.{CtorId}
 use Rattle.pp_prog.specs.declared.id.DataId.{DataId}
 use Rattle.pp_prog.specs.declared.sort.Sort.{Sort}
@@ -41,11 +41,8 @@ use Rattle.pp_bounded_trees.proofs.Found.{found_has, found_some}
 use Rattle.pp_bounded_trees.proofs.Kept.{field_values_later, greatest_within, symbol_value_before}
 use Rattle.pp_bounded_trees.proofs.Known.{fields_fit, heights_same}
 use Rattle.pp_bounded_trees.proofs.Locality.{node_value}
-use Rattle.pp_bounded_trees.proofs.Looks.{ctor_same}
+use Rattle.pp_prog.proofs.Values.{ctor_same}
 use Rattle.pp_bounded_merge.proofs.MergedCtors.{fields_are_symbols, merged_lit}
-
-some_same : {X : Type 0} (x y : X) → Some x ≡ Some y → x ≡ y
-some_same x y e = cc
 
 agree_self : (n : ℕ) (a : ℕ → Bool) → AgreeUpTo n a a
 agree_self n a = record { agree = λ x low high. refl }
@@ -72,7 +69,7 @@ pub one_alone : (a : ℕ → Bool) (zs : List Alternative) (k : ℕ) (z : Altern
     → ((j : ℕ) (w : Alternative) → slice_get zs j ≡ Some w → lit_value a w.lit ≡ true → j ≡ k) → true_among a zs ≡ 1
 one_alone a [] k z at is alone = cc
 one_alone a (x ∷ zs) zero z at is alone =
-    let first = true_bit a x.lit (ap (λ (w : Alternative). lit_value a w.lit) (some_same x z at) ∙ is) in
+    let first = true_bit a x.lit (ap (λ (w : Alternative). lit_value a w.lit) (same_Some x z at) ∙ is) in
     let rest = none_true a zs (λ j w there lit. let e = alone (suc j) w there lit in
     let n : suc j ≡ 0 → ⊥ = (λ f. omega (arith, f)) in n e) in omega arith
 one_alone a (x ∷ zs) (suc k) z at is alone = elim (cases_Bool (lit_value a x.lit)) [
@@ -184,7 +181,7 @@ module _ (types : TypeTable) (d : Trees) (gs : List Gate) (fits : BoundedFits ty
           let place : f.place ≡ o.place =
           true_once a xs f.place o.place y o.own (side_one t xs s a gives) f.at is o.at o.is in
           sym f.ctor ∙ ap (λ (w : Alternative). w.ctor.0)
-          (some_same y o.own (sym f.at ∙ ap (slice_get xs) place ∙ o.at))
+          (same_Some y o.own (sym f.at ∙ ap (slice_get xs) place ∙ o.at))
 
 module _ (types : TypeTable) (d e f : Trees) (gs hs : List Gate) (n : ℕ) (fits : BoundedFits types d gs)
     (adds : Adds types d gs e hs n) (choice : Literal) (left right : BoundedTree) (xs ys zs : List Alternative)
@@ -209,7 +206,7 @@ module _ (types : TypeTable) (d e f : Trees) (gs hs : List Gate) (n : ℕ) (fits
   own_merged b u us side s of a y p at has =
       let own = (fits.arena.each u.number s.tree.node s.tree.at).each p y (ap (λ ws. slice_get ws p) (sym s.is) ∙ at) in
       let block = in_block_ctor types left.of y.ctor.0 own.entry own.at (own.data_of ∙ s.tree.data_of ∙ of) in
-      let same_info : block.datatype ≡ info = some_same block.datatype info (sym block.at_data ∙ at_info) in
+      let same_info : block.datatype ≡ info = same_Some block.datatype info (sym block.at_data ∙ at_info) in
       let within = slice_get_within (ctors_of types left.of) block.place own.entry block.at in
       let r = merged.all b y.ctor.0 block.place y (omega arith)
       (block.number ∙ ap (λ (i : Datatype). i.first.0 + block.place) same_info)

@@ -1,5 +1,6 @@
 -- What falls from a node to its fields.
 use Rattle.std.proofs.Common.{◌≡◌, ℕ, zero, suc, ◌≤◌, max, List, [], ◌∷◌, map, Some, refl, ap, arith, slice_get}
+use Rattle.std.proofs.lemmas.Option.{same_Some}
 use Rattle.pp_prog.specs.declared.id.DataId.{DataId}
 use Rattle.pp_prog.specs.declared.sort.Sort.{Sort}
 use Rattle.pp_prog.specs.declared.types.TypeTable.{TypeTable}
@@ -14,9 +15,6 @@ use Rattle.pp_bounded_trees.specs.Arena.{AlternativeFits, FieldsFit}
 use Rattle.pp_bounded_trees.proofs.Found.{found_some}
 use Rattle.pp_bounded_trees.proofs.Reading.{field_rank, rank}
 
-some_same : {X : Type 0} (x y : X) → Some x ≡ Some y → x ≡ y
-some_same x y e = cc
-
 -- the greatest of the symbols, and of all fields of the constructors
 abbrev pub ranks : List (Symbol BoundedTree) → ℕ
 ranks xs = greatest (map rank xs)
@@ -28,12 +26,12 @@ tops (y ∷ ys) = max (ranks y.fields) (tops ys)
 pub rank_in : (xs : List (Symbol BoundedTree)) (j : ℕ) (x : Symbol BoundedTree) → slice_get xs j ≡ Some x
     → rank x ≤ ranks xs
 rank_in [] j x at = cc
-rank_in (y ∷ xs) zero x at = let e = ap rank (some_same y x at) in omega arith
+rank_in (y ∷ xs) zero x at = let e = ap rank (same_Some y x at) in omega arith
 rank_in (y ∷ xs) (suc j) x at = let r = rank_in xs j x at in omega arith
 
 pub top_in : (ys : List Alternative) (j : ℕ) (y : Alternative) → slice_get ys j ≡ Some y → ranks y.fields ≤ tops ys
 top_in [] j y at = cc
-top_in (z ∷ ys) zero y at = let e = ap (λ (w : Alternative). ranks w.fields) (some_same z y at) in omega arith
+top_in (z ∷ ys) zero y at = let e = ap (λ (w : Alternative). ranks w.fields) (same_Some z y at) in omega arith
 top_in (z ∷ ys) (suc j) y at = let r = top_in ys j y at in omega arith
 
 pub top_found : (ys : List Alternative) (c : ℕ) (y : Alternative) → found c ys ≡ Some y → ranks y.fields ≤ tops ys

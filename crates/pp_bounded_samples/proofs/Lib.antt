@@ -1,3 +1,5 @@
 pub mod SampleTable
 pub mod Sizes
 pub mod Keeping
+pub mod Going
+pub mod FieldReading

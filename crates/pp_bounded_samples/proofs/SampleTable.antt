@@ -1,5 +1,7 @@
 -- The table of the samples is one.
-use Rattle.std.proofs.Common.{◌≡◌, ℕ, zero, suc, ◌+◌, ◌-◌, ◌<◌, ◌≤◌, Bool, true, ◌&&◌, List, [], ◌∷◌, Some, slice_get, nat_le, nat_lt, refl, sym, ap, ◌∙◌, subst, arith, inl, inr}
+use Rattle.std.proofs.Common.{◌≡◌, ℕ, zero, suc, ◌+◌, ◌-◌, ◌<◌, ◌≤◌, Bool, true, ◌&&◌, List, [], ◌∷◌, Some, slice_get}
+use Rattle.std.proofs.Common.{nat_le, nat_lt, refl, sym, ap, ◌∙◌, subst, arith, inl, inr}
+use Rattle.std.proofs.lemmas.Bool.{and_parts, ltb-true}
 use Rattle.std.proofs.lemmas.Bool.Decides.{leb_tells}
 use Rattle.std.specs.List.{list_all}
 use Rattle.pp_prog.specs.declared.sort.Sort.{Sort}
@@ -10,7 +12,6 @@ use Rattle.pp_prog.specs.declared.value.Value.TheOpen as value
 use Rattle.pp_prog.specs.declared.value.Value.TheVariants.{Tree, rolls-Tree}
 use Rattle.pp_prog.specs.Sorts.{has_sort, has_step, tree_has}
 use Rattle.pp_prog.specs.Table.{HasValue, IsTable, in_block, in_block_of, is_of, is_sort}
-use Rattle.pp_prog.proofs.Boolean.{both_true, lt_true}
 use Rattle.pp_bounded_samples.specs.Sample.{sample_ctors, sample_datatypes, tree_of}
 
 -- each item passes the test at its place, counted from n
@@ -24,10 +25,10 @@ at_passes p n [] i x h at = cc
 at_passes p n (y ∷ xs) zero x h at =
     let same : y ≡ x = cc in
     let here : n ≡ n + 0 = omega arith in
-    subst (λ z. p (n + 0) z ≡ true) same (subst (λ k. p k y ≡ true) here (both_true _ _ h).0)
+    subst (λ z. p (n + 0) z ≡ true) same (subst (λ k. p k y ≡ true) here (and_parts _ _ h).0)
 at_passes p n (y ∷ xs) (suc i) x h at =
     let there : suc n + i ≡ n + suc i = omega arith in
-    subst (λ k. p k x ≡ true) there (at_passes p (suc n) xs i x (both_true _ _ h).1 at)
+    subst (λ k. p k x ≡ true) there (at_passes p (suc n) xs i x (and_parts _ _ h).1 at)
 
 passes : {A : Type 0} (p : ℕ → A → Bool) (xs : List A) (i : ℕ) (x : A) → all_at p 0 xs ≡ true → slice_get xs i ≡ Some x
     → p i x ≡ true
@@ -41,8 +42,8 @@ all_below q (suc n) = q n && all_below q n
 below_passes : (q : ℕ → Bool) (n i : ℕ) → all_below q n ≡ true → i < n → q i ≡ true
 below_passes q zero i h lt = absurd (omega (arith, lt))
 below_passes q (suc n) i h lt = elim (leb_tells n i) [
-  | inl le ↦ let e : n ≡ i = omega (arith, le.1, lt) in subst (λ k. q k ≡ true) e (both_true _ _ h).0
-  | inr gt ↦ below_passes q n i (both_true _ _ h).1 (omega (arith, gt.1))
+  | inl le ↦ let e : n ≡ i = omega (arith, le.1, lt) in subst (λ k. q k ≡ true) e (and_parts _ _ h).0
+  | inr gt ↦ below_passes q n i (and_parts _ _ h).1 (omega (arith, gt.1))
 ]
 
 le_true : (a b : ℕ) → nat_le a b ≡ true → a ≤ b
@@ -64,9 +65,9 @@ module _ (ds : List Datatype) (cs : List Ctor) where
   block : all_at blocks_at 0 ds ≡ true → (d : ℕ) (t : Datatype) → slice_get ds d ≡ Some t → (c : ℕ)
       → in_block t c ≡ true → is_of d (slice_get cs c) ≡ true
   block h d t at c inside =
-      let ends = both_true (nat_le t.first.0 c) (nat_lt c (t.first.0 + t.count)) inside in
+      let ends = and_parts (nat_le t.first.0 c) (nat_lt c (t.first.0 + t.count)) inside in
       let from : t.first.0 ≤ c = le_true _ _ ends.0 in
-      let to : c < t.first.0 + t.count = lt_true _ _ ends.1 in
+      let to : c < t.first.0 + t.count = ltb-true _ _ ends.1 in
       let e : t.first.0 + (c - t.first.0) ≡ c = omega (arith, from) in
       subst (λ k. is_of d (slice_get cs k) ≡ true) e
       (below_passes (λ i. is_of d (slice_get cs (t.first.0 + i))) t.count (c - t.first.0) (passes blocks_at ds d t h at)

@@ -1,5 +1,6 @@
 -- How large full trees of the samples are.
-use Rattle.std.proofs.Common.{◌≡◌, ℕ, zero, suc, ◌+◌, ◌*◌, ◌≤◌, List, map, sum, length, slice_get, refl, arith, ap, sym, ◌∙◌, subst, inl, inr}
+use Rattle.std.proofs.Common.{◌≡◌, ℕ, zero, suc, ◌+◌, ◌*◌, ◌≤◌, List, map, sum, length, slice_get, refl, arith, ap, sym}
+use Rattle.std.proofs.Common.{◌∙◌, subst, inl, inr}
 use Rattle.pp_prog.specs.declared.id.DataId.{DataId}
 use Rattle.pp_prog.specs.declared.sort.Sort.TheVariants as sort
 use Rattle.pp_prog.specs.declared.types.Ctor.{Ctor}
@@ -60,19 +61,23 @@ module _ (types : TypeTable) (s : IsSample types) where
   tree_nodes h = ap (nodes_among h) (own 1)
 
   mixed_bits : (h : ℕ) → bits types (suc h) (tree_of 2)
-      ≡ 3 + (0 + bits types h sort.Bool + bits types h (tree_of 2) + bits types h (tree_of 0) + bits types h (tree_of 2))
+      ≡ 3 + (0 + bits types h sort.Bool + bits types h (tree_of 2) + bits types h (tree_of 0)
+      + bits types h (tree_of 2))
   mixed_bits h = ap (bits_among h) (own 2)
 
   mixed_nodes : (h : ℕ) → nodes types (suc h) (tree_of 2)
-      ≡ 1 + (0 + nodes types h sort.Bool + nodes types h (tree_of 2) + nodes types h (tree_of 0) + nodes types h (tree_of 2))
+      ≡ 1 + (0 + nodes types h sort.Bool + nodes types h (tree_of 2) + nodes types h (tree_of 0)
+      + nodes types h (tree_of 2))
   mixed_nodes h = ap (nodes_among h) (own 2)
 
   wide_bits : (h : ℕ) → bits types (suc h) (tree_of 3)
-      ≡ 4 + (0 + bits types h sort.Bool + bits types h sort.Int + bits types h (tree_of 3) + bits types h (tree_of 3) + bits types h (tree_of 3))
+      ≡ 4 + (0 + bits types h sort.Bool + bits types h sort.Int + bits types h (tree_of 3) + bits types h (tree_of 3)
+      + bits types h (tree_of 3))
   wide_bits h = ap (bits_among h) (own 3)
 
   wide_nodes : (h : ℕ) → nodes types (suc h) (tree_of 3)
-      ≡ 1 + (0 + nodes types h sort.Bool + nodes types h sort.Int + nodes types h (tree_of 3) + nodes types h (tree_of 3) + nodes types h (tree_of 3))
+      ≡ 1 + (0 + nodes types h sort.Bool + nodes types h sort.Int + nodes types h (tree_of 3)
+      + nodes types h (tree_of 3) + nodes types h (tree_of 3))
   wide_nodes h = ap (nodes_among h) (own 3)
 
   list_bits_are : (h : ℕ) → bits types h (tree_of 0) ≡ 34 * h

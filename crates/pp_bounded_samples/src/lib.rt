@@ -6,6 +6,7 @@
 #![tactic(auto)]
 
 pub mod looks;
+pub mod pair;
 pub mod reading;
 pub mod table;
 pub mod trees;

@@ -3,9 +3,7 @@
 ghost use Rattle.std.specs.Prelude.{◌≡◌, ◌≤◌, ◌<◌, IsTrue, IfOk, OnOk, Some, length, slice_get};
 ghost use Rattle.pp_prog.specs.declared.types.Ctor.{Ctor as CtorSpec};
 ghost use Rattle.pp_domain.specs.Answers.{IsCtorOf};
-ghost use Rattle.pp_bounded_trees.specs.Arena.{TreeFits};
-ghost use Rattle.pp_bounded_trees.specs.Meaning.{BoundedFits};
-ghost use Rattle.pp_bounded_samples.specs.Kept.{Goes, IsOfSort};
+ghost use Rattle.pp_bounded_samples.specs.Kept.{CanLook, IsOfSort, IsPlaceIn, Looked};
 
 use crate::NoMemory;
 use crate::trees::room;
@@ -44,10 +42,8 @@ pub fn ctor_literal(
     tree: &BoundedTree,
     ctor: CtorId,
 ) -> Result<Lit, NoMemory>
-    requires fits { BoundedFits table.now domain.old circuit.old }
-    requires tree { TreeFits domain.old.nodes (length domain.old.nodes) tree.now }
-    requires ctor { IsCtorOf table.now ctor tree.now.of }
-    ensures { OnOk result (Goes table.now domain.old circuit.old domain.new circuit.new) }
+    requires { CanLook table.now domain.old circuit.old tree.now ctor }
+    ensures { OnOk result (Looked table.now domain.old circuit.old domain.new circuit.new) }
 {
     room(circuit)?;
     let lit = domain.is_ctor(circuit, table, tree, ctor)?;
@@ -63,11 +59,9 @@ pub fn field(
     ctor: CtorId,
     place: u32,
 ) -> Result<Symbol<BoundedTree>, NoMemory>
-    requires fits { BoundedFits table.now domain.old circuit.old }
-    requires tree { TreeFits domain.old.nodes (length domain.old.nodes) tree.now }
-    requires ctor { IsCtorOf table.now ctor tree.now.of }
-    requires place { (k : CtorSpec) → slice_get table.now.ctors ctor.0 ≡ Some k → place < length k.fields }
-    ensures goes { OnOk result (Goes table.now domain.old circuit.old domain.new circuit.new) }
+    requires look { CanLook table.now domain.old circuit.old tree.now ctor }
+    requires place { IsPlaceIn table.now ctor place }
+    ensures looked { OnOk result (Looked table.now domain.old circuit.old domain.new circuit.new) }
     ensures symbol { IfOk result (λ r. IsOfSort domain.new circuit.new r) }
 {
     room(circuit)?;

@@ -2,7 +2,8 @@
 
 ghost use Rattle.std.specs.Prelude.{◌≡◌, ◌++◌, ◌∷◌, [], IfOk, IsTrue, OnOk, ◌^◌, ◌≤◌, ◌<◌, length};
 ghost use Rattle.pp_prog.specs.Table.{IsTable};
-ghost use Rattle.pp_bounded_samples.specs.Sample.{IsLow, IsSample, IsSmall, ctor_of, datatype_of, sample_ctors, sample_datatypes};
+ghost use Rattle.pp_bounded_samples.specs.Sample.{IsLow, IsSample, IsSmall, ctor_of, datatype_of, sample_ctors};
+ghost use Rattle.pp_bounded_samples.specs.Sample.{sample_datatypes};
 
 use crate::NoMemory;
 use pp_list::Items;

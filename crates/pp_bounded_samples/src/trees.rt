@@ -3,10 +3,11 @@
 ghost use Rattle.std.specs.Prelude.{◌≡◌, ◌^◌, ◌≤◌, ◌<◌, length, IfOk, OnOk};
 ghost use Rattle.pp_gate.specs.Circuit.{IsOf};
 ghost use Rattle.pp_bounded_trees.specs.Meaning.{BoundedFits};
-ghost use Rattle.pp_bounded_samples.specs.Kept.{AreAlike, Goes, Kept};
+ghost use Rattle.pp_bounded_samples.specs.Kept.{Goes, KeepsPair, Kept};
 ghost use Rattle.pp_bounded_samples.specs.Sample.{IsLow, IsSample};
 
 use crate::NoMemory;
+use crate::pair::TreePair;
 use pp_bounded::{Bounded, BoundedTree};
 use pp_clause::Lit;
 use pp_domain::Domain;
@@ -27,8 +28,38 @@ pub(crate) fn room(circuit: &Circuit) -> Result<(), NoMemory>
     Ok(())
 }
 
+/// A domain without trees over a circuit that has the literal of a choice.
+pub fn fresh(circuit: &mut Circuit, table: &TypeTable, choice: Lit) -> Result<Bounded, NoMemory>
+    requires { IsOf circuit.old choice }
+    ensures fits { IfOk result (λ d. BoundedFits table.now d circuit.new) }
+    ensures choice { OnOk result (IsOf circuit.new choice) }
+{
+    let domain = Bounded::fresh(circuit)?;
+    let _table = table;
+    Ok(domain)
+}
+
+/// Two trees of which nothing is known but their height.
+pub fn unknown_pair(
+    domain: &mut Bounded,
+    circuit: &mut Circuit,
+    table: &TypeTable,
+    of: DataId,
+    height: u32,
+) -> Result<TreePair, NoMemory>
+    requires sample { IsSample table.now }
+    requires fits { BoundedFits table.now domain.old circuit.old }
+    requires low { IsLow of height }
+    ensures goes { OnOk result (Goes table.now domain.old circuit.old domain.new circuit.new) }
+    ensures pair { IfOk result (λ p. KeepsPair table.now domain.new circuit.new p) }
+{
+    let left = unknown(domain, circuit, table, of, height)?;
+    let right = unknown(domain, circuit, table, of, height)?;
+    Ok(TreePair { left, right })
+}
+
 /// A tree of which nothing is known but its height.
-pub fn unknown(
+fn unknown(
     domain: &mut Bounded,
     circuit: &mut Circuit,
     table: &TypeTable,
@@ -53,17 +84,13 @@ pub fn equal(
     domain: &mut Bounded,
     circuit: &mut Circuit,
     table: &TypeTable,
-    left: &BoundedTree,
-    right: &BoundedTree,
+    pair: &TreePair,
 ) -> Result<Lit, NoMemory>
-    requires fits { BoundedFits table.now domain.old circuit.old }
-    requires left { Kept table.now domain.old circuit.old left.now }
-    requires right { Kept table.now domain.old circuit.old right.now }
-    requires alike { AreAlike left.now right.now }
-    ensures goes { OnOk result (Goes table.now domain.old circuit.old domain.new circuit.new) }
+    requires { KeepsPair table.now domain.old circuit.old pair.now }
+    ensures { OnOk result (Goes table.now domain.old circuit.old domain.new circuit.new) }
 {
     room(circuit)?;
-    let same = domain.equal(circuit, table, left, right)?;
+    let same = domain.equal(circuit, table, &pair.left, &pair.right)?;
     Ok(same)
 }
 
@@ -72,17 +99,13 @@ pub fn below(
     domain: &mut Bounded,
     circuit: &mut Circuit,
     table: &TypeTable,
-    left: &BoundedTree,
-    right: &BoundedTree,
+    pair: &TreePair,
 ) -> Result<Lit, NoMemory>
-    requires fits { BoundedFits table.now domain.old circuit.old }
-    requires left { Kept table.now domain.old circuit.old left.now }
-    requires right { Kept table.now domain.old circuit.old right.now }
-    requires alike { AreAlike left.now right.now }
-    ensures goes { OnOk result (Goes table.now domain.old circuit.old domain.new circuit.new) }
+    requires { KeepsPair table.now domain.old circuit.old pair.now }
+    ensures { OnOk result (Goes table.now domain.old circuit.old domain.new circuit.new) }
 {
     room(circuit)?;
-    let below = domain.below(circuit, table, left, right)?;
+    let below = domain.below(circuit, table, &pair.left, &pair.right)?;
     Ok(below)
 }
 
@@ -92,18 +115,14 @@ pub fn merge(
     circuit: &mut Circuit,
     table: &TypeTable,
     choice: Lit,
-    left: &BoundedTree,
-    right: &BoundedTree,
+    pair: &TreePair,
 ) -> Result<BoundedTree, NoMemory>
-    requires fits { BoundedFits table.now domain.old circuit.old }
     requires choice { IsOf circuit.old choice }
-    requires left { Kept table.now domain.old circuit.old left.now }
-    requires right { Kept table.now domain.old circuit.old right.now }
-    requires alike { AreAlike left.now right.now }
+    requires pair { KeepsPair table.now domain.old circuit.old pair.now }
     ensures goes { OnOk result (Goes table.now domain.old circuit.old domain.new circuit.new) }
     ensures kept { IfOk result (λ t. Kept table.now domain.new circuit.new t) }
 {
     room(circuit)?;
-    let tree = domain.merge(circuit, table, choice, left, right)?;
+    let tree = domain.merge(circuit, table, choice, &pair.left, &pair.right)?;
     Ok(tree)
 }

@@ -2,6 +2,7 @@
 use Rattle.std.proofs.Common.{◌≡◌, ℕ, zero, suc, ◌+◌, ◌<◌, Bool, true, false, if◌then◌else◌, List, [], ◌∷◌, Option}
 use Rattle.std.proofs.Common.{Some, None, refl, sym, ap, ◌∙◌, subst, arith, slice_get, inl, inr}
 use Rattle.std.proofs.lemmas.Bool.{cases_Bool, cases_order}
+use Rattle.std.proofs.lemmas.Option.{same_Some}
 use Rattle.pp_prog.specs.declared.value.Value.{Value}
 use Rattle.pp_prog.specs.declared.value.Value.TheVariants.{Tree}
 use Rattle.pp_clause.specs.Literal.{Literal, lit_value}
@@ -10,9 +11,6 @@ use Rattle.pp_bounded_trees.specs.declared.arena.Alternative.{Alternative}
 use Rattle.pp_bounded_trees.specs.Alternatives.{IsOwn}
 use Rattle.pp_bounded_trees.specs.Arena.{true_among}
 use Rattle.pp_bounded_trees.specs.Values.{built, field_values, value_among}
-
-some_same : {X : Type 0} (x y : X) → Some x ≡ Some y → x ≡ y
-some_same x y e = cc
 
 true_bit : (a : ℕ → Bool) (l : Literal) → lit_value a l ≡ true → lit_bit a l ≡ 1
 true_bit a l e = ap bit e
@@ -25,7 +23,7 @@ some_true : (a : ℕ → Bool) (xs : List Alternative) (j : ℕ) (y : Alternativ
     → lit_value a y.lit ≡ true → 0 < true_among a xs
 some_true a [] j y at is = cc
 some_true a (x ∷ xs) zero y at is =
-    let same : x ≡ y = some_same x y at in
+    let same : x ≡ y = same_Some x y at in
     let one : lit_bit a x.lit ≡ 1 = true_bit a x.lit (subst (λ (z : Alternative). lit_value a z.lit ≡ true)
     (sym same) is) in
     omega arith
@@ -36,12 +34,12 @@ pub true_once : (a : ℕ → Bool) (xs : List Alternative) (j k : ℕ) (y z : Al
 true_once a [] j k y z one at is other also = cc
 true_once a (x ∷ xs) zero zero y z one at is other also = refl
 true_once a (x ∷ xs) zero (suc k) y z one at is other also =
-    let same : x ≡ y = some_same x y at in
+    let same : x ≡ y = same_Some x y at in
     let first : lit_bit a x.lit ≡ 1 = true_bit a x.lit (subst (λ (w : Alternative). lit_value a w.lit ≡ true)
     (sym same) is) in
     let more = some_true a xs k z other also in absurd (omega arith)
 true_once a (x ∷ xs) (suc j) zero y z one at is other also =
-    let same : x ≡ z = some_same x z other in
+    let same : x ≡ z = same_Some x z other in
     let first : lit_bit a x.lit ≡ 1 = true_bit a x.lit (subst (λ (w : Alternative). lit_value a w.lit ≡ true)
     (sym same) also) in
     let more = some_true a xs j y at is in absurd (omega arith)
@@ -64,7 +62,7 @@ own_step a done x xs v (Some vs) e is h =
       fields = vs;
       stand = e;
       value = sym
-          (some_same (Tree x.ctor vs) v h);
+          (same_Some (Tree x.ctor vs) v h);
     }
 
 own_later : (a : ℕ → Bool) (done : List (Option Value)) (x : Alternative) (xs : List Alternative) (v : Value)
@@ -98,7 +96,7 @@ pub among_own : (a : ℕ → Bool) (done : List (Option Value)) (xs : List Alter
     → value_among a done xs ≡ built y.ctor (field_values a done y.fields)
 among_own a done [] j y one at is = cc
 among_own a done (x ∷ xs) zero y one at is =
-    let same : x ≡ y = some_same x y at in
+    let same : x ≡ y = same_Some x y at in
     subst (λ (z : Alternative). value_among a done (z ∷ xs) ≡ built y.ctor (field_values a done y.fields)) (sym same)
     (ap (λ (b : Bool). if b then built y.ctor (field_values a done y.fields) else value_among a done xs) is)
 among_own a done (x ∷ xs) (suc j) y one at is = elim (cases_Bool (lit_value a x.lit)) [
@@ -115,7 +113,7 @@ pub before_more : (c : ℕ) (xs : List Alternative) (i : ℕ) (x : Alternative) 
     → ((j : ℕ) (y : Alternative) → j < i → slice_get xs j ≡ Some y → y.ctor.0 ≡ c → ⊥)
     → (j : ℕ) (y : Alternative) → j < i + 1 → slice_get xs j ≡ Some y → y.ctor.0 ≡ c → ⊥
 before_more c xs i x at differ before j y lt other is = elim (cases_order j i) [
-  | inl e ↦ differ (ap (λ (z : Alternative). z.ctor.0) (some_same x y
+  | inl e ↦ differ (ap (λ (z : Alternative). z.ctor.0) (same_Some x y
       (sym at ∙ ap (λ k. slice_get xs k) (sym e) ∙ other)) ∙ is)
   | inr o ↦ elim o [
     | inl less ↦ before j y less other is

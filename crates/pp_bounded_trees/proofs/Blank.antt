@@ -1,6 +1,7 @@
 -- Nodes without a constructor, and trees that name the last node.
 use Rattle.std.proofs.Common.{◌≡◌, ℕ, ◌+◌, ◌≤◌, ◌^◌, List, [], ◌∷◌, ◌++◌, length, Some, sym, ap, ◌∙◌, subst, arith}
 use Rattle.std.proofs.Common.{slice_get, inl, length-append}
+use Rattle.std.proofs.lemmas.Option.{same_Some}
 use Rattle.pp_prog.specs.declared.id.CtorId.{CtorId}
 use Rattle.pp_prog.specs.declared.sort.Sort.{Sort}
 use Rattle.pp_prog.specs.declared.types.Ctor.{Ctor}
@@ -46,16 +47,13 @@ pushed_fits nodes all x t is number of height most =
       most = omega arith;
     }
 
-some_same : {X : Type 0} (x y : X) → Some x ≡ Some y → x ≡ y
-some_same x y e = cc
-
 -- a field has one sort
 pub field_sort_same : (types : TypeTable) (c : CtorId) (i : ℕ) (r s : Sort) → HasField types c i r → HasField types
     c i s
     → r ≡ s
 field_sort_same types c i r s one other =
-    let same : one.0 ≡ other.0 = some_same one.0 other.0 (sym one.1 ∙ other.1) in
-    some_same r s (sym one.2 ∙ ap (λ (k : Ctor). slice_get k.fields i) same ∙ other.2)
+    let same : one.0 ≡ other.0 = same_Some one.0 other.0 (sym one.1 ∙ other.1) in
+    same_Some r s (sym one.2 ∙ ap (λ (k : Ctor). slice_get k.fields i) same ∙ other.2)
 
 -- a circuit that is the same
 pub Moves_unmoved : (types : TypeTable) (d : Trees) (gs hs : List Gate) → BoundedFits types d gs → hs ≡ gs

@@ -4,7 +4,7 @@ use Rattle.std.proofs.Common.{◌∷◌, ◌++◌, length, map, take, drop, sum,
 use Rattle.std.proofs.Common.{subst, arith, slice_get, inl, inr, length-append}
 use Rattle.std.proofs.lemmas.Bool.{and_from, and_parts, cases_lt, eqb-true, leb-true, ltb-true, le-leb, lt-ltb}
 use Rattle.std.proofs.lemmas.List.Sums.{sum-map, sum_by-cons}
-use Rattle.std.proofs.lemmas.Option.{slice_get_within}
+use Rattle.std.proofs.lemmas.Option.{same_Some, slice_get_within}
 use Rattle.std.specs.List.{list_all, list_any}
 use Rattle.pp_prog.specs.declared.id.CtorId.{CtorId}
 use Rattle.pp_prog.specs.declared.id.DataId.{DataId}
@@ -21,9 +21,6 @@ use Rattle.pp_gate.proofs.Places.{at_left, at_next, at_push, at_some}
 use Rattle.pp_bounded_trees.specs.Possible.{ArePossible, AreValuesUpTo, IsValueUpTo, bits_if, ctor_bits, field_bits}
 use Rattle.pp_bounded_trees.specs.Possible.{total, has_value, is_possible}
 use Rattle.pp_bounded_trees.proofs.Sorted.{fields_up_to, no_tree}
-
-some_same : {X : Type 0} (x y : X) → Some x ≡ Some y → x ≡ y
-some_same x y e = cc
 
 -- sums
 pub total_append : {X : Type 0} (f : X → ℕ) (xs ys : List X) → total f (xs ++ ys) ≡ total f xs + total f ys
@@ -53,7 +50,7 @@ bits_of_ctors types h d =
 pub any_from : {X : Type 0} (p : X → Bool) (xs : List X) (j : ℕ) (x : X) → slice_get xs j ≡ Some x → p x ≡ true
     → list_any p xs ≡ true
 any_from p [] j x at is = cc
-any_from p (y ∷ xs) zero x at is = first (p y) (ap p (some_same y x at) ∙ is)
+any_from p (y ∷ xs) zero x at is = first (p y) (ap p (same_Some y x at) ∙ is)
   where
     first : (b : Bool) → b ≡ true → b || list_any p xs ≡ true
     first true e = refl
@@ -92,7 +89,7 @@ pub take_next : {X : Type 0} (xs : List X) (i : ℕ) (x : X) → slice_get xs i 
     → take (i + 1) xs ≡ take i xs ++ x ∷ []
 take_next [] i x at = cc
 take_next (y ∷ xs) zero x at = let e : 0 + 1 ≡ suc 0 = omega arith in
-    ap (λ n. take n (y ∷ xs)) e ∙ ap (λ z. z ∷ []) (some_same y x at)
+    ap (λ n. take n (y ∷ xs)) e ∙ ap (λ z. z ∷ []) (same_Some y x at)
 take_next (y ∷ xs) (suc i) x at = let e : suc i + 1 ≡ suc (i + 1) = omega arith in
     ap (λ n. take n (y ∷ xs)) e ∙ ap (λ ys. y ∷ ys) (take_next xs i x at)
 
@@ -242,7 +239,7 @@ module _ (types : TypeTable) where
       earlier c j l lt at = elim (cases_lt j i) [
         | inl less ↦ inl less
         | inr not ↦
-            let e : j ≡ i = omega arith in inr (e, some_same l k (sym at ∙ ap (slice_get (ctors_of types d)) e ∙ here))
+            let e : j ≡ i = omega arith in inr (e, same_Some l k (sym at ∙ ap (slice_get (ctors_of types d)) e ∙ here))
       ]
 
       -- one that isn't
@@ -319,7 +316,7 @@ module _ (types : TypeTable) where
       order = before.order;
       all = λ c k at of p.
           let b = in_block_ctor d c.0 k at of in
-          let same : b.datatype ≡ t = some_same b.datatype t (sym b.at_data ∙ is) in
+          let same : b.datatype ≡ t = same_Some b.datatype t (sym b.at_data ∙ is) in
           let within = slice_get_within (ctors_of types d) b.place k b.at in
           before.all c b.place k (omega arith) (b.number ∙ ap (λ (x : Datatype). x.first.0 + b.place) same) b.at p;
       most =

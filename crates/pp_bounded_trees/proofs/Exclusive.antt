@@ -1,6 +1,7 @@
 -- One more choice: exactly one literal stays true, and each can be.
 use Rattle.std.proofs.Common.{◌≡◌, ℕ, zero, suc, ◌+◌, ◌&&◌, Bool, true, false, not, List, [], ◌∷◌, ◌++◌, length, Some}
 use Rattle.std.proofs.Common.{refl, sym, ap, ◌∙◌, subst, arith, slice_get, inl, inr}
+use Rattle.std.proofs.lemmas.Option.{same_Some}
 use Rattle.pp_clause.specs.Literal.{Literal, lit_value, opposite}
 use Rattle.pp_gate.specs.declared.gate.Gate.{Gate}
 use Rattle.pp_gate.specs.Circuit.{Gives, IsCircuit, IsInput, IsOf, StandsFor}
@@ -12,9 +13,6 @@ use Rattle.pp_gate.proofs.Places.{at_left, at_next, at_push}
 use Rattle.pp_bits.specs.Number.{bit, lit_bit}
 use Rattle.pp_bits.proofs.Numbers.{lit_value_negated}
 use Rattle.pp_bounded_trees.specs.Choices.{AreChoices, Picked, true_in}
-
-some_same : {X : Type 0} (x y : X) → Some x ≡ Some y → x ≡ y
-some_same x y e = cc
 
 pub true_in_push : (a : ℕ → Bool) (ls : List Literal) (l : Literal)
     → true_in a (ls ++ l ∷ []) ≡ true_in a ls + lit_bit a l
@@ -48,7 +46,7 @@ choices_none gs ls none empty stands =
     })
   where
     one_at : (j : ℕ) (l : Literal) → slice_get (none ∷ []) j ≡ Some l → none ≡ l
-    one_at zero l at = some_same none l at
+    one_at zero l at = same_Some none l at
     one_at (suc j) l at = cc
 
 split_bit : (b i : Bool) → bit (b && i) + bit (b && not i) ≡ bit b

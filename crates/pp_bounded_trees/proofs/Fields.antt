@@ -1,6 +1,7 @@
 -- What a field of a tree is, and stands for.
 use Rattle.std.proofs.Common.{◌≡◌, ℕ, zero, suc, ◌+◌, ◌-◌, ◌≤◌, ◌^◌, Bool, List, [], ◌∷◌, length, map, Option, Some}
 use Rattle.std.proofs.Common.{None, refl, sym, ap, ◌∙◌, subst, arith, slice_get, inl}
+use Rattle.std.proofs.lemmas.Option.{same_Some}
 use Rattle.pp_prog.specs.declared.id.CtorId.{CtorId}
 use Rattle.pp_prog.specs.declared.sort.Sort.{Sort}
 use Rattle.pp_prog.specs.declared.sort.Sort.TheVariants as sort
@@ -29,10 +30,7 @@ use Rattle.pp_bounded_trees.proofs.Alternatives.{own_of}
 use Rattle.pp_bounded_trees.proofs.Found.{found_has, found_some}
 use Rattle.pp_bounded_trees.proofs.Lawful.{bounded_lawful}
 use Rattle.pp_bounded_trees.proofs.Locality.{node_value}
-use Rattle.pp_bounded_trees.proofs.Looks.{same_ctor}
-
-some_same : {X : Type 0} (x y : X) → Some x ≡ Some y → x ≡ y
-some_same x y e = cc
+use Rattle.pp_prog.proofs.Values.{same_ctor}
 
 -- the values of all are those of the first and of the rest
 pub record FirstOfAll (o : Option Value) (os : List (Option Value)) (vs : List Value) : Type 0 where
@@ -54,7 +52,7 @@ all_first (Some v) os vs e = step (all_values os) refl e
       rest = rest;
       first_is = refl;
       rest_is = is;
-      whole = some_same vs (v ∷ rest) (sym g);
+      whole = same_Some vs (v ∷ rest) (sym g);
     }
 
 -- the value at a place is that of the symbol there
@@ -64,7 +62,7 @@ pub values_at : (f : Symbol BoundedTree → Option Value) (xs : List (Symbol Bou
 values_at f [] vs i x u all at here = cc
 values_at f (y ∷ xs) vs zero x u all at here =
     let o = all_first (f y) (map f xs) vs all in
-    ap f (some_same x y (sym at)) ∙ o.first_is ∙ ap (λ (us : List Value). slice_get us 0) (sym o.whole) ∙ here
+    ap f (same_Some x y (sym at)) ∙ o.first_is ∙ ap (λ (us : List Value). slice_get us 0) (sym o.whole) ∙ here
 values_at f (y ∷ xs) vs (suc i) x u all at here =
     let o = all_first (f y) (map f xs) vs all in
     values_at f xs o.rest i x u o.rest_is at (ap (λ (us : List Value). slice_get us (suc i)) (sym o.whole) ∙ here)
@@ -83,7 +81,7 @@ field_at gs nodes k h (r ∷ ss) [] i s fits at = absurd fits
 field_at gs nodes k h (r ∷ ss) (x ∷ xs) zero s fits at = record {
   field = x;
   at = refl;
-  fits = subst (λ (q : Sort). FieldFits gs nodes k h q x) (some_same r s at) fits.0;
+  fits = subst (λ (q : Sort). FieldFits gs nodes k h q x) (same_Some r s at) fits.0;
 }
 field_at gs nodes k h (r ∷ ss) (x ∷ xs) (suc i) s fits at =
     let rest = field_at gs nodes k h ss xs i s fits.1 at in
@@ -92,15 +90,15 @@ field_at gs nodes k h (r ∷ ss) (x ∷ xs) (suc i) s fits at =
 -- a symbol stands for the value that it has
 pub symbol_has : (d : Trees) (n : Naming) (a : ℕ → Bool) (x : Symbol BoundedTree) (v : Value)
     → symbol_value a (values_of a d.nodes) x ≡ Some v → SymbolStands bounded_sense d a n x v
-symbol_has d n a (symbol.Word w) v is = some_same _ _ (sym is)
-symbol_has d n a (symbol.Bit l) v is = some_same _ _ (sym is)
+symbol_has d n a (symbol.Word w) v is = same_Some _ _ (sym is)
+symbol_has d n a (symbol.Bit l) v is = same_Some _ _ (sym is)
 symbol_has d n a (symbol.Tree t) v is = is
 
 -- also as one of another height
 lowered_has : (d : Trees) (n : Naming) (a : ℕ → Bool) (h : ℕ) (x : Symbol BoundedTree) (v : Value)
     → symbol_value a (values_of a d.nodes) x ≡ Some v → SymbolStands bounded_sense d a n (lowered h x) v
-lowered_has d n a h (symbol.Word w) v is = some_same _ _ (sym is)
-lowered_has d n a h (symbol.Bit l) v is = some_same _ _ (sym is)
+lowered_has d n a h (symbol.Word w) v is = same_Some _ _ (sym is)
+lowered_has d n a h (symbol.Bit l) v is = same_Some _ _ (sym is)
 lowered_has d n a h (symbol.Tree t) v is = is
 
 lowered_blank : (d : Trees) (gs : List Gate) (k h m : ℕ) (s : Sort) (x : Symbol BoundedTree)
@@ -142,7 +140,7 @@ module _ (types : TypeTable) (d : Trees) (gs : List Gate) (t : BoundedTree) (c :
       let f = found_some c.0 tree.node.alternatives y here in
       let fit = node_fits.each f.place y f.at in
       let same : fit.entry ≡ has.0 =
-      some_same fit.entry has.0 (sym fit.at ∙ ap (λ k. slice_get types.ctors k) f.ctor ∙ has.1) in
+      same_Some fit.entry has.0 (sym fit.at ∙ ap (λ k. slice_get types.ctors k) f.ctor ∙ has.1) in
       field_at gs d.nodes t.number tree.node.height fit.entry.fields y.fields i s fit.fields
       (ap (λ (e : Ctor). slice_get e.fields i) same ∙ has.2)
 
@@ -185,7 +183,7 @@ module _ (types : TypeTable) (d : Trees) (gs : List Gate) (t : BoundedTree) (c :
       step None here g = cc
       step (Some y) here g =
           let f = own_field s y has here in
-          let same : f.field ≡ x = some_same f.field x (sym f.at ∙ g) in
+          let same : f.field ≡ x = same_Some f.field x (sym f.at ∙ g) in
           let blank = lowered_blank d gs t.number tree.node.height (t.height - 1) s x
           (subst (λ (z : Symbol BoundedTree). FieldFits gs d.nodes t.number tree.node.height s z) same f.fits)
           (let b = tree.before in omega arith) (let b = tree.height in omega arith)
@@ -198,7 +196,7 @@ module _ (types : TypeTable) (d : Trees) (gs : List Gate) (t : BoundedTree) (c :
                 let own = found_own a v stands (has refl) in
                 lowered_has d n a (t.height - 1) x u
                 (own_value a v stands (has refl) x u
-                (ap (λ (z : Alternative). slice_get z.fields i) (some_same _ y (sym own ∙ here)) ∙ g)
+                (ap (λ (z : Alternative). slice_get z.fields i) (same_Some _ y (sym own ∙ here)) ∙ g)
                 (field_of_value n s v u (has refl) field));
             extends = λ n a good any. Extended_none bounded_sense types d gs n a good;
           }

@@ -2,11 +2,9 @@
 use Rattle.std.proofs.Common.{◌≡◌, ℕ, zero, suc, ◌<◌, Bool, true, false, nat_eq, eq-eqb, if◌then◌else◌, List, [], ◌∷◌}
 use Rattle.std.proofs.Common.{Some, refl, sym, ap, ◌∙◌, arith, slice_get}
 use Rattle.std.proofs.lemmas.Bool.{eqb-true, ne_eqb}
+use Rattle.std.proofs.lemmas.Option.{same_Some}
 use Rattle.pp_bounded_trees.specs.declared.arena.Alternative.{Alternative}
 use Rattle.pp_bounded_trees.specs.Alternatives.{IsPlaceOf, found}
-
-some_same : {X : Type 0} (x y : X) → Some x ≡ Some y → x ≡ y
-some_same x y e = cc
 
 -- where the first of the number stands, it is found
 pub found_at : (c : ℕ) (xs : List Alternative) (p : ℕ) → IsPlaceOf c xs p → found c xs ≡ slice_get xs p
@@ -36,7 +34,7 @@ found_some c (x ∷ xs) y e = step (nat_eq x.ctor.0 c) refl (λ f. found_some c 
     step true e rest g = record {
       place = 0;
       at = g;
-      ctor = ap (λ (z : Alternative). z.ctor.0) (some_same y x (sym g)) ∙ eqb-true x.ctor.0 c e;
+      ctor = ap (λ (z : Alternative). z.ctor.0) (same_Some y x (sym g)) ∙ eqb-true x.ctor.0 c e;
     }
     step false e rest g = let r = rest g in record { place = suc r.place; at = r.at; ctor = r.ctor }
 
@@ -47,7 +45,7 @@ pub found_has : (c : ℕ) (xs : List Alternative) (j : ℕ) (y : Alternative)
 found_has c [] j y order at is = cc
 found_has c (x ∷ xs) zero y order at is =
     ap (λ (b : Bool). if b then Some x else found c xs)
-    (eq-eqb x.ctor.0 c (ap (λ (z : Alternative). z.ctor.0) (some_same x y at) ∙ is))
+    (eq-eqb x.ctor.0 c (ap (λ (z : Alternative). z.ctor.0) (same_Some x y at) ∙ is))
     ∙ at
 found_has c (x ∷ xs) (suc j) y order at is =
     let less = order 0 (suc j) x y (omega arith) refl at in

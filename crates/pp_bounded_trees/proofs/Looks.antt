@@ -2,12 +2,12 @@
 use Rattle.std.proofs.Common.{◌≡◌, ℕ, Bool, true, List, [], length, Some, refl, sym, ap, ◌∙◌, subst, arith, slice_get}
 use Rattle.std.proofs.Common.{get_or, inl, inr}
 use Rattle.std.proofs.lemmas.Bool.{both_ways, cases_lt, cases_order}
-use Rattle.std.proofs.lemmas.Option.{get_or_from_slice_get, slice_get_within}
+use Rattle.std.proofs.lemmas.Option.{get_or_from_slice_get, same_Some, slice_get_within}
 use Rattle.pp_prog.specs.declared.id.CtorId.{CtorId}
 use Rattle.pp_prog.specs.declared.types.TypeTable.{TypeTable}
 use Rattle.pp_prog.specs.declared.value.Value.{Value}
-use Rattle.pp_prog.specs.declared.value.Value.TheVariants.{Tree, outs-Tree}
-use Rattle.pp_prog.specs.declared.value.Value.TheViews.{out-Value}
+use Rattle.pp_prog.specs.declared.value.Value.TheVariants.{Tree}
+use Rattle.pp_prog.proofs.Values.{ctor_same, same_ctor}
 use Rattle.pp_clause.specs.Literal.{Literal, lit_value}
 use Rattle.pp_gate.specs.declared.gate.Gate.{Gate}
 use Rattle.pp_gate.specs.Circuit.{Gives}
@@ -25,15 +25,6 @@ use Rattle.pp_bounded_trees.specs.Meaning.{BoundedFits, bounded_sense}
 use Rattle.pp_bounded_trees.specs.Values.{value_at, values_of}
 use Rattle.pp_bounded_trees.proofs.Alternatives.{own_of, true_once}
 use Rattle.pp_bounded_trees.proofs.Locality.{node_value}
-
-some_same : {X : Type 0} (x y : X) → Some x ≡ Some y → x ≡ y
-some_same x y e = cc
-
-pub ctor_same : (c d : CtorId) → c.0 ≡ d.0 → c ≡ d
-ctor_same c d e = let mk : ℕ → CtorId = λ n. record { 0 = n } in ap mk e
-
-pub same_ctor : (c d : CtorId) (fs gs : List Value) → Tree c fs ≡ Tree d gs → c ≡ d
-same_ctor c d fs gs e = let o = sym (outs-Tree c fs) ∙ ap out-Value e ∙ outs-Tree d gs in cc
 
 -- the constructors of the node that is read are those of the tree's node
 pub read_alternatives : (nodes read : List Node) (xs : List Alternative) (k : ℕ) (x y : Node) → read ≡ nodes

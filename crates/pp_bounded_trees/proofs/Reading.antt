@@ -1,6 +1,7 @@
 -- What is read of a tree: its own constructor, and the values of the fields.
 use Rattle.std.proofs.Common.{◌≡◌, ℕ, zero, suc, ◌+◌, ◌<◌, ◌≤◌, Bool, true, List, [], ◌∷◌, ◌++◌, length, map, take}
 use Rattle.std.proofs.Common.{get_or, Option, Some, None, refl, sym, ap, ◌∙◌, subst, arith, slice_get}
+use Rattle.std.proofs.lemmas.Option.{same_Some}
 use Rattle.pp_prog.specs.declared.sort.Sort.{Sort}
 use Rattle.pp_prog.specs.declared.sort.Sort.TheVariants as sort
 use Rattle.pp_prog.specs.declared.types.TypeTable.{TypeTable}
@@ -28,9 +29,6 @@ use Rattle.pp_bounded_trees.proofs.Kept.{all_push, map_push}
 use Rattle.pp_bounded_trees.proofs.Locality.{node_value}
 use Rattle.pp_bounded_trees.proofs.Looks.{one_true}
 
-some_same : {X : Type 0} (x y : X) → Some x ≡ Some y → x ≡ y
-some_same x y e = cc
-
 -- what falls from a tree to its fields
 abbrev pub rank : Symbol BoundedTree → ℕ
 rank (symbol.Word w) = 0
@@ -48,7 +46,7 @@ sort_at gs nodes k h [] [] j x fits at = cc
 sort_at gs nodes k h [] (y ∷ xs) j x fits at = absurd fits
 sort_at gs nodes k h (s ∷ ss) [] j x fits at = absurd fits
 sort_at gs nodes k h (s ∷ ss) (y ∷ xs) zero x fits at =
-    record { sort = s; fits = subst (λ (z : Symbol BoundedTree). FieldFits gs nodes k h s z) (some_same y x at) fits.0 }
+    record { sort = s; fits = subst (λ (z : Symbol BoundedTree). FieldFits gs nodes k h s z) (same_Some y x at) fits.0 }
 sort_at gs nodes k h (s ∷ ss) (y ∷ xs) (suc j) x fits at = sort_at gs nodes k h ss xs j x fits.1 at
 
 -- a field is a symbol of the domain, and lower than the node
@@ -92,7 +90,7 @@ pub value_there : (f : Symbol BoundedTree → Option Value) (xs : List (Symbol B
 value_there f [] vs j x all at = cc
 value_there f (y ∷ xs) vs zero x all at =
     let o = all_first (f y) (map f xs) vs all in
-    record { value = o.first; is = ap f (some_same x y (sym at)) ∙ o.first_is }
+    record { value = o.first; is = ap f (same_Some x y (sym at)) ∙ o.first_is }
 value_there f (y ∷ xs) vs (suc j) x all at =
     let o = all_first (f y) (map f xs) vs all in value_there f xs o.rest j x o.rest_is at
 
@@ -199,6 +197,6 @@ module _ (types : TypeTable) (d : Trees) (a : ℕ → Bool) (x : Symbol BoundedT
   read_own p y first lt here =
       let own = tree types d a t readable_tree in
       let at = at_read xs p y lt here in
-      let same : first.own ≡ y = some_same first.own y (sym first.at ∙ at) in
+      let same : first.own ≡ y = same_Some first.own y (sym first.at ∙ at) in
       read_tree types d a t readable_tree xs p y (all.is own.node own.at) at
       (subst (λ (z : Alternative). lit_value a z.lit ≡ true) same first.is)

@@ -5,6 +5,7 @@ use Rattle.std.proofs.lemmas.Bool.{and_parts}
 use Rattle.std.specs.Int.{w32}
 use Rattle.std.specs.Int.RustNames.{FitsSigned}
 use Rattle.std.specs.List.{list_all}
+use Rattle.std.proofs.lemmas.Option.{same_Some}
 use Rattle.pp_prog.specs.declared.id.CtorId.{CtorId}
 use Rattle.pp_prog.specs.declared.sort.Sort.{Sort}
 use Rattle.pp_prog.specs.declared.sort.Sort.TheVariants as sort
@@ -33,10 +34,8 @@ use Rattle.pp_bounded_unknown.specs.Full.{AreFull, AreFullAlternatives, IsFull, 
 use Rattle.pp_bounded_trees.specs.Meaning.{bounded_sense}
 use Rattle.pp_bounded_trees.proofs.Candidates.{take_next}
 use Rattle.pp_bounded_unknown.proofs.Full.{AreFull_from, AreFull_later}
-use Rattle.pp_bounded_trees.proofs.Sorted.{bool_value, int_from, int_has, int_value, truth_has, word_from}
-
-some_same : {X : Type 0} (x y : X) → Some x ≡ Some y → x ≡ y
-some_same x y e = cc
+use Rattle.pp_prog.proofs.ValueSorts.{bool_value, int_has, int_value, truth_has}
+use Rattle.pp_eval.proofs.Ranges.{int_fits, int_from}
 
 pub height_within : (h : ℕ) (s : Sort) → height_at h s ≤ h
 height_within h sort.Int = omega arith
@@ -47,7 +46,7 @@ pub all_at : {X : Type 0} (p : X → Bool) (xs : List X) (j : ℕ) (x : X) → l
     → p x ≡ true
 all_at p [] j x all at = cc
 all_at p (y ∷ xs) zero x all at =
-    ap p (some_same x y (sym at)) ∙ (and_parts (p y) _ all).0
+    ap p (same_Some x y (sym at)) ∙ (and_parts (p y) _ all).0
 all_at p (y ∷ xs) (suc j) x all at = all_at p xs j x (and_parts (p y) _ all).1 at
 
 word_is_int : (a : ℕ → Bool) (w : List Literal) → length w ≡ 32
@@ -63,8 +62,8 @@ module _ (types : TypeTable) (d : Trees) (gs hs : List Gate) (h : ℕ) where
     of = (inputs.len, inputs.of);
     height = refl;
     chosen = λ a v gives is.
-        let n = int_value types v is.sort in
-        let c = chosen a gives n.number (word_from n.number n.fits) in
+        let n = int_value types.ctors v is.sort in
+        let c = chosen a gives n.number (int_fits n.number n.fits) in
         record {
           next = c.assignment;
           gives = c.gives;
@@ -75,7 +74,7 @@ module _ (types : TypeTable) (d : Trees) (gs hs : List Gate) (h : ℕ) where
       value = value.Int (word_of w32 a w);
       stands = refl;
       up_to = record {
-        sort = int_has types (word_of w32 a w) (word_is_int a w inputs.len);
+        sort = int_has types.ctors (word_of w32 a w) (word_is_int a w inputs.len);
         most = (let e = height_of_int (word_of w32 a w) in omega arith);
       };
     };
@@ -88,7 +87,7 @@ module _ (types : TypeTable) (d : Trees) (gs hs : List Gate) (h : ℕ) where
     of = of;
     height = refl;
     chosen = λ a v gives has.
-        let b = bool_value types v has.sort in
+        let b = bool_value types.ctors v has.sort in
         let x = growth_extends gs hs 1 grows is a (λ n. b.truth) gives in
         record {
           next = x.assignment;
@@ -101,7 +100,7 @@ module _ (types : TypeTable) (d : Trees) (gs hs : List Gate) (h : ℕ) where
       value = value.Bool (lit_value a l);
       stands = refl;
       up_to = record {
-        sort = truth_has types (lit_value a l);
+        sort = truth_has types.ctors (lit_value a l);
         most = (let e = height_of_bool (lit_value a l) in omega arith);
       };
     };

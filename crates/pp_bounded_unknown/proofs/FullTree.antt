@@ -1,7 +1,7 @@
 -- A node of the possible constructors can have any value up to its height.
 use Rattle.std.proofs.Common.{◌≡◌, ℕ, suc, ◌≤◌, ◌^◌, Bool, true, List, [], ◌∷◌, ◌++◌, length, Some, refl, sym, ap, ◌∙◌}
 use Rattle.std.proofs.Common.{subst, arith, slice_get, inr}
-use Rattle.std.proofs.lemmas.Option.{slice_get_within}
+use Rattle.std.proofs.lemmas.Option.{same_Some, slice_get_within}
 use Rattle.pp_prog.specs.declared.id.CtorId.{CtorId}
 use Rattle.pp_prog.specs.declared.id.DataId.{DataId}
 use Rattle.pp_prog.specs.declared.sort.Sort.TheVariants as sort
@@ -40,9 +40,6 @@ use Rattle.pp_bounded_trees.proofs.Locality.{node_value}
 use Rattle.pp_bounded_trees.proofs.Pushed.{Moves_pushed}
 use Rattle.pp_bounded_trees.proofs.Sorted.{fields_up_to, tree_up_to}
 
-some_same : {X : Type 0} (x y : X) → Some x ≡ Some y → x ≡ y
-some_same x y e = cc
-
 agree_self : (n : ℕ) (a : ℕ → Bool) → AgreeUpTo n a a
 agree_self n a = record { agree = λ x low high. refl }
 
@@ -54,7 +51,7 @@ true_same a [] [] len lits = refl
 true_same a [] (l ∷ ls) len lits = absurd (omega (arith, len))
 true_same a (y ∷ ys) [] len lits = absurd (omega (arith, len))
 true_same a (y ∷ ys) (l ∷ ls) len lits =
-    let one : lit_bit a y.lit ≡ lit_bit a l = ap (lit_bit a) (some_same y.lit l (sym (lits 0 y refl))) in
+    let one : lit_bit a y.lit ≡ lit_bit a l = ap (lit_bit a) (same_Some y.lit l (sym (lits 0 y refl))) in
     let rest = true_same a ys ls (omega (arith, len)) (λ j z at. lits (suc j) z at) in omega arith
 
 module _ (types : TypeTable) (d e f : Trees) (gs fs hs : List Gate) (m n h : ℕ) (of : DataId) (cs : List CtorId)
@@ -75,7 +72,7 @@ module _ (types : TypeTable) (d e f : Trees) (gs fs hs : List Gate) (m n h : ℕ
         let here = subst (λ zs. slice_get zs j ≡ Some y) alternatives at in
         let a = full.each j y here in
         let p = possible.each j y.ctor (full.ctors j y here) in
-        let same : p.0 ≡ a.entry = some_same p.0 a.entry (sym p.1 ∙ a.at) in
+        let same : p.0 ≡ a.entry = same_Some p.0 a.entry (sym p.1 ∙ a.at) in
         let low = greatest_within h y.fields a.fields.heights in
         let high = ap greatest (heights_same e y.fields) in
         record {
@@ -121,8 +118,8 @@ module _ (types : TypeTable) (d e f : Trees) (gs fs hs : List Gate) (m n h : ℕ
       let within = slice_get_within cs p.0 w.0.ctor p.1 in
       let y = at_some ys p.0 (omega (arith, full.len)) in
       let b = full.each p.0 y.0 y.1 in
-      let ctor : y.0.ctor ≡ w.0.ctor = some_same y.0.ctor w.0.ctor (sym (full.ctors p.0 y.0 y.1) ∙ p.1) in
-      let entry : w.0.entry ≡ b.entry = some_same w.0.entry b.entry
+      let ctor : y.0.ctor ≡ w.0.ctor = same_Some y.0.ctor w.0.ctor (sym (full.ctors p.0 y.0 y.1) ∙ p.1) in
+      let entry : w.0.entry ≡ b.entry = same_Some w.0.entry b.entry
       (sym w.0.at ∙ ap (λ (c : CtorId). slice_get types.ctors c.0) (sym ctor) ∙ b.at) in
       let pick = choices.picked a p.0 y.0.lit gives (full.lits p.0 y.0 y.1) in
       let c = b.fields.chosen pick.next w.0.fields pick.gives
@@ -144,7 +141,7 @@ module _ (types : TypeTable) (d e f : Trees) (gs fs hs : List Gate) (m n h : ℕ
       let b = full.each o.place o.own o.at in
       let c = b.fields.bounded a gives in
       let p = possible.each o.place o.own.ctor (full.ctors o.place o.own o.at) in
-      let same : b.entry ≡ p.0 = some_same b.entry p.0 (sym b.at ∙ p.1) in
+      let same : b.entry ≡ p.0 = same_Some b.entry p.0 (sym b.at ∙ p.1) in
       let of_data : b.entry.of ≡ of = ap (λ (k : Ctor). k.of) same ∙ p.2 in
       record {
         value = value.Tree o.own.ctor c.values;

@@ -4,13 +4,11 @@ use Rattle.pp_bounded_samples.proofs.trees.equal.Goals as goal
 
 pub equal-requires-clause-room : goal.equal-requires-clause-room
 equal-requires-clause-room c =
-    let few = equal_few c.args.table.now c.args.domain.now c.args.left.now c.args.right.now c.requires.left.small
-    c.requires.alike in
+    let few = equal_few c.args.table.now c.args.domain.now c.args.circuit.now c.args.pair.now c.requires in
     let most = c.in_ok-room.ensures in omega arith
 
 pub equal-requires-clause-trees : goal.equal-requires-clause-trees
-equal-requires-clause-trees c =
-    one_data _ _ _ _ _ c.requires.left c.requires.right c.requires.alike
+equal-requires-clause-trees c = one_data _ _ _ _ c.requires
 
 pub returns : goal.returns
-returns c = record { goes = goes _ _ _ _ _ _ c.equal.ensures.moves }
+returns c = goes _ _ _ _ _ _ c.equal.ensures.moves

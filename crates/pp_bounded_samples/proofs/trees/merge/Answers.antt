@@ -4,18 +4,14 @@ use Rattle.pp_bounded_samples.proofs.trees.merge.Goals as goal
 
 pub merge-requires-clause-room : goal.merge-requires-clause-room
 merge-requires-clause-room c =
-    let few = merge_few c.args.table.now c.args.domain.now c.args.left.now c.args.right.now c.requires.left.small
-    c.requires.alike in
+    let few = merge_few c.args.table.now c.args.domain.now c.args.circuit.now c.args.pair.now c.requires.pair in
     let most = c.in_ok-room.ensures in omega arith
 
 pub merge-requires-clause-trees : goal.merge-requires-clause-trees
-merge-requires-clause-trees c =
-    one_data _ _ _ _ _ c.requires.left c.requires.right c.requires.alike
+merge-requires-clause-trees c = one_data _ _ _ _ c.requires.pair
 
 pub returns-clause-goes : goal.returns-clause-goes
 returns-clause-goes c = goes _ _ _ _ _ _ c.merge.ensures.moves
 
 pub returns-clause-kept : goal.returns-clause-kept
-returns-clause-kept c =
-    merge_kept _ _ _ _ _ _ _ _ _ _ c.merge.ensures.moves c.requires.left c.requires.right c.requires.alike
-    c.in_ok-tree.ensures.answer
+returns-clause-kept c = merge_kept _ _ _ _ _ _ _ _ _ c.merge.ensures.moves c.requires.pair c.in_ok-tree.ensures.answer

@@ -1,6 +1,6 @@
 use Rattle.std.proofs.Common.{◌≡◌, ◌∙◌, ◌+◌, ◌≤◌, ◌-◌, ℕ, suc, List, length, Some, refl, sym, ap, arith, subst}
 use Rattle.std.proofs.lemmas.List.{length-take-le}
-use Rattle.std.proofs.lemmas.Option.{slice_get-get_or, slice_get_within}
+use Rattle.std.proofs.lemmas.Option.{same_Some, slice_get-get_or, slice_get_within}
 use Rattle.pp_prog.specs.declared.id.CtorId.{CtorId}
 use Rattle.pp_prog.specs.declared.sort.Sort.{Sort}
 use Rattle.pp_prog.specs.declared.sort.Sort.TheVariants as sort
@@ -25,9 +25,6 @@ use Rattle.pp_bounded_unknown.proofs.FullTree.{full_node}
 use Rattle.pp_bounded_trees.proofs.Known.{Moves_same}
 use Rattle.pp_bounded_trees.proofs.Lawful.{bounded_lawful}
 use Rattle.pp_bounded_unknown.proofs.unknown.+full.Goals as goal
-
-some_same : {X : Type 0} (x y : X) → Some x ≡ Some y → x ≡ y
-some_same x y e = cc
 
 plus_none : (n : ℕ) → n + 0 ≤ n
 plus_none n = omega arith
@@ -153,7 +150,7 @@ pub full_alternatives-full_fields-requires : goal.full_alternatives-full_fields-
 full_alternatives-full_fields-requires t c =
     let at = slice_get-get_or c.args.ctors.now c.loop-place.place (record { 0 = 0 }) c.loop-place-test.true in
     let p = c.requires.ctors _ _ at in
-    let same : p.0 ≡ c.ctor.result.now = some_same _ _ (sym p.1 ∙ c.ctor.ensures) in
+    let same : p.0 ≡ c.ctor.result.now = same_Some _ _ (sym p.1 ∙ c.ctor.ensures) in
     let sorts : c.as_slice-sorts.result.now ≡ p.0.fields =
     c.as_slice-sorts.ensures ∙ ap (λ (k : Ctor). k.fields) (sym same) in
     let size = ctor_bits c.args.table.now c.args.height in
