@@ -13,7 +13,7 @@ module _ {A : Type 0} (test : A → Bool) where
     pub here : slice_get xs place ≡ Some item
     pub passes : test item ≡ true
 
-  first_of : (x : A) (xs : List A) → count_by test (x ∷ xs) ≡ cond (test x) 1 0 + count_by test xs
+  pub first_of : (x : A) (xs : List A) → count_by test (x ∷ xs) ≡ cond (test x) 1 0 + count_by test xs
   first_of x xs = sum_by-cons (λ y. cond (test y) 1 0) x xs
 
   later : (x : A) (xs : List A) → HasOne xs → HasOne (x ∷ xs)
@@ -47,3 +47,10 @@ module _ {A : Type 0} (test : A → Bool) where
           first_of y xs ∙ ap (λ b. cond b 1 0 + count_by test xs) passes in absurd (omega (arith, one, none))
   none_counted (y ∷ xs) none (suc i) x at =
       let more = first_of y xs in none_counted xs (omega (arith, more, none)) i x at
+
+-- where two tests agree on the first item, and count as many of the others, they count as many
+pub same_count : {A B : Type 0} (s : A → Bool) (t : B → Bool) (x : A) (xs : List A) (y : B) (ys : List B) → s x ≡ t y
+    → count_by s xs ≡ count_by t ys → count_by s (x ∷ xs) ≡ count_by t (y ∷ ys)
+same_count s t x xs y ys first rest =
+    first_of s x xs ∙ ap (λ b. cond b 1 0 + count_by s xs) first ∙ ap (λ n. cond (t y) 1 0 + n) rest
+    ∙ sym (first_of t y ys)

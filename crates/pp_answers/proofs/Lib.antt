@@ -8,3 +8,4 @@ pub mod Meaning
 pub mod Statuses
 pub mod Claimed
 pub mod Readings
+pub mod Texts

@@ -195,6 +195,13 @@ module _ (p : Program) (limits : Limits) (r : Response) (a : AnswersVerify p lim
     pub there : slice_get (lines_in r) i ≡ Some line
     pub tells : Tells p limits i f line verdict
 
+  -- what the line of a verdict tells
+  pub told_by : (i : ℕ) (f : Function) (v : Verdict) → slice_get a.found.verdicts i ≡ Some v
+      → Tells p limits i f (verdict_text p a.found.checks i f v) v
+  told_by i f v at =
+      tells p limits a.found.checks a.holds.ends i f (verdict_text p a.found.checks i f v) v
+      (a.holds.verdicts.each i v at) refl
+
   pub told : (i : ℕ) (f : Function) → slice_get p.functions i ≡ Some f → IsTold i f
   told i f at =
       let ends = a.found.checks in
@@ -209,7 +216,7 @@ module _ (p : Program) (limits : Limits) (r : Response) (a : AnswersVerify p lim
         there = ap (λ s. slice_get (lines_in s) i) a.says
             ∙ line_at p ends (summary_by a.found.verdicts ∷ []) 0 i p.functions a.found.verdicts f v.0 at v.1
             ∙ ap (λ k. Some (verdict_text p ends k f v.0)) first;
-        tells = tells p limits ends a.holds.ends i f text v.0 (are.each i v.0 v.1) refl;
+        tells = told_by i f v.0 v.1;
       }
 
   -- the line that stands there is the one that is told

@@ -1,5 +1,5 @@
 -- What is read back from the line of a function is what was printed, and it is true.
-use Rattle.std.proofs.Common.{◌≡◌, ◌∙◌, ◌^◌, ◌<◌, ◌≤◌, ℕ, List, length, refl, sym, ap, subst, inl, arith}
+use Rattle.std.proofs.Common.{◌≡◌, ◌∙◌, ◌^◌, ◌<◌, ℕ, List, refl, sym, ap, subst, inl, arith}
 use Rattle.std.specs.Prelude.{Option, None, Some, nat_eq, slice_get}
 use Rattle.std.proofs.lemmas.List.Sums.{count_by-le-length}
 use Rattle.pp_answers.proofs.Alike.{check_there, counterexample_there, good_there, none_there}
@@ -45,7 +45,7 @@ some_same h = cc
 -- ---- what a line tells is its content
 
 module _ (p : Program) (limits : Limits) (i : ℕ) (f : Function) (line : List ℕ) where
-  abbrev content_of : (v : Verdict) → Tells p limits i f line v → Content
+  abbrev pub content_of : (v : Verdict) → Tells p limits i f line v → Content
   content_of Valid t = valid (own_checks i p.checks)
   content_of (Depends g) t = depending g (own_checks i p.checks)
   content_of (Invalid c) t = failed c t.args
@@ -66,7 +66,7 @@ module _ (p : Program) (limits : Limits) (i : ℕ) (f : Function) (line : List �
   sorted at args g called =
       subst (λ h. AreArguments p.types.ctors (Some h) args) (some_same (sym called.function ∙ at)) called.arguments
 
-  printed : AreLimits limits → slice_get p.functions i ≡ Some f → (v : Verdict) (t : Tells p limits i f line v)
+  pub printed : AreLimits limits → slice_get p.functions i ≡ Some f → (v : Verdict) (t : Tells p limits i f line v)
       → Prints p i f line (content_of v t)
   printed range at Valid t = record { small = few_checks; text = t }
   printed range at (Depends g) t = record { on = t.on; here = t.here; small = few_checks; text = t.text }
@@ -88,7 +88,7 @@ module _ (p : Program) (limits : Limits) (i : ℕ) (f : Function) (line : List �
   reason_means c searched (why.Lemmas s) is = is.begun.round
   reason_means c searched why.Size is = (is.round, is.size)
 
-  meant : (v : Verdict) (t : Tells p limits i f line v) → (v ≡ Valid → IsGood p.types.ctors p.functions f)
+  pub meant : (v : Verdict) (t : Tells p limits i f line v) → (v ≡ Valid → IsGood p.types.ctors p.functions f)
       → Means limits p i f (content_of v t)
   meant Valid t good = (refl, good refl)
   meant (Depends g) t good = (refl, t.cone)
@@ -111,7 +111,7 @@ module _ (p : Program) (limits : Limits) (r : Response) (a : AnswersVerify p lim
 -- ---- programs that are alike
 
 module _ (p q : Program) (alike : AreAlike p q) (i : ℕ) (f : Function) (line : List ℕ) where
-  prints_there : (c : Content) → Prints p i f line c → Prints q i f line c
+  pub prints_there : (c : Content) → Prints p i f line c → Prints q i f line c
   prints_there (valid checks) h = record { small = h.small; text = h.text }
   prints_there (depending g checks) h = record {
     on = h.on;
@@ -148,7 +148,7 @@ module _ (p q : Program) (alike : AreAlike p q) (i : ℕ) (f : Function) (line :
   reason_there limits searched c reason.Size h =
       (h.0, subst (λ n. limits.gates < n) (same_estimate c.0 (next_round searched) limits.depth) h.1)
 
-  means_there : (limits : Limits) (c : Content) → Means limits p i f c → Means limits q i f c
+  pub means_there : (limits : Limits) (c : Content) → Means limits p i f c → Means limits q i f c
   means_there limits (valid checks) h = (h.0 ∙ ap (own_checks i) alike.checks, good_there p q alike f h.1)
   means_there limits (depending g checks) h =
       (h.0 ∙ ap (own_checks i) alike.checks, subst (λ fs. InCone fs i g.0) alike.functions h.1)
@@ -167,7 +167,7 @@ read_there p q alike limits i f line h = record {
 
 -- ---- the law
 
-legible : (sources : List (List ℕ)) (p : Program) → AreShort sources → IsAccepted sources p → IsLegible p
+pub legible : (sources : List (List ℕ)) (p : Program) → AreShort sources → IsAccepted sources p → IsLegible p
 legible sources p short is =
     let typing = is.program.typing in
     programs_are_legible sources typing.units is.program.typed p short (each_spells typing.spelled) typing.typing

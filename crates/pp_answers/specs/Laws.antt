@@ -1,8 +1,9 @@
 -- What answers mean. Source: own.
 use Rattle.std.specs.Prelude.{◌≡◌, ◌⊎◌, ℕ, List, [], Some, slice_get}
+use Rattle.std.specs.List.{concat}
 use Rattle.pp_answers.specs.Answers.{Answers, IsAccepted}
 use Rattle.pp_answers.specs.Claims.{AreLinesOf, Claim, InvalidFails, OpenIsSearched, ValidIsGood}
-use Rattle.pp_answers.specs.Readings.{IsReadBack}
+use Rattle.pp_answers.specs.Readings.{IsReadBack, IsTextReadBack}
 use Rattle.pp_eval.specs.Runs.{run as run_of}
 use Rattle.pp_induct.specs.Reports.{AreLimits}
 use Rattle.pp_induct.specs.declared.limits.Limits.{Limits}
@@ -84,6 +85,13 @@ OpenMeansSearched = IsAlwaysTrue OpenIsSearched
 abbrev pub LinesReadBack : Type 0
 LinesReadBack = (limits : Limits) (sources : List (List ℕ)) (r : Response) → AreLimits limits → AreShort sources
     → Answers (verify_within limits) sources r → EachLine sources (lines_in r) (IsReadBack limits)
+
+-- so is what is read back from the whole text that is printed: it tells where each line ends, and so all this of each
+-- function, in order, and how many functions have each verdict
+abbrev pub TextReadBack : Type 0
+TextReadBack = (limits : Limits) (sources : List (List ℕ)) (r : Response) → AreLimits limits → AreShort sources
+    → Answers (verify_within limits) sources r → (p : Program) → IsAccepted sources p
+    → IsTextReadBack limits p (concat (lines_in r))
 
 -- ---- mode `run`
 

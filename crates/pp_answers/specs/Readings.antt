@@ -1,12 +1,12 @@
--- What is read back from the line of a function. Source: own.
-use Rattle.std.specs.Prelude.{◌≡◌, ◌<◌, ◌≤◌, ℕ, List, Option, Some, None}
-use Rattle.pp_answers.specs.Claims.{Claim}
+-- What is read back from the line of a function, and from the whole text of a report. Source: own.
+use Rattle.std.specs.Prelude.{◌≡◌, ◌<◌, ◌≤◌, ℕ, Bool, true, false, List, Option, Some, None, count_by, slice_get}
 use Rattle.pp_eval.specs.Runs.{IsGood}
 use Rattle.pp_estimate.specs.Estimates.{estimate}
 use Rattle.pp_induct.specs.Reports.{next_round}
 use Rattle.pp_induct.specs.declared.limits.Limits.{Limits}
 use Rattle.pp_induction.specs.Ends.{NoLowRunFails}
 use Rattle.pp_line_contents.specs.Contents.{Content, Prints, depending, failed, left_open, valid}
+use Rattle.pp_line_contents.specs.Reports.{Counts, PrintsReport, ReportContent}
 use Rattle.pp_modes.specs.Lists.{own_checks}
 use Rattle.pp_print.specs.declared.line.Reason.{Reason}
 use Rattle.pp_print.specs.declared.line.Reason.TheVariants as reason
@@ -17,7 +17,8 @@ use Rattle.pp_prog.specs.declared.program.Program.{Program}
 use Rattle.pp_sound.specs.Counterexample.{IsCounterexample}
 
 module _ (limits : Limits) (p : Program) (i : ℕ) (f : Function) where
-  -- after a round that is named no arguments up to the asked depth fail the check with this fuel
+  -- a round that is named is one of those that are asked for, and no arguments up to the asked depth fail the check
+  -- with this fuel
   abbrev pub MeansSearched : Option ℕ → CheckId → Type 0
   MeansSearched None c = Unit {0}
   MeansSearched (Some n) c = (n ≤ limits.rounds) × NoLowRunFails p i c n limits.depth
@@ -48,3 +49,40 @@ pub record IsReadBack (limits : Limits) (p : Program) (i : ℕ) (f : Function) (
   pub printed : Prints p i f line content
   pub only : (other : Content) → Prints p i f line other → other ≡ content
   pub true_of : Means limits p i f content
+
+-- ---- the whole text
+
+abbrev pub is_valid : Content → Bool
+is_valid (valid checks) = true
+is_valid _ = false
+
+abbrev pub is_failed : Content → Bool
+is_failed (failed c args) = true
+is_failed _ = false
+
+abbrev pub is_left_open : Content → Bool
+is_left_open (left_open searched c why) = true
+is_left_open _ = false
+
+abbrev pub is_depending : Content → Bool
+is_depending (depending g checks) = true
+is_depending _ = false
+
+-- how many of the contents have each verdict
+abbrev pub counts_of : List Content → Counts
+counts_of cs = record {
+  valid = count_by is_valid cs;
+  invalid = count_by is_failed cs;
+  undecided = count_by is_left_open cs;
+  depending = count_by is_depending cs;
+}
+
+-- The text prints a content of each function, in order, and counts, and no others. What it says of each function is
+-- true, and the counts are those of the verdicts.
+pub record IsTextReadBack (limits : Limits) (p : Program) (text : List ℕ) : Type 0 where
+  pub content : ReportContent
+  pub printed : PrintsReport p text content
+  pub only : (other : ReportContent) → PrintsReport p text other → other ≡ content
+  pub true_of : (i : ℕ) (f : Function) (c : Content) → slice_get p.functions i ≡ Some f
+      → slice_get content.functions i ≡ Some c → Means limits p i f c
+  pub counted : content.counts ≡ counts_of content.functions

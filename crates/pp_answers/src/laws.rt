@@ -1,7 +1,7 @@
 //! What answers mean: each function does nothing, and its contract is the law.
 
 ghost use Rattle.pp_answers.specs.Laws.{InvalidMeansFailed, LinesReadBack, OneLineEach, OneStatus};
-ghost use Rattle.pp_answers.specs.Laws.{OpenMeansSearched, RunsAreRuns, ValidMeansGood};
+ghost use Rattle.pp_answers.specs.Laws.{OpenMeansSearched, RunsAreRuns, TextReadBack, ValidMeansGood};
 
 /// A task and sources have one status, as far as functions that are verified don't stay open. It does nothing: its
 /// contract is the law.
@@ -15,10 +15,18 @@ pub fn one_line_each()
     ensures { OneLineEach }
 {}
 
-/// The line of a function prints one verdict, with one check, one list of arguments, one round and one reason, and no
-/// other, and what it says is true. It does nothing: its contract is the law.
+/// Within limits in their ranges, and for at most 16 sources of at most 262,144 bytes, the line of a function prints
+/// one verdict, with one check, one list of arguments, one round and one reason, and no other, and what it says is
+/// true. It does nothing: its contract is the law.
 pub fn lines_read_back()
     ensures { LinesReadBack }
+{}
+
+/// So does the whole text that is printed: it tells where each line ends, and prints one verdict of each function, in
+/// order, with one check, one list of arguments, one round and one reason, and how many functions have each verdict,
+/// and nothing else, and all this is true. It does nothing: its contract is the law.
+pub fn text_read_back()
+    ensures { TextReadBack }
 {}
 
 /// A function is called valid only where it is good: every call that meets the precondition evaluates, with some fuel,

@@ -8,18 +8,20 @@ use Rattle.pp_declared.proofs.Steps.{all_first, all_rest}
 use Rattle.pp_declared.specs.Declares.{AreCtors, IsCtor, class_names, more_ctors, no_ctors, param_types, typed_root}
 use Rattle.pp_declared.specs.Listed.{ClassIn, DeclIn, DefIn, defs_of, ctor_of, ctors_of, decls_in, roots_of}
 use Rattle.pp_ordinary.proofs.Listed.{IfClass, IfDef, each_def, each_root, OfDecl, OfEachUnit, each_decl}
-use Rattle.pp_ordinary.specs.Spelled.{EachSpells}
-use Rattle.pp_plain_names.proofs.Names.{declared_names_are_words, declared_objects_are_bare}
+use Rattle.pp_line_contents.proofs.Spans.{Every, every_of}
+use Rattle.pp_ordinary.specs.Spelled.{EachSpells, Spells}
+use Rattle.pp_plain_names.proofs.Names.{declared_names_are_words, declared_objects_are_bare, declared_params_are_words}
 use Rattle.pp_plain_names.specs.Laws.{IsBareObject, IsWord, declared_name}
 use Rattle.pp_sorts.specs.IsSort.{AreSorts, more_sorts, no_sorts}
-use Rattle.pp_tree.specs.Plain.{ClassTree, DeclTree, TypeTrees, UnitTree, ctor, def, no_types, other, root}
+use Rattle.pp_tree.specs.Plain.{ClassTree, DeclTree, ParamTree, TypeTrees, UnitTree, ctor, def, no_types, other, root}
 use Rattle.pp_typed.specs.declared.sort.GenericSort.{GenericSort}
 use Rattle.pp_typed.specs.declared.typed.Typed.{Typed}
 use Rattle.pp_typed.specs.declared.typed.TypedCtor.{TypedCtor}
+use Rattle.pp_typed.specs.declared.typed.TypedParam.{TypedParam}
 use Rattle.pp_typed.specs.declared.typed.TypedRoot.{TypedRoot}
 use Rattle.pp_types_laws.proofs.Names.{names_differ}
 use Rattle.pp_types_laws.specs.Typing.{HasTyping, TypesDefs, more_defs, no_defs}
-use Rattle.pp_rules.specs.Bodies.{TypesDef, a_def}
+use Rattle.pp_rules.specs.Bodies.{TypesDef, a_def, typed_params}
 use Rattle.pp_typed.specs.declared.declared.Declared.{Declared}
 use Rattle.pp_typed.specs.declared.declared.Signature.{Signature}
 use Rattle.pp_typed.specs.declared.typed.TypedDef.{TypedDef}
@@ -82,8 +84,13 @@ fine_classes texts units spells = each_ctor (decls_in units) (each_decl IfCtor f
 abbrev ClassWord : ClassTree → Type 0
 ClassWord c = IsWord c.name
 
-abbrev DefWord : DefIn → Type 0
-DefWord d = IsWord d.def.name
+abbrev IsWordParam : ParamTree → Type 0
+IsWordParam q = IsWord q.name
+
+-- the names of a function and of its parameters
+record DefWords (d : DefIn) : Type 0 where
+  pub name : IsWord d.def.name
+  pub params : Every IsWordParam d.def.params
 
 class_word : (n : ℕ) (d : DeclTree) → IsWord (declared_name d) → IfClass ClassWord n d
 class_word n (root c) h = h
@@ -91,11 +98,17 @@ class_word n (ctor c) h = h
 class_word n (other c) h = h
 class_word n (def d) h = tt
 
-def_word : (n : ℕ) (d : DeclTree) → IsWord (declared_name d) → IfDef DefWord n d
-def_word n (root c) h = tt
-def_word n (ctor c) h = tt
-def_word n (other c) h = tt
-def_word n (def d) h = h
+def_words_in : (n : ℕ) (text : List ℕ) (u : UnitTree) → Spells text u → (d : DeclTree) → Contains u.decls d
+    → IfDef DefWords n d
+def_words_in n text u s (root c) here = tt
+def_words_in n text u s (ctor c) here = tt
+def_words_in n text u s (other c) here = tt
+def_words_in n text u s (def d) here = record {
+  name = declared_names_are_words text s.tokens u (def d) s.utf8 s.cut s.spells here;
+  params =
+      every_of IsWordParam d.params
+      (λ q there. declared_params_are_words text s.tokens u d q s.utf8 s.cut s.spells here there);
+}
 
 class_words : OfEachUnit (IfClass ClassWord)
 class_words n text u s =
@@ -103,24 +116,40 @@ class_words n text u s =
     (λ d here. class_word n d (declared_names_are_words text s.tokens u d s.utf8 s.cut s.spells here))
     (All-contains_itself u.decls)
 
-def_words : OfEachUnit (IfDef DefWord)
+def_words : OfEachUnit (IfDef DefWords)
 def_words n text u s =
-    each (Contains u.decls) (IfDef DefWord n) u.decls
-    (λ d here. def_word n d (declared_names_are_words text s.tokens u d s.utf8 s.cut s.spells here))
-    (All-contains_itself u.decls)
+    each (Contains u.decls) (IfDef DefWords n) u.decls (def_words_in n text u s) (All-contains_itself u.decls)
 
 -- the definition of a typed function
+record IsOfDef (ds : List DefIn) (k : ℕ) (t : TypedDef) : Type 0 where
+  pub written : DefIn
+  pub here : slice_get ds k ≡ Some written
+  pub name : t.name ≡ written.def.name
+  pub sorts : List GenericSort
+  pub params : t.params ≡ typed_params written.def.params sorts
+
+own_def : {declared : Declared} {d : DefIn} {s : Signature} {t : TypedDef} (ds : List DefIn)
+    → TypesDef declared d.source d.def s t → IsOfDef (d ∷ ds) 0 t
+own_def {d = d} {s = s} ds (a_def p m b q) =
+    record { written = d; here = refl; name = refl; sorts = s.params; params = refl }
+
 def_of_typed : {declared : Declared} {ds : List DefIn} {ss : List Signature} {ts : List TypedDef}
-    → TypesDefs declared ds ss ts → (k : ℕ) (t : TypedDef) → slice_get ts k ≡ Some t
-    → (d : DefIn) × (slice_get ds k ≡ Some d) × (t.name ≡ d.def.name)
+    → TypesDefs declared ds ss ts → (k : ℕ) (t : TypedDef) → slice_get ts k ≡ Some t → IsOfDef ds k t
 def_of_typed no_defs k t at = cc
-def_of_typed (more_defs {d = d} one rest) zero t at =
-    (d, refl, ap (λ (f : TypedDef). f.name) (sym (some_same at)) ∙ own_name one)
-  where
-    own_name : {declared : Declared} {d : DefIn} {s : Signature} {t : TypedDef} → TypesDef declared d.source d.def s t
-        → t.name ≡ d.def.name
-    own_name (a_def p m b q) = refl
-def_of_typed (more_defs one rest) (suc k) t at = def_of_typed rest k t at
+def_of_typed (more_defs {d = d} {ds = ds} one rest) zero t at =
+    subst (IsOfDef (d ∷ ds) 0) (some_same at) (own_def ds one)
+def_of_typed (more_defs one rest) (suc k) t at =
+    let own = def_of_typed rest k t at in
+    record { written = own.written; here = own.here; name = own.name; sorts = own.sorts; params = own.params }
+
+abbrev pub IsWordOfTyped : TypedParam → Type 0
+IsWordOfTyped q = IsWord q.name
+
+typed_words : (ps : List ParamTree) (ss : List GenericSort) → Every IsWordParam ps
+    → Every IsWordOfTyped (typed_params ps ss)
+typed_words [] ss h = tt
+typed_words (p ∷ ps) [] h = tt
+typed_words (p ∷ ps) (s ∷ ss) h = (h.0, typed_words ps ss h.1)
 
 -- ---- constructors of classes
 
@@ -167,11 +196,20 @@ module _ (texts : List (List ℕ)) (units : List UnitTree) (typed : Typed) (spel
       subst IsWord (ap (λ (t : TypedRoot). t.name) own.2)
       (of_place (λ (c : ClassIn). ClassWord c.class) (roots_of (decls_in units)) own.1.place own.0 all own.1.here)
 
+  of_def : (f : ℕ) (d : TypedDef) (own : IsOfDef (defs_of (decls_in units)) f d) → DefWords own.written
+  of_def f d own =
+      of_place DefWords (defs_of (decls_in units)) f own.written
+      (each_def DefWords (decls_in units) (each_decl (IfDef DefWords) def_words 1 spells)) own.here
+
   pub defs_are_words : (f : ℕ) (d : TypedDef) → slice_get typed.defs f ≡ Some d → IsWord d.name
   defs_are_words f d at =
-      let all = each_def DefWord (decls_in units) (each_decl (IfDef DefWord) def_words 1 spells) in
+      let own = def_of_typed h.defs f d at in subst IsWord (sym own.name) (of_def f d own).name
+
+  pub params_are_words : (f : ℕ) (d : TypedDef) → slice_get typed.defs f ≡ Some d → Every IsWordOfTyped d.params
+  params_are_words f d at =
       let own = def_of_typed h.defs f d at in
-      subst IsWord (sym own.2) (of_place DefWord (defs_of (decls_in units)) f own.0 all own.1)
+      subst (Every IsWordOfTyped) (sym own.params)
+      (typed_words own.written.def.params own.sorts (of_def f d own).params)
 
   pub ctors_are_words : (k : ℕ) (t : TypedCtor) → slice_get typed.ctors k ≡ Some t → IsWord t.name
   ctors_are_words k t at =

@@ -1,4 +1,4 @@
--- The functions of a program have the printed names of its instances.
+-- The functions of a program have the printed names of its instances, and the parameters of typed functions.
 use Rattle.std.proofs.Common.{◌≡◌, ◌∙◌, ℕ, zero, suc, List, [], ◌∷◌, ◌++◌, Option, Some, None, map, option_map, refl}
 use Rattle.std.proofs.Common.{sym, ap}
 use Rattle.std.specs.Prelude.{slice_get}
@@ -8,7 +8,7 @@ use Rattle.pp_instances.specs.declared.member.Instance.{Instance}
 use Rattle.pp_instances.specs.declared.member.Member.{Member}
 use Rattle.pp_prog.specs.declared.expr.Function.{Function}
 use Rattle.pp_translation.specs.Bare.{bare_function}
-use Rattle.pp_translation.specs.Functions.{function_if, function_of, functions_of}
+use Rattle.pp_translation.specs.Functions.{function_if, function_of, functions_of, param_at}
 use Rattle.pp_typed.specs.declared.typed.Typed.{Typed}
 use Rattle.pp_typed.specs.declared.typed.TypedDef.{TypedDef}
 use Rattle.pp_legible.proofs.Unlike.{Has, Unlike, has_more, places_unlike, some_same, unlike_places}
@@ -20,32 +20,49 @@ abbrev HaveOnePrinted : Instance → Instance → Type 0
 HaveOnePrinted a b = a.name ≡ b.name
 
 module _ (typed : Typed) (texts : List (List ℕ)) (roots functions : List Member) where
+  -- the function is a typed one at the arguments of an instance, with the instance's name
   pub record IsNamedBy (is : List Instance) (f : Function) : Type 0 where
     pub from : Instance
     pub among : Has is from
+    pub def : TypedDef
+    pub defined : slice_get typed.defs from.number ≡ Some def
     pub name : f.name ≡ from.name
+    pub params : f.params ≡ map (param_at roots from.args) def.params
+
+  among_more : (i : Instance) (is : List Instance) (f : Function) → IsNamedBy is f → IsNamedBy (i ∷ is) f
+  among_more i is f n = record {
+    from = n.from;
+    among = has_more i n.among;
+    def = n.def;
+    defined = n.defined;
+    name = n.name;
+    params = n.params;
+  }
 
   if_named : (i : Instance) (is : List Instance) (o : Option TypedDef) (f : Function)
+      → slice_get typed.defs i.number ≡ o
       → ((f : Function) → Has (functions_of typed texts roots functions is) f → IsNamedBy is f)
       → Has (function_if typed texts roots functions i o ++ functions_of typed texts roots functions is) f
       → IsNamedBy (i ∷ is) f
-  if_named i is None f rest h =
-      let n = rest f h in record { from = n.from; among = has_more i n.among; name = n.name }
-  if_named i is (Some d) f rest h = by h.place h.here
+  if_named i is None f defined rest h = among_more i is f (rest f h)
+  if_named i is (Some d) f defined rest h = by h.place h.here
     where
       by : (k : ℕ)
           → slice_get (function_of typed texts roots functions i d ∷ functions_of typed texts roots functions is) k
           ≡ Some f → IsNamedBy (i ∷ is) f
-      by zero at =
-          let same = ap (λ (g : Function). g.name) (sym (some_same at)) in
-          record { from = i; among = record { place = 0; here = refl }; name = same }
-      by (suc k) at =
-          let n = rest f (record { place = k; here = at }) in
-          record { from = n.from; among = has_more i n.among; name = n.name }
+      by zero at = record {
+        from = i;
+        among = record { place = 0; here = refl };
+        def = d;
+        defined = defined;
+        name = ap (λ (g : Function). g.name) (sym (some_same at));
+        params = ap (λ (g : Function). g.params) (sym (some_same at));
+      }
+      by (suc k) at = among_more i is f (rest f (record { place = k; here = at }))
 
   named_by : (is : List Instance) (f : Function) → Has (functions_of typed texts roots functions is) f → IsNamedBy is f
   named_by [] f h = let at = h.here in cc
-  named_by (i ∷ is) f h = if_named i is (slice_get typed.defs i.number) f (named_by is) h
+  named_by (i ∷ is) f h = if_named i is (slice_get typed.defs i.number) f refl (named_by is) h
 
   if_unlike : (i : Instance) (is : List Instance) (o : Option TypedDef)
       → ((a : Instance) → Has is a → i.name ≡ a.name → ⊥)
@@ -73,10 +90,9 @@ module _ (typed : Typed) (texts : List (List ℕ)) (roots functions : List Membe
 
   -- a function has the name of an instance
   pub has_name : (is : List Instance) (fs : List Function) → AreForms is fs → (k : ℕ) (f : Function)
-      → slice_get fs k ≡ Some f → (a : Instance) × Has is a × (f.name ≡ a.name)
+      → slice_get fs k ≡ Some f → IsNamedBy is (bare_function f)
   has_name is fs forms k f at =
-      let n = named_by is (bare_function f) (record { place = k; here = form_at is fs forms k f at }) in
-      (n.from, n.among, n.name)
+      named_by is (bare_function f) (record { place = k; here = form_at is fs forms k f at })
 
   -- where the names of instances tell them, those of functions do
   pub names_tell : (is : List Instance) (fs : List Function) → HaveNames is

@@ -1,13 +1,13 @@
 -- The program of a typing of units that short texts spell is legible.
-use Rattle.std.proofs.Common.{◌≡◌, ◌∙◌, ℕ, List, All, IsUtf8, refl}
+use Rattle.std.proofs.Common.{◌≡◌, ◌∙◌, ℕ, List, [], ◌∷◌, All, IsUtf8, map, refl}
 use Rattle.std.proofs.Common.{sym, ap, subst, arith}
-use Rattle.std.specs.Prelude.{Some, slice_get}
+use Rattle.std.specs.Prelude.{Some, Contains, slice_get}
 use Rattle.std.proofs.lemmas.List.Elements.{All-cons, All-nil}
 use Rattle.pp_check_places.proofs.Law.{checks_stand, places_tell_checks}
-use Rattle.pp_legible.proofs.Classes.{ctor_names_differ, ctors_are_words, defs_are_words, objects_are_bare}
-use Rattle.pp_legible.proofs.Classes.{roots_are_words}
+use Rattle.pp_legible.proofs.Classes.{IsWordOfTyped, ctor_names_differ, ctors_are_words, defs_are_words}
+use Rattle.pp_legible.proofs.Classes.{objects_are_bare, params_are_words, roots_are_words}
 use Rattle.pp_legible.proofs.Ctors.{AreLike, HaveOneName, IsTyped, ctors_unlike, from_typed}
-use Rattle.pp_legible.proofs.Functions.{has_name, names_tell}
+use Rattle.pp_legible.proofs.Functions.{IsNamedBy, has_name, names_tell}
 use Rattle.pp_legible.proofs.Named.{printed_fine}
 use Rattle.pp_legible.proofs.Places.{small_place}
 use Rattle.pp_legible.proofs.Unlike.{Unlike, places_unlike, unlike_places}
@@ -15,7 +15,8 @@ use Rattle.pp_legible.specs.Laws.{ProgramsAreLegible}
 use Rattle.pp_instances.specs.Order.{member_of}
 use Rattle.pp_instances.specs.declared.member.Decl.TheVariants as kind
 use Rattle.pp_instances.specs.declared.member.Member.{Member}
-use Rattle.pp_line_contents.specs.Laws.{HasNoColon, HasNoMark, IsLegible, IsSmallPlace}
+use Rattle.pp_line_contents.proofs.Spans.{Every, every_contained}
+use Rattle.pp_line_contents.specs.Laws.{HasNoColon, HasNoMark, HasNoNewline, IsLegible, IsSmallPlace}
 use Rattle.pp_members.proofs.Proper.{members_are_proper}
 use Rattle.pp_mono.specs.Concrete.{IsConcrete, function_members, root_members}
 use Rattle.pp_order.proofs.Laws.{listed_names_differ}
@@ -26,10 +27,15 @@ use Rattle.pp_plain_names.proofs.Names.{no_mark}
 use Rattle.pp_plain_names.specs.Laws.{IsWord}
 use Rattle.pp_prog.specs.declared.check.Check.{Check}
 use Rattle.pp_prog.specs.declared.expr.Function.{Function}
+use Rattle.pp_prog.specs.declared.expr.Param.{Param}
 use Rattle.pp_prog.specs.declared.program.Program.{Program}
 use Rattle.pp_prog.specs.declared.types.Ctor.{Ctor}
+use Rattle.pp_translation.specs.Bare.{bare_function}
+use Rattle.pp_translation.specs.Functions.{param_at}
 use Rattle.pp_tree.specs.Plain.{UnitTree}
+use Rattle.pp_typed.specs.declared.sort.GenericSort.{GenericSort}
 use Rattle.pp_typed.specs.declared.typed.Typed.{Typed}
+use Rattle.pp_typed.specs.declared.typed.TypedParam.{TypedParam}
 use Rattle.pp_types_laws.specs.Typing.{HasTyping}
 
 all_utf8 : {texts : List (List ℕ)} {units : List UnitTree} → EachSpells texts units → All IsUtf8 texts
@@ -44,6 +50,15 @@ unmarked name word b here = (
   no_mark name 41 (omega arith) refl word b here,
   no_mark name 44 (omega arith) refl word b here,
 )
+
+-- the parameters at the arguments of an instance have the names of the typed ones
+abbrev IsWordOf : Param → Type 0
+IsWordOf q = IsWord q.name
+
+params_at : (roots : List Member) (args : List GenericSort) (ts : List TypedParam) → Every IsWordOfTyped ts
+    → Every IsWordOf (map (param_at roots args) ts)
+params_at roots args [] h = tt
+params_at roots args (t ∷ ts) h = (h.0, params_at roots args ts h.1)
 
 module _ (texts : List (List ℕ)) (units : List UnitTree) (typed : Typed) (p : Program) (are : AreShort texts)
     (spells : EachSpells texts units) (h : HasTyping units typed) (concrete : IsConcrete typed texts p) where
@@ -76,13 +91,27 @@ module _ (texts : List (List ℕ)) (units : List UnitTree) (typed : Typed) (p : 
       let o = checks_stand typed texts p fit.stands fit.apart concrete c a at in
       subst IsSmallPlace o.2 (small_place texts o.0 are.few are.short utf8 o.1)
 
+  own_function : (i : ℕ) (f : Function) → slice_get p.functions i ≡ Some f
+      → IsNamedBy typed texts roots (function_members concrete.functions) concrete.functions (bare_function f)
+  own_function i f at =
+      has_name typed texts roots (function_members concrete.functions) concrete.functions p.functions
+      concrete.has_functions i f at
+
   named : (i : ℕ) (f : Function) → slice_get p.functions i ≡ Some f → HasNoColon f.name
   named i f at =
-      let own = has_name typed texts roots (function_members concrete.functions) concrete.functions p.functions
-      concrete.has_functions i f at in
-      subst HasNoColon (sym (own.2 ∙ concrete.listed.functions.names own.1.place own.0 own.1.here))
+      let own = own_function i f at in
+      subst HasNoColon (sym (own.name ∙ concrete.listed.functions.names own.among.place own.from own.among.here))
       (printed_fine typed (roots_are_words texts units typed spells h) (defs_are_words texts units typed spells h)
-      (member_of typed kind.Function own.0))
+      (member_of typed kind.Function own.from))
+
+  params : (i : ℕ) (f : Function) (q : Param) → slice_get p.functions i ≡ Some f → Contains f.params q
+      → HasNoNewline q.name
+  params i f q at here =
+      let own = own_function i f at in
+      let words = params_at roots own.from.args own.def.params
+      (params_are_words texts units typed spells h own.from.number own.def own.defined) in
+      no_mark q.name 10 (omega arith) refl
+      (every_contained IsWordOf f.params (subst (Every IsWordOf) (sym own.params) words) q here)
 
   legible : IsLegible p
   legible = record {
@@ -101,6 +130,7 @@ module _ (texts : List (List ℕ)) (units : List UnitTree) (typed : Typed) (p : 
         (listed_names_differ typed concrete.members concrete.functions concrete.roots fit.sorted
         (λ m has. members_are_proper typed concrete.members fit.sorted concrete.instances m has) concrete.listed).0
         concrete.has_functions;
+    params = params;
     checks = places_tell_checks typed texts p fit.stands fit.apart utf8 concrete;
     places = small;
   }

@@ -5,3 +5,4 @@ pub mod Places
 pub mod Classes
 pub mod Named
 pub mod Law
+pub mod Printed

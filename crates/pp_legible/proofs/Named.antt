@@ -1,15 +1,14 @@
 -- The printed names of functions have no newline and no colon.
 use Rattle.std.proofs.Common.{◌≡◌, ◌≢◌, ◌<◌, ℕ, List, [], ◌∷◌, ◌++◌, Option, Some}
-use Rattle.std.proofs.Common.{None, All, map, refl, sym, subst, arith}
+use Rattle.std.proofs.Common.{None, map, refl, sym, subst, arith}
 use Rattle.std.specs.Prelude.{slice_get}
-use Rattle.std.proofs.lemmas.List.Elements.{All-cons, All-contains, All-nil}
 use Rattle.pp_instances.specs.Names.{after_comma, bracketed, decl_name, def_name, print_step, printed, printed_sort}
 use Rattle.pp_instances.specs.Names.{root_name}
 use Rattle.pp_instances.specs.Same.{joined}
 use Rattle.pp_instances.specs.declared.member.Decl.{Decl}
 use Rattle.pp_instances.specs.declared.member.Decl.TheVariants.{Function, Root}
 use Rattle.pp_instances.specs.declared.member.Member.{Member}
-use Rattle.pp_line_contents.proofs.Spans.{Every, every_of}
+use Rattle.pp_line_contents.proofs.Spans.{Every, every_append, every_contained, every_of}
 use Rattle.pp_line_contents.specs.Laws.{HasNoColon}
 use Rattle.pp_plain_names.proofs.Names.{no_mark}
 use Rattle.pp_plain_names.specs.Laws.{IsWord}
@@ -24,10 +23,6 @@ use Rattle.pp_typed.specs.declared.typed.TypedRoot.{TypedRoot}
 
 abbrev IsFine : ℕ → Type 0
 IsFine b = (b ≢ 10) × (b ≢ 58)
-
-every_append : (P : ℕ → Type 0) (xs ys : List ℕ) → Every P xs → Every P ys → Every P (xs ++ ys)
-every_append P [] ys h k = k
-every_append P (x ∷ xs) ys h k = (h.0, every_append P xs ys h.1 k)
 
 word_fine : (w : List ℕ) → IsWord w → Every IsFine w
 word_fine w word =
@@ -79,13 +74,6 @@ bracketed_fine (w ∷ ws) h = (
   every_append IsFine w (joined (map after_comma ws) ++ 93 ∷ []) h.0
       (every_append IsFine (joined (map after_comma ws)) (93 ∷ []) (joined_fine ws h.1) (above 93 (omega arith), tt)),
 )
-
-contained_fine : (xs : List ℕ) → Every IsFine xs → HasNoColon xs
-contained_fine xs h b here = All-contains IsFine xs b (all_every xs h) here
-  where
-    all_every : (xs : List ℕ) → Every IsFine xs → All IsFine xs
-    all_every [] h = All-nil IsFine
-    all_every (x ∷ xs) h = All-cons IsFine x xs h.0 (all_every xs h.1)
 
 module _ (typed : Typed) (roots : (r : ℕ) (root : TypedRoot) → slice_get typed.roots r ≡ Some root → IsWord root.name)
     (defs : (f : ℕ) (d : TypedDef) → slice_get typed.defs f ≡ Some d → IsWord d.name) where
@@ -142,6 +130,6 @@ module _ (typed : Typed) (roots : (r : ℕ) (root : TypedRoot) → slice_get typ
 
   pub printed_fine : (m : Member) → HasNoColon (printed typed m)
   printed_fine m =
-      contained_fine (printed typed m)
+      every_contained IsFine (printed typed m)
       (every_append IsFine (decl_name typed m.of) (bracketed (map (printed_sort typed) m.args)) (decl_fine m.of)
       (bracketed_fine (map (printed_sort typed) m.args) (sorts_fine m.args)))

@@ -1,12 +1,19 @@
 //! Why the lines on a program of sources can be read back: names of constructors are words and tell the constructors of
-//! a datatype apart, case objects have no fields, printed names tell functions apart, and kind and place tell apart the
-//! checks of a function. The function does nothing: its contract is the law.
+//! a datatype apart, case objects have no fields, printed names tell functions and datatypes apart, names of parameters
+//! are words, and kind and place tell apart the checks of a function. The functions do nothing: their contracts are the
+//! laws.
 #![tactic(auto)]
 
-ghost use Rattle.pp_legible.specs.Laws.{ProgramsAreLegible};
+ghost use Rattle.pp_legible.specs.Laws.{NamesDiffer, ProgramsAreLegible};
 
 /// The program of a typing of units that at most 16 short texts spell is legible. It does nothing: its contract is the
 /// law.
 pub fn programs_are_legible()
     ensures { ProgramsAreLegible }
+{}
+
+/// No two functions, and no two datatypes, of the program of typed units have one printed name. It does nothing: its
+/// contract is the law.
+pub fn printed_names_differ()
+    ensures { NamesDiffer }
 {}

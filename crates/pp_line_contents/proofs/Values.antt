@@ -5,7 +5,7 @@ use Rattle.std.proofs.Common.{◌&&◌, codes, map, refl, sym, ap, subst, arith,
 use Rattle.std.specs.Int.RustNames.{int_le, int_lt}
 use Rattle.std.specs.List.{concat}
 use Rattle.std.specs.Prelude.{slice_get}
-use Rattle.std.proofs.lemmas.Bool.{eqb-true}
+use Rattle.std.proofs.lemmas.Bool.{and_parts, eqb-true}
 use Rattle.std.proofs.lemmas.Int.{ints}
 use Rattle.std.proofs.lemmas.List.{append_cancel_left}
 use Rattle.pp_line_contents.proofs.Spans.{Stops, every_of, first_same, one_span, rest_same}
@@ -13,7 +13,6 @@ use Rattle.pp_line_contents.proofs.Words.{IsDigit, one_signed}
 use Rattle.pp_line_contents.specs.Laws.{HasNoMark}
 use Rattle.pp_print.specs.Values.{after_comma, arguments_text, bool_text, in_brackets, joined, tree_text}
 use Rattle.pp_print.specs.Values.{value_step, value_text}
-use Rattle.pp_prog.proofs.Boolean.{both_true}
 use Rattle.pp_prog.specs.Sorts.{fields_have, has_sort, has_step, have_sorts, is_int, param_sorts, same_sort, tree_has}
 use Rattle.pp_prog.specs.declared.expr.Param.{Param}
 use Rattle.pp_prog.specs.declared.id.CtorId.{CtorId}
@@ -66,7 +65,7 @@ less a b h = grind (arith, ints)
 
 small_int : (n : ℤ) → is_int n ≡ true → mag n < 2 ^ 63
 small_int n h =
-    let p = both_true (int_le (neg_ℤ (pos (2 ^ 31))) n) (int_lt n (pos (2 ^ 31))) h in
+    let p = and_parts (int_le (neg_ℤ (pos (2 ^ 31))) n) (int_lt n (pos (2 ^ 31))) h in
     by n (at_most (neg_ℤ (pos (2 ^ 31))) n p.0) (less n (pos (2 ^ 31)) p.1)
   where
     by : (n : ℤ) → neg_ℤ (pos (2 ^ 31)) ≤ℤ n → n <ℤ pos (2 ^ 31) → mag n < 2 ^ 63
@@ -156,8 +155,8 @@ module _ (ctors : List Ctor)
   more_told (y ∷ ys) [] ss r t h k e = absurd (let no : 44 ≡ 41 = first_same e in omega (arith, no))
   more_told (y ∷ ys) (w ∷ ws) [] r t h k e = cc
   more_told (y ∷ ys) (w ∷ ws) (s ∷ ss) r t h k e =
-      let p = both_true (has y.0 s) _ h in
-      let q = both_true (has w s) _ k in
+      let p = and_parts (has y.0 s) _ h in
+      let q = and_parts (has w s) _ k in
       let same = rest_same (rest_same (sym (more_split y.0 (map value_of ys) r) ∙ e ∙ more_split w ws t)) in
       let one = y.1 w s _ _ p.0 q.0 (more_stops (map value_of ys) r) (more_stops ws t) same in
       let others = more_told ys ws ss r t p.1 q.1 one.1 in
@@ -177,8 +176,8 @@ module _ (ctors : List Ctor)
   fields_told (y ∷ ys) [] (s ∷ ss) r t h k e = cc
   fields_told (y ∷ ys) (w ∷ ws) [] r t h k e = cc
   fields_told (y ∷ ys) (w ∷ ws) (s ∷ ss) r t h k e =
-      let p = both_true (has y.0 s) _ h in
-      let q = both_true (has w s) _ k in
+      let p = and_parts (has y.0 s) _ h in
+      let q = and_parts (has w s) _ k in
       let same = sym (joined_split y.0 (map value_of ys) r) ∙ e ∙ joined_split w ws t in
       let one = y.1 w s _ _ p.0 q.0 (more_stops (map value_of ys) r) (more_stops ws t) same in
       let others = more_told ys ws ss r t p.1 q.1 one.1 in
@@ -226,8 +225,8 @@ module _ (ctors : List Ctor)
   tree_told c d ys ws s r t None b here there h k p q e = cc
   tree_told c d ys ws s r t (Some a) None here there h k p q e = cc
   tree_told c d ys ws s r t (Some a) (Some b) here there h k p q e =
-      let m = both_true (same_sort (sort.Tree a.of) s) _ h in
-      let n = both_true (same_sort (sort.Tree b.of) s) _ k in
+      let m = and_parts (same_sort (sort.Tree a.of) s) _ h in
+      let n = and_parts (same_sort (sort.Tree b.of) s) _ k in
       let split = sym (behind_split a.object a.name (map text (map value_of ys)) r) ∙ e
       ∙ behind_split b.object b.name (map text ws) t in
       let names = one_span IsUnmarked a.name b.name _ _
@@ -256,16 +255,16 @@ module _ (ctors : List Ctor)
       → Stops IsUnmarked t → value_step ctors (texts (whole y)) ++ r ≡ value_step ctors (texts o) ++ t
       → (whole y ≡ o) × (r ≡ t)
   level (layer.Int m) (layer.Int n) s r t h k p q e =
-      let both = one_signed m n r t (small_int m (both_true _ _ h).1) (small_int n (both_true _ _ k).1) (no_digit r p)
+      let both = one_signed m n r t (small_int m (and_parts _ _ h).1) (small_int n (and_parts _ _ k).1) (no_digit r p)
       (no_digit t q) e in (ap layer.Int both.0, both.1)
-  level (layer.Int m) (layer.Bool b) s r t h k p q e = absurd (no_int_bool s (both_true _ _ h).0 k)
+  level (layer.Int m) (layer.Bool b) s r t h k p q e = absurd (no_int_bool s (and_parts _ _ h).0 k)
   level (layer.Int m) (layer.Tree d ws) s r t h k p q e = absurd (no_tree m d ws s (slice_get ctors d.0) h k)
     where
       no_tree : (m : ℤ) (d : CtorId) (ws : List Value) (s : Sort) (b : Option Ctor)
           → (same_sort sort.Int s && is_int m) ≡ true → tree_has b (map has ws) s ≡ true → ⊥
       no_tree m d ws s None h k = cc
-      no_tree m d ws s (Some b) h k = no_int_tree b.of s (both_true _ _ h).0 (both_true _ _ k).0
-  level (layer.Bool a) (layer.Int n) s r t h k p q e = absurd (no_int_bool s (both_true _ _ k).0 h)
+      no_tree m d ws s (Some b) h k = no_int_tree b.of s (and_parts _ _ h).0 (and_parts _ _ k).0
+  level (layer.Bool a) (layer.Int n) s r t h k p q e = absurd (no_int_bool s (and_parts _ _ k).0 h)
   level (layer.Bool a) (layer.Bool b) s r t h k p q e =
       let both = one_truth a b r t e in (ap layer.Bool both.0, both.1)
   level (layer.Bool a) (layer.Tree d ws) s r t h k p q e = absurd (no_tree ws s (slice_get ctors d.0) h k)
@@ -273,17 +272,17 @@ module _ (ctors : List Ctor)
       no_tree : (ws : List Value) (s : Sort) (b : Option Ctor) → same_sort sort.Bool s ≡ true
           → tree_has b (map has ws) s ≡ true → ⊥
       no_tree ws s None h k = cc
-      no_tree ws s (Some b) h k = no_bool_tree b.of s h (both_true _ _ k).0
+      no_tree ws s (Some b) h k = no_bool_tree b.of s h (and_parts _ _ k).0
   level (layer.Tree c ys) (layer.Int n) s r t h k p q e = absurd (no_tree (slice_get ctors c.0) h)
     where
       no_tree : (a : Option Ctor) → tree_has a (map has (map value_of ys)) s ≡ true → ⊥
       no_tree None h = cc
-      no_tree (Some a) h = no_int_tree a.of s (both_true _ _ k).0 (both_true _ _ h).0
+      no_tree (Some a) h = no_int_tree a.of s (and_parts _ _ k).0 (and_parts _ _ h).0
   level (layer.Tree c ys) (layer.Bool b) s r t h k p q e = absurd (no_tree (slice_get ctors c.0) h)
     where
       no_tree : (a : Option Ctor) → tree_has a (map has (map value_of ys)) s ≡ true → ⊥
       no_tree None h = cc
-      no_tree (Some a) h = no_bool_tree a.of s k (both_true _ _ h).0
+      no_tree (Some a) h = no_bool_tree a.of s k (and_parts _ _ h).0
   level (layer.Tree c ys) (layer.Tree d ws) s r t h k p q e =
       let told = tree_told c d ys ws s r t _ _ refl refl h k p q e in
       (ap (λ z. layer.Tree z (map value_of ys)) told.0 ∙ ap (layer.Tree d) told.1, told.2)
@@ -334,8 +333,8 @@ module _ (ctors : List Ctor)
   arguments_told (p ∷ ps) [] ws h k e = cc
   arguments_told (p ∷ ps) (v ∷ vs) [] h k e = cc
   arguments_told (p ∷ ps) (v ∷ vs) (w ∷ ws) h k e =
-      let m = both_true (has v p.sort) _ h in
-      let n = both_true (has w p.sort) _ k in
+      let m = and_parts (has v p.sort) _ h in
+      let n = and_parts (has w p.sort) _ k in
       let same = sym (end_split p ps v vs) ∙ e ∙ end_split p ps w ws in
       let values = append_cancel_left (codes " = ") _ _
       (append_cancel_left p.name _ _ (rest_same (rest_same same))) in

@@ -1,12 +1,24 @@
--- A line tells its content. Source: own.
-use Rattle.std.specs.Prelude.{◌≡◌, ◌≢◌, ℕ, true, [], Some, Contains, slice_get}
+-- A line tells its content, and the text of a report tells its lines. Source: own.
+use Rattle.std.specs.Prelude.{◌≡◌, ◌≢◌, ℕ, true, List, [], ◌++◌, Some, All, Contains, codes, slice_get}
+use Rattle.std.specs.List.{concat}
 use Rattle.pp_line_contents.specs.Contents.{Content, IsSmall, Prints}
+use Rattle.pp_line_contents.specs.Reports.{Counts, PrintsReport, ReportContent, counts_text}
 use Rattle.pp_print.specs.Values.{Text}
 use Rattle.pp_prog.specs.declared.check.Check.{Check}
 use Rattle.pp_prog.specs.declared.expr.Function.{Function}
+use Rattle.pp_prog.specs.declared.expr.Param.{Param}
 use Rattle.pp_prog.specs.declared.place.Place.{Place}
 use Rattle.pp_prog.specs.declared.program.Program.{Program}
 use Rattle.pp_prog.specs.declared.types.Ctor.{Ctor}
+
+abbrev pub HasNoNewline : Text → Type 0
+HasNoNewline text = (b : ℕ) → Contains text b → b ≢ 10
+
+-- a text that ends in its only newline
+pub record IsOneLine (line : Text) : Type 0 where
+  pub words : Text
+  pub plain : HasNoNewline words
+  pub ended : line ≡ words ++ codes "\n"
 
 -- a name that ends in a printed value where a mark follows: it has none of the newline, `(`, `)` and `,`
 abbrev pub HasNoMark : Text → Type 0
@@ -22,8 +34,8 @@ pub record IsSmallPlace (z : Place) : Type 0 where
   pub column : IsSmall z.column
 
 -- What makes the lines of a program legible: names of constructors have no marks and tell the constructors of a
--- datatype apart, case objects have no fields, names of functions have no colon and tell functions apart, and kind and
--- place tell apart the checks of a function.
+-- datatype apart, case objects have no fields, names of functions have no colon and tell functions apart, names of
+-- parameters have no newline, and kind and place tell apart the checks of a function.
 pub record IsLegible (p : Program) : Type 0 where
   pub unmarked : (c : ℕ) (a : Ctor) → slice_get p.types.ctors c ≡ Some a → HasNoMark a.name
   pub ctors : (c d : ℕ) (a b : Ctor) → slice_get p.types.ctors c ≡ Some a → slice_get p.types.ctors d ≡ Some b
@@ -32,6 +44,8 @@ pub record IsLegible (p : Program) : Type 0 where
   pub named : (i : ℕ) (f : Function) → slice_get p.functions i ≡ Some f → HasNoColon f.name
   pub functions : (i j : ℕ) (f g : Function) → slice_get p.functions i ≡ Some f → slice_get p.functions j ≡ Some g
       → f.name ≡ g.name → i ≡ j
+  pub params : (i : ℕ) (f : Function) (q : Param) → slice_get p.functions i ≡ Some f → Contains f.params q
+      → HasNoNewline q.name
   pub checks : (c d : ℕ) (a b : Check) → slice_get p.checks c ≡ Some a → slice_get p.checks d ≡ Some b
       → a.function ≡ b.function → a.kind ≡ b.kind → a.place ≡ b.place → c ≡ d
   pub places : (c : ℕ) (a : Check) → slice_get p.checks c ≡ Some a → IsSmallPlace a.place
@@ -43,3 +57,24 @@ abbrev pub LinesTellContents : Type 0
 LinesTellContents = (p : Program) → IsLegible p → (i j : ℕ) (f g : Function) → slice_get p.functions i ≡ Some f
     → slice_get p.functions j ≡ Some g → (line : Text) (a b : Content) → Prints p i f line a → Prints p j g line b
     → (i ≡ j) × (a ≡ b)
+
+-- ---- whole texts
+
+-- a line that prints a content of a function ends in its only newline
+abbrev pub LinesEndOnce : Type 0
+LinesEndOnce = (p : Program) → IsLegible p → (i : ℕ) (f : Function) → slice_get p.functions i ≡ Some f → (line : Text)
+    (a : Content) → Prints p i f line a → IsOneLine line
+
+-- and so does the line of the counts
+abbrev pub CountsEndOnce : Type 0
+CountsEndOnce = (n : Counts) → IsOneLine (counts_text n)
+
+-- lists of such lines that make one text are one list
+abbrev pub TextsTellLines : Type 0
+TextsTellLines = (xs ys : List Text) → All IsOneLine xs → All IsOneLine ys → concat xs ≡ concat ys → xs ≡ ys
+
+-- Two contents of one text are the same: so a text that is printed tells of each function, in order, the verdict, the
+-- function, check, arguments, round and reason that are named, and how many functions have each verdict.
+abbrev pub TextsTellContents : Type 0
+TextsTellContents = (p : Program) → IsLegible p → (text : Text) (a b : ReportContent) → PrintsReport p text a
+    → PrintsReport p text b → a ≡ b

@@ -1,13 +1,35 @@
-//! Why the line of a function tells what it says: the verdict, the check, the arguments, the round and the reason that
-//! are printed can be read back from it. The function does nothing: its contract is the law.
+//! Why what is printed tells what it says: the verdict, the check, the arguments, the round and the reason can be read
+//! back from the line of a function, and the lines from the text of a report. Each function does nothing: its contract
+//! is the law.
 //!
-//! `specs/Contents.antt` says what a line may say of a function, and `specs/Laws.antt` states the law.
+//! `specs/Contents.antt` says what a line may say of a function, `specs/Reports.antt` what a text may say of all, and
+//! `specs/Laws.antt` states the laws.
 #![tactic(auto)]
 
-ghost use Rattle.pp_line_contents.specs.Laws.{LinesTellContents};
+ghost use Rattle.pp_line_contents.specs.Laws.{CountsEndOnce, LinesEndOnce, LinesTellContents, TextsTellContents};
+ghost use Rattle.pp_line_contents.specs.Laws.{TextsTellLines};
 
 /// No line says two things: where a line prints two contents, they are the same, and are those of one function. It does
 /// nothing: its contract is the law.
 pub fn lines_tell_contents()
     ensures { LinesTellContents }
+{}
+
+/// Each line on a function of a legible program, and each line of counts, ends in its only newline. It does nothing:
+/// its contract is the law.
+pub fn lines_end_once()
+    ensures lines { LinesEndOnce }
+    ensures counts { CountsEndOnce }
+{}
+
+/// Lists of texts that each end in their only newline are the same where they make one text. It does nothing: its
+/// contract is the law.
+pub fn texts_tell_lines()
+    ensures { TextsTellLines }
+{}
+
+/// No text says two things: where a text prints two reports on a legible program, they say the same of each function,
+/// in order, and of how many have each verdict. It does nothing: its contract is the law.
+pub fn texts_tell_contents()
+    ensures { TextsTellContents }
 {}

@@ -53,7 +53,8 @@ module _ (p : Program) (name : List ℕ) (fuel : ℕ) where
       → 0 < length g.params → r ≡ refusal status.Words words_text → AnswersRun p name fuel r
   has_params r f g first at some is =
       subst (AnswersRun p name fuel) (sym is) (no_function (λ h asked.
-      let none : g.params ≡ [] = ap (λ (z : Function). z.params) (sym (same_function f g first at h asked)) ∙ asked.bare in
+      let none : g.params ≡ [] =
+      ap (λ (z : Function). z.params) (sym (same_function f g first at h asked)) ∙ asked.bare in
       let zero_long = ap length none in absurd (omega (arith, some, zero_long))))
 
   -- and else its run is told

@@ -116,7 +116,7 @@ pub(crate) fn list_lines(
     ensures { IfOk result (λ lines. map string_bytes lines.items ≡ spec.list_lines program.now round depth) }
 {
     let mut lines = Vec::new(alloc);
-    for f in 0..program.functions() {
+    for f in 0..program.function_count() {
         add_function(alloc, program, plan, f, round, depth, &mut lines)?;
     }
     Ok(lines)

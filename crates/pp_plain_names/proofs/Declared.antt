@@ -1,21 +1,23 @@
 -- What holds of each class and each function that tokens spell holds of the declarations of their unit. So where the
--- names among the tokens are words, the declared names are, and case objects have no fields.
-use Rattle.std.proofs.Common.{◌≡◌, Bool, true, false, List, [], ◌∷◌, ◌++◌, Option, Some, None, refl, sym, ◌∙◌}
+-- names among the tokens are words, the declared names and those of parameters are, and case objects have no fields.
+use Rattle.std.proofs.Common.{◌≡◌, Bool, true, false, List, [], ◌∷◌, ◌++◌, Option, Some, None, refl}
 use Rattle.std.specs.Prelude.{Contains}
 use Rattle.pp_grammar.specs.Units.{IsClass, IsDef, IsImport, IsItem, IsItems, IsMember, IsMembers, IsMoreItems}
-use Rattle.pp_grammar.specs.Units.{IsMoreMembers, IsObject, Piece, SpellsUnit, case_object, class_decl, class_of}
-use Rattle.pp_grammar.specs.Units.{decl_piece, decls_of, def_of, import_piece, item_class, item_import, item_object}
-use Rattle.pp_grammar.specs.Units.{items, library, member_class, member_def, member_import, members, no_items}
-use Rattle.pp_grammar.specs.Units.{no_members, no_more_items, no_more_members, object_of, object_piece, of_object}
-use Rattle.pp_grammar.specs.Units.{one_more_item, one_more_member, root_or_other, unit}
+use Rattle.pp_grammar.specs.Units.{IsMoreMembers, IsObject, IsParamList, IsParams, Piece, SpellsUnit, case_object}
+use Rattle.pp_grammar.specs.Units.{class_decl, class_of, decl_piece, decls_of, def_of, empty_list, import_piece}
+use Rattle.pp_grammar.specs.Units.{item_class, item_import, item_object, items, last_param, library, member_class}
+use Rattle.pp_grammar.specs.Units.{member_def, member_import, members, no_items, no_list, no_members, no_more_items}
+use Rattle.pp_grammar.specs.Units.{no_more_members, object_of, object_piece, of_object, one_more_item}
+use Rattle.pp_grammar.specs.Units.{one_more_member, one_more_param, param_list, root_or_other, unit}
 use Rattle.pp_grammar.specs.Words.{word}
 use Rattle.pp_tokens.specs.declared.token.Token.{Token}
 use Rattle.pp_tokens.specs.declared.token.TokenKind.TheVariants.{Name}
-use Rattle.pp_tree.specs.Plain.{ClassTree, DeclTree, ParamTree, TypeTree, UnitTree, Word}
+use Rattle.pp_tree.specs.Plain.{ClassTree, DeclTree, DefTree, ParamTree, TypeTree, UnitTree, Word, ctor, def, other}
+use Rattle.pp_tree.specs.Plain.{root}
 use Rattle.std.proofs.lemmas.List.Elements.{All-contains}
 use Rattle.pp_tokens.proofs.Every.{Every, all_of}
 use Rattle.pp_plain_names.proofs.Left.{AllOf, left_annotations, left_break, left_gap, left_item, left_member}
-use Rattle.pp_plain_names.proofs.Left.{left_modified, left_packages, left_semis}
+use Rattle.pp_plain_names.proofs.Left.{left_modified, left_packages, left_semis, left_type, left_type_params}
 use Rattle.pp_plain_names.specs.Laws.{IsBareObject, IsWord, declared_name}
 
 -- the name of a token of this text is a word, if it is one
@@ -97,21 +99,24 @@ module _ (text : Word) (Holds : Token → Type 0) (P : DeclTree → Type 0) wher
     of_unit d (unit {ps = ps} e g packages r h is) ok here =
         among ps d (of_items r (left_packages text Holds packages (left_gap text Holds g ok))) here
 
+-- ---- classes
+
+-- what holds of a class as root, as constructor and as neither holds of what it declares
+module _ (P : DeclTree → Type 0) (c : ClassTree) (as_root : P (root c)) (as_ctor : P (ctor c)) (as_other : P (other c))
+  where
+    root_form : (ps : List ParamTree) (parent : Option TypeTree) → P (root_or_other ps parent c)
+    root_form [] None = as_root
+    root_form [] (Some t) = as_other
+    root_form (p ∷ ps) parent = as_other
+
+    class_form : (sealed case trait : Bool) → P (class_decl sealed case trait c)
+    class_form sealed true false = as_ctor
+    class_form true false trait = root_form c.fields c.parent
+    class_form true true true = as_other
+    class_form false false trait = as_other
+    class_form false true true = as_other
+
 -- ---- names
-
-root_named : (ps : List ParamTree) (parent : Option TypeTree) (c : ClassTree) → IsWord c.name
-    → IsWord (declared_name (root_or_other ps parent c))
-root_named [] None c h = h
-root_named [] (Some t) c h = h
-root_named (p ∷ ps) parent c h = h
-
-class_named : (sealed case trait : Bool) (c : ClassTree) → IsWord c.name
-    → IsWord (declared_name (class_decl sealed case trait c))
-class_named sealed true false c h = h
-class_named true false trait c h = root_named c.fields c.parent c h
-class_named true true true c h = h
-class_named false false trait c h = h
-class_named false true true c h = h
 
 module _ (text : Word) where
   abbrev Names : List Token → Type 0
@@ -125,32 +130,52 @@ module _ (text : Word) where
 
   named_class : {ts us : List Token} {d : DeclTree} → IsClass text ts us d → Names ts → IsNamed d
   named_class (class_of {m = m} {trait = trait} k n d1 d2 e3 e4 d5 d6 d7) ok =
-      class_named m.sealed m.case trait _
-      ((left_modified text (WordName text) d2 (left_annotations text (WordName text) d1 ok)).1.0 e4)
+      let word = (left_modified text (WordName text) d2 (left_annotations text (WordName text) d1 ok)).1.0 e4 in
+      class_form IsNamed _ word word word m.sealed m.case trait
   named_class (case_object c k n x d1 e2 e3 e4 e5 d6) ok = (left_annotations text (WordName text) d1 ok).1.1.0 e4
 
   pub word_unit : {ts : List Token} {u : UnitTree} (d : DeclTree) → SpellsUnit text ts u → Names ts
       → Contains u.decls d → IsWord (declared_name d)
   word_unit = of_unit text (WordName text) IsNamed (λ ts us d h. named_class h) (λ ts us d h. named_def h)
 
+  -- ---- parameters
+
+  abbrev IsWordly : ParamTree → Type 0
+  IsWordly q = IsWord q.name
+
+  abbrev HasParams : DeclTree → Type 0
+  HasParams (def d) = Every IsWordly d.params
+  HasParams _ = Unit {0}
+
+  word_params : {ts us : List Token} {ps : List ParamTree} → IsParams text ts us ps → Names ts → Every IsWordly ps
+  word_params (last_param n c e e1 e2 d3 e4) ok = (ok.0 e1, tt)
+  word_params (one_more_param n c e e1 e2 d3 e4 d5) ok =
+      (ok.0 e1, word_params d5 (left_type text (WordName text) d3 ok.1.1).1)
+
+  word_list : {ts us : List Token} {listed : Bool} {ps : List ParamTree} → IsParamList text ts us listed ps → Names ts
+      → Every IsWordly ps
+  word_list no_list ok = tt
+  word_list (empty_list o c e1 e2) ok = tt
+  word_list (param_list o e1 d2) ok = word_params d2 ok.1
+
+  params_def : {ts us : List Token} {d : DeclTree} → IsDef text ts us d → Names ts → HasParams d
+  params_def (def_of d n c q d1 e2 e3 d4 d5 e6 d7 e8 d9) ok =
+      word_list d5 (left_type_params text (WordName text) d4 (left_annotations text (WordName text) d1 ok).1.1)
+
+  params_class : {ts us : List Token} {d : DeclTree} → IsClass text ts us d → Names ts → HasParams d
+  params_class (class_of {m = m} {trait = trait} k n d1 d2 e3 e4 d5 d6 d7) ok =
+      class_form HasParams _ tt tt tt m.sealed m.case trait
+  params_class (case_object c k n x d1 e2 e3 e4 e5 d6) ok = tt
+
+  pub params_unit : {ts : List Token} {u : UnitTree} (d : DefTree) → SpellsUnit text ts u → Names ts
+      → Contains u.decls (def d) → Every IsWordly d.params
+  params_unit d =
+      of_unit text (WordName text) HasParams (λ ts us d h. params_class h) (λ ts us d h. params_def h) (def d)
+
 -- ---- objects
 
 no_object : {A : Type 0} → false ≡ true → A
 no_object e = cc
-
-root_bare : (ps : List ParamTree) (parent : Option TypeTree) (c : ClassTree)
-    → IsBareObject (root_or_other ps parent c)
-root_bare [] None c = tt
-root_bare [] (Some t) c = tt
-root_bare (p ∷ ps) parent c = tt
-
-class_bare : (sealed case trait : Bool) (c : ClassTree) → c.object ≡ false
-    → IsBareObject (class_decl sealed case trait c)
-class_bare sealed true false c h = λ is. no_object (sym h ∙ is)
-class_bare true false trait c h = root_bare c.fields c.parent c
-class_bare true true true c h = tt
-class_bare false false trait c h = tt
-class_bare false true true c h = tt
 
 module _ (text : Word) where
   abbrev Any : Token → Type 0
@@ -165,7 +190,7 @@ module _ (text : Word) where
 
   bare_class : {ts us : List Token} {d : DeclTree} → IsClass text ts us d → AllOf text Any ts → IsBareObject d
   bare_class (class_of {m = m} {trait = trait} k n d1 d2 e3 e4 d5 d6 d7) ok =
-      class_bare m.sealed m.case trait _ refl
+      class_form IsBareObject _ tt (λ is. no_object is) tt m.sealed m.case trait
   bare_class (case_object c k n x d1 e2 e3 e4 e5 d6) ok = λ is. refl
 
   pub bare_unit : {ts : List Token} {u : UnitTree} (d : DeclTree) → SpellsUnit text ts u → Contains u.decls d

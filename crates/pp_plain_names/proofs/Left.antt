@@ -24,18 +24,18 @@ use Rattle.pp_grammar.specs.Types.{one_newline, one_semi, semis, type_name, type
 use Rattle.pp_grammar.specs.Units.{IsAnnotations, IsChoice, IsClass, IsDef, IsImport, IsImportText, IsItem, IsItems}
 use Rattle.pp_grammar.specs.Units.{IsMember, IsMembers, IsModified, IsMoreItems, IsMoreMembers, IsNames, IsObject}
 use Rattle.pp_grammar.specs.Units.{IsPackages, IsParamList, IsParams, IsParent, IsPath, IsTypeParams, Modifiers}
-use Rattle.pp_grammar.specs.Units.{Piece, SpellsUnit, case_object, class_of, def_of, empty_list, import_all}
+use Rattle.pp_grammar.specs.Units.{Piece, case_object, class_of, def_of, empty_list, import_all}
 use Rattle.pp_grammar.specs.Units.{import_path, import_some, item_class, item_import, item_object, items, last_chosen}
 use Rattle.pp_grammar.specs.Units.{last_name, last_of_path, last_param, library, member_class, member_def}
-use Rattle.pp_grammar.specs.Units.{member_import, members, modified, more_of_path, no_annotation, no_items, no_list}
+use Rattle.pp_grammar.specs.Units.{member_import, members, more_of_path, no_annotation, no_items, no_list}
 use Rattle.pp_grammar.specs.Units.{no_members, no_modifier, no_more_items, no_more_members, no_package, no_parent}
 use Rattle.pp_grammar.specs.Units.{no_type_params, object_of, of_object, one_annotation, one_modifier}
 use Rattle.pp_grammar.specs.Units.{one_more_chosen, one_more_item, one_more_member, one_more_name, one_more_param}
-use Rattle.pp_grammar.specs.Units.{one_package, param_list, parent, type_params, unit}
+use Rattle.pp_grammar.specs.Units.{one_package, param_list, parent, type_params}
 use Rattle.pp_tokens.specs.declared.token.Token.{Token}
 use Rattle.pp_tree.specs.Plain.{CaseTrees, DeclTree, ParamTree, PatternTree, PatternTrees, PostTree, Tree, Trees}
-use Rattle.pp_tree.specs.Plain.{TypeTree, TypeTrees, UnitTree, Word}
-use Rattle.std.proofs.Common.{Bool, List, None, Option, Some, [], ap, cond, false, refl, sym, true, ℕ, ℤ, ◌∙◌, ◌∷◌, ◌≡◌}
+use Rattle.pp_tree.specs.Plain.{TypeTree, TypeTrees, Word}
+use Rattle.std.proofs.Common.{Bool, List, Option, [], ℕ, ◌∷◌}
 
 module _ (text : Word) (Holds : Token → Type 0) where
   abbrev pub AllOf : List Token → Type 0

@@ -1,4 +1,4 @@
--- The names among the tokens of a text are words, and so are the names that its unit declares.
+-- The names among the tokens of a text are words, and so are the names that its unit declares and those of parameters.
 use lib.Utf8.{encodes}
 use Rattle.std.proofs.Common.{◌≡◌, ◌≢◌, ◌<◌, ◌==◌, ◌||◌, true, ◌∙◌, ◌+◌, ◌-◌, ℕ, List, [], ◌∷◌, ◌++◌, append_assoc}
 use Rattle.std.proofs.Common.{length, take, drop, Option}
@@ -22,11 +22,13 @@ use Rattle.pp_tokens.proofs.Every.{Every, all_of}
 use Rattle.pp_tokens.proofs.Keeping.{all_kept}
 use Rattle.pp_tokens.proofs.TokensOf.{is_layout}
 use Rattle.pp_tokens.proofs.Widths.{width-encodes}
+use Rattle.pp_tree.specs.Plain.{ParamTree}
 use Rattle.pp_typed.specs.WellSorted.{IsPlain}
 use Rattle.pp_plain_names.proofs.Bytes.{IsFree, chars_free, name_free}
-use Rattle.pp_plain_names.proofs.Declared.{WordName, bare_unit, word_unit}
+use Rattle.pp_plain_names.proofs.Declared.{WordName, bare_unit, params_unit, word_unit}
 use Rattle.pp_plain_names.proofs.Left.{AllOf}
 use Rattle.pp_plain_names.specs.Laws.{DeclaredNamesArePlain, DeclaredNamesAreWords, DeclaredObjectsAreBare}
+use Rattle.pp_plain_names.specs.Laws.{DeclaredParamsAreWords}
 use Rattle.pp_plain_names.specs.Laws.{IsWord, declared_name}
 
 free_word : (bs : List ℕ) → Every IsFree bs → IsWord bs
@@ -104,6 +106,12 @@ module _ (bs : List ℕ) where
 pub declared_names_are_words : DeclaredNamesAreWords
 declared_names_are_words text tokens unit d utf8 cut spells here =
     word_unit text d spells (as_all text tokens (word_tokens text tokens utf8 cut)) here
+
+pub declared_params_are_words : DeclaredParamsAreWords
+declared_params_are_words text tokens unit d q utf8 cut spells here there =
+    let words = params_unit text d spells (as_all text tokens (word_tokens text tokens utf8 cut)) here in
+    let IsNamed : ParamTree → Type 0 = λ q. IsWord q.name in
+    All-contains IsNamed d.params q (all_of IsNamed d.params words) there
 
 -- no word has this mark
 pub no_mark : (name : List ℕ) (mark : ℕ) → mark < 128 → (is_ascii_alphanumeric mark || (mark == 95)) ≡ false

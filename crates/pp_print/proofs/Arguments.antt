@@ -16,5 +16,6 @@ no_pairs (x ∷ xs) (y ∷ ys) e = absurd (omega (arith, e))
 pub no_more_arguments : (ctors : List Ctor) (params : List Param) (values : List Value) (n : ℕ)
     → n ≡ min (length params) (length values) → arguments_text ctors (drop n params) (drop n values) ≡ []
 no_more_arguments ctors params values n e =
-    let left : min (length (drop n params)) (length (drop n values)) ≡ 0 = omega (arith, e, length-drop n params, length-drop n values) in
+    let left : min (length (drop n params)) (length (drop n values)) ≡ 0 =
+    omega (arith, e, length-drop n params, length-drop n values) in
     ap (λ ps. concat (map (argument_text ctors) ps)) (no_pairs (drop n params) (drop n values) left)

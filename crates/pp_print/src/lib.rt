@@ -27,6 +27,3 @@ pub use refusal::{
     memory_line, not_utf8_line, read_fault_line, too_long_line, words_line, write_fault_line,
 };
 pub use run::{deep_line, done_line, fails_line, inner_line, outside_line};
-
-#[cfg(test)]
-mod tests;

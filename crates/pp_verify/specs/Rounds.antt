@@ -4,9 +4,8 @@ use Rattle.pp_prog.specs.declared.expr.Function.{Function}
 use Rattle.pp_prog.specs.declared.id.CheckId.{CheckId}
 use Rattle.pp_prog.specs.declared.program.Program.{Program}
 use Rattle.pp_prog.specs.Calls.{call_table}
-use Rattle.pp_checks.specs.declared.tables.Plan.{Plan}
 use Rattle.pp_checks.specs.Closed.{Nests}
-use Rattle.pp_checks.specs.Plan.{IsPlanOf}
+use Rattle.pp_checks.specs.Plan.{IsPlanOf, Plan}
 use Rattle.pp_induct.specs.declared.ends.CheckEnd.{CheckEnd}
 use Rattle.pp_induct.specs.declared.ends.CheckEnd.TheVariants.{Open}
 use Rattle.pp_induct.specs.declared.ends.Why.{Why}

@@ -41,7 +41,8 @@ pub held_more : {Z : Type 0} (held : Text → Option Text) (files : List (Bor Te
     → AreHeld held (texts (take (i + 1) files)) (map bytes_of new)
 held_more held files i path source old {new} lt before more one =
     let paths : texts (take (i + 1) files) ≡ texts (take i files) ++ (get_or files i path).now ∷ [] =
-    ap texts (take_more files i path lt) ∙ map-append (λ (w : Bor Text). w.now) (take i files) (get_or files i path ∷ []) in
+    ap texts (take_more files i path lt)
+    ∙ map-append (λ (w : Bor Text). w.now) (take i files) (get_or files i path ∷ []) in
     let sources : map bytes_of new ≡ map bytes_of old ++ source.items ∷ [] =
     ap (map bytes_of) more ∙ map-append bytes_of old (source ∷ []) in
     subst (λ l. AreHeld held l (map bytes_of new)) (sym paths)
@@ -131,7 +132,8 @@ fewer files sources path at =
 
 -- ---- a fetch that fails
 
-module _ {Z : Type 0} (shelf : Shelf) (files : List (Bor Text)) (i : ℕ) (item : Bor Text) (sources : List (Vec ℕ Z)) (lt : i < length files)
+module _ {Z : Type 0} (shelf : Shelf) (files : List (Bor Text)) (i : ℕ) (item : Bor Text) (sources : List (Vec ℕ Z))
+    (lt : i < length files)
     (before : AreHeld shelf.held (texts (take i files)) (map bytes_of sources)) (short : All IsShort sources) where
   abbrev next : Text
   next = (get_or files i item).now

@@ -1,3 +1,4 @@
 pub mod Showing
 pub mod Ending
 pub mod Held
+pub mod Reading

@@ -4,6 +4,7 @@ use Rattle.std.specs.List.{concat}
 use Rattle.pp_answers.specs.Answers.{Answers, IsAccepted}
 use Rattle.pp_answers.specs.Claims.{AreLinesOf, Claim, InvalidFails, OpenIsSearched, ValidIsGood}
 use Rattle.pp_answers.specs.Laws.{Agree, EachLine, IsOnVerdicts, IsVerify, verify_within}
+use Rattle.pp_answers.specs.Readings.{IsTextReadBack}
 use Rattle.pp_induct.specs.declared.limits.Limits.{Limits}
 use Rattle.pp_modes.specs.Responses.{Response, report, status_in}
 use Rattle.pp_modes.specs.declared.status.Status.{Status}
@@ -91,6 +92,23 @@ InvalidFail = EachPrinted InvalidFails
 -- and of each that is printed as open at a round the printed check was searched there
 abbrev pub OpenAreSearched : Run → Status → Type 0
 OpenAreSearched = EachPrinted OpenIsSearched
+
+-- `out` took a text, and this says one thing of the program of the fetched sources: the verdict of each function, in
+-- order, with its check, its arguments, its round and its reason, and how many functions have each verdict; and all this
+-- is true
+pub record ReadsBack (run : Run) (line : Line) (limits : Limits) : Type 0 where
+  pub sources : List Text
+  pub fetched : AreFetched run.shelf line sources
+  pub program : Program
+  pub accepted : IsAccepted sources program
+  pub text : Text
+  pub printed : TookAll run.out text
+  pub says : (p : Program) → IsAccepted sources p → IsTextReadBack limits p text
+
+-- so it is where mode `verify` ends with a status on verdicts
+abbrev pub TextIsReadBack : Run → Status → Type 0
+TextIsReadBack run s = (line : Line) (limits : Limits) → line_of run.words ≡ Some line
+    → line.task ≡ verify_within limits → IsOnVerdicts s → ReadsBack run line limits
 
 -- nothing was fetched but files of the line, of which one at most failed
 abbrev pub FetchesFiles : Line → Shelf → Type 0

@@ -2,8 +2,8 @@
 
 ghost use Rattle.std.specs.Prelude.{◌≡◌, List, ℕ};
 ghost use Rattle.pp_words.specs.Told.{texts};
-ghost use Rattle.pureproof.specs.Ends.{Comes, Ends, Fetched, InvalidFail, OpenAreSearched, ValidLinesAreTrue};
-ghost use Rattle.pureproof.specs.Ends.{Verifies, the_run};
+ghost use Rattle.pureproof.specs.Ends.{Comes, Ends, Fetched, InvalidFail, OpenAreSearched, TextIsReadBack};
+ghost use Rattle.pureproof.specs.Ends.{ValidLinesAreTrue, Verifies, the_run};
 ghost use Rattle.pureproof.specs.Fetched.{told};
 ghost use Rattle.pureproof.specs.Shown.{took};
 
@@ -11,7 +11,8 @@ use crate::Status;
 use crate::responding::due;
 use crate::show::{put_refusal, put_response};
 use pp_answers::{
-    invalid_means_failed, one_line_each, one_status, open_means_searched, valid_means_good,
+    invalid_means_failed, one_line_each, one_status, open_means_searched, text_read_back,
+    valid_means_good,
 };
 use pp_print::memory_line;
 use pp_seam::{Shelf, Sink};
@@ -68,6 +69,11 @@ pub fn pureproof<'a, S: Shelf, K: Sink, E: Sink>(
     ensures open_at { OpenAreSearched (the_run (texts words.entry.now) (told S.held S.failed S.seen shelf.old shelf.new)
         (took K.taken K.faults out.old out.new) (took E.taken E.faults err.old err.new)) result }
 
+    // the printed text tells all this: it is read back as one verdict of each function, with one check, one list of
+    // arguments, one round and one reason
+    ensures read_back { TextIsReadBack (the_run (texts words.entry.now) (told S.held S.failed S.seen shelf.old shelf.new)
+        (took K.taken K.faults out.old out.new) (took E.taken E.faults err.old err.new)) result }
+
     // nothing but the files of the words is fetched, and the shelf holds what it held
     ensures fetched { Fetched (texts words.entry.now) (told S.held S.failed S.seen shelf.old shelf.new) }
     ensures kept { (p : List ℕ) → S.held shelf.new p ≡ S.held shelf.old p }
@@ -77,5 +83,6 @@ pub fn pureproof<'a, S: Shelf, K: Sink, E: Sink>(
     valid_means_good();
     invalid_means_failed();
     open_means_searched();
+    text_read_back();
     carry_out(alloc, words, shelf, out, err)
 }

@@ -8,16 +8,20 @@ pub loop-line-preserved : goal.loop-line-preserved
 loop-line-preserved g c =
     record {
       faults = c.in_ok-put.ensures.steady ∙ c.loop-line.invariant.faults;
-      taken = line_put string_bytes c.args.lines.now c.loop-line.line-index c.line-item.result _ _ _ c.loop-line-test.true c.line-item.is
+      taken = line_put string_bytes c.args.lines.now c.loop-line.line-index c.line-item.result _ _ _
+          c.loop-line-test.true c.line-item.is
           c.loop-line.invariant.taken (subst (Appends _ _) c.as_bytes.ensures.value c.in_ok-put.ensures.whole);
     }
 
 pub returns-in_err-put-clause-front : goal.returns-in_err-put-clause-front
 returns-in_err-put-clause-front g c =
-    on_err _ _ (line_cut string_bytes c.args.lines.now c.loop-line.line-index c.line-item.result _ _ _ c.loop-line-test.true c.line-item.is
+    on_err _ _ (line_cut string_bytes c.args.lines.now c.loop-line.line-index c.line-item.result _ _ _
+    c.loop-line-test.true c.line-item.is
     c.loop-line.invariant.taken (subst (AppendsFront _ _) c.as_bytes.ensures.value c.in_err-put.ensures.front))
 
 pub returns-in_err-put-clause-prefix : goal.returns-in_err-put-clause-prefix
 returns-in_err-put-clause-prefix g c =
-    on_err _ _ (cut_front _ _ _ (line_cut string_bytes c.args.lines.now c.loop-line.line-index c.line-item.result _ _ _ c.loop-line-test.true c.line-item.is
+    on_err _ _ (cut_front _ _ _
+    (line_cut string_bytes c.args.lines.now c.loop-line.line-index c.line-item.result _ _ _ c.loop-line-test.true
+    c.line-item.is
     c.loop-line.invariant.taken (subst (AppendsFront _ _) c.as_bytes.ensures.value c.in_err-put.ensures.front)))

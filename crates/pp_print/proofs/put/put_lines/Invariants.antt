@@ -7,5 +7,6 @@ abbrev pub invariant-loop-line : goal.invariant-loop-line
 invariant-loop-line g l =
     record {
       faults : g.K.Sink.faults l.out ≡ g.K.Sink.faults l.initial.out;
-      taken : Appends (g.K.Sink.taken l.initial.out) (g.K.Sink.taken l.out) (concat (take l.line-index (map string_bytes l.lines)));
+      taken : Appends (g.K.Sink.taken l.initial.out) (g.K.Sink.taken l.out)
+          (concat (take l.line-index (map string_bytes l.lines)));
     }

@@ -41,7 +41,8 @@ returns-in-Err-Failed-clause-due g c =
     if_ok c.unread.result c.unread.ensures
     (λ r says words is. due_unread words (told g.S.Shelf.held g.S.Shelf.failed g.S.Shelf.seen c.args.shelf.now
     c.fetch_all.new.shelf) _ is
-    c.fetch_all.new.sources.items c.args.files.now c.len.result _ (response_of r) fails refl (omega (arith, len)) (omega (arith, less, files, len)) says)
+    c.fetch_all.new.sources.items c.args.files.now c.len.result _ (response_of r) fails refl (omega (arith, len))
+    (omega (arith, less, files, len)) says)
 
 pub returns-in-Err-Failed-clause-fetched : goal.returns-in-Err-Failed-clause-fetched
 returns-in-Err-Failed-clause-fetched g c =

@@ -9,4 +9,5 @@ returns-in-Ok g c = printed _ _ (record { all = c.in-Ok.ensures.whole; calm = c.
 
 pub returns-in-Err : goal.returns-in-Err
 returns-in-Err g c =
-    after_fault _ _ _ _ c.put.result _ (record { cut = c.in-Err.ensures.front; rose = c.in-Err.ensures.cause }) (search rules) c.put.ensures.whole c.put.ensures.front c.put.ensures.cause c.put.ensures.steady
+    after_fault _ _ _ _ c.put.result _ (record { cut = c.in-Err.ensures.front; rose = c.in-Err.ensures.cause })
+    (search rules) c.put.ensures.whole c.put.ensures.front c.put.ensures.cause c.put.ensures.steady

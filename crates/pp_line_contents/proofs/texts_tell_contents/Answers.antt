@@ -1,0 +1,5 @@
+use Rattle.pp_line_contents.proofs.Texts.{texts_tell_contents}
+use Rattle.pp_line_contents.proofs.texts_tell_contents.Goals as goal
+
+pub returns : goal.returns
+returns c = texts_tell_contents
