@@ -1,11 +1,12 @@
 -- What a declaration keeps by itself: its limits, and the names that it declares. Source: own; the limits are those
 -- of the language.
-use Rattle.std.specs.Prelude.{◌≡◌, ℕ, ◌≤◌, Bool, true, false, ◌||◌, List, [], ◌∷◌, ◌++◌, Ok, codes, length, map, nat_eq}
+use Rattle.std.specs.Prelude.{◌≡◌, ℕ, ◌≤◌, Bool, true, false, ◌||◌, List, [], ◌∷◌, ◌++◌, Ok, length, map, nat_eq}
 use Rattle.std.specs.Prelude.{nat_le, if◌then◌else◌}
 use Rattle.std.specs.List.{list_any}
 use Rattle.pp_fault.specs.Part.{Part, fault}
 use Rattle.pp_fault.specs.declared.Rule.TheVariants.{Duplicate, Mismatch, OverLimit}
 use Rattle.pp_names.specs.Places.{Word, has}
+use Rattle.pp_names.specs.Reserved.{is_reserved}
 use Rattle.pp_tree.specs.Plain.{ParamTree, DeclTree, root, ctor, other, def}
 
 -- at most 16 parameters or fields, and 4 type parameters
@@ -19,18 +20,13 @@ most_type_params = 4
 abbrev pub most_ctors : ℕ
 most_ctors = 64
 
--- the words that can't be declared
-abbrev pub reserved : List Word
-reserved = codes "require" ∷ codes "ensuring" ∷ codes "holds" ∷ codes "decreases" ∷ codes "assert" ∷ codes "Int" ∷
-    codes "Boolean" ∷ []
-
 -- the marks that stand between the parts of a printed type: `,`, `[` and `]`
 abbrev pub is_mark : ℕ → Bool
 is_mark b = nat_eq b 44 || (nat_eq b 91 || nat_eq b 93)
 
--- a name that can't be declared: such a word, or a name with a mark of printed types, which no source spells
+-- a name that can't be declared: a reserved word, or a name with a mark of printed types, which no source spells
 abbrev pub is_barred : Word → Bool
-is_barred w = has w reserved || list_any is_mark w
+is_barred w = is_reserved w || list_any is_mark w
 
 -- a name can't be declared after these: it is one of them, or can't be declared at all
 abbrev pub is_taken : List Word → Word → Bool

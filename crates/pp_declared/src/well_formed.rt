@@ -5,7 +5,7 @@ ghost use Rattle.std.specs.List.{list_any};
 ghost use Rattle.pp_declared.specs.Declare.{all_checked};
 ghost use Rattle.pp_declared.specs.Shown.{decl_ins};
 ghost use Rattle.pp_declared.specs.WellFormed.{are_new_after, checked, head_checked, is_barred, is_mark, is_taken};
-ghost use Rattle.pp_declared.specs.WellFormed.{param_names, params_new_after, reserved};
+ghost use Rattle.pp_declared.specs.WellFormed.{param_names, params_new_after};
 ghost use Rattle.pp_fault.specs.Part.{Tells};
 ghost use Rattle.pp_names.specs.Places.{has};
 ghost use Rattle.pp_sorts.specs.Words.{words_of};
@@ -13,6 +13,7 @@ ghost use Rattle.pp_tree.specs.Shown.{decl_of, param_of};
 
 use crate::DeclAt;
 use pp_fault::{Halt, Rule, broken};
+use pp_names::is_reserved;
 use pp_tree::{Decl, Param};
 use std::alloc::Global;
 
@@ -117,16 +118,6 @@ fn is_mark(byte: u8) -> bool
     ensures { result ≡ is_mark byte }
 {
     byte == b',' || (byte == b'[' || byte == b']')
-}
-
-/// Whether the name is a word that can't be declared.
-fn is_reserved(name: &str) -> bool
-    ensures { result ≡ has name.now reserved }
-{
-    matches!(
-        name,
-        "require" | "ensuring" | "holds" | "decreases" | "assert" | "Int" | "Boolean"
-    )
 }
 
 /// Whether the name is one of these.

@@ -1,5 +1,5 @@
--- Why sources are refused, and the line that says so: the first that spells no unit; units without a typing; more than 512
--- instances; a function that breaks a rule of measures. Source: own.
+-- Why sources are refused, and the line that says so: the first that spells no unit; units without a typing; more than
+-- 512 instances; a function that breaks a rule of measures. Source: own.
 use Rattle.std.specs.Prelude.{◌≡◌, ◌+◌, ℕ, List, ◌∷◌, ◌++◌, Some, length, slice_get}
 use Rattle.pp_checks.specs.Rules.{IsFirstFault}
 use Rattle.pp_checks.specs.declared.fault.PlanFault.{PlanFault}

@@ -32,8 +32,8 @@ pub struct Accepted {
 /// The program that sources have, and its plan; the sources are numbered from 1 in their order.
 ///
 /// # Errors
-/// `Line` with the line that says why the sources are refused: the first that spells no unit, a fault of typing, more than
-/// 512 instances, the first function that breaks a rule of measures. `Memory` for want of memory.
+/// `Line` with the line that says why the sources are refused: the first that spells no unit, a fault of typing, more
+/// than 512 instances, the first function that breaks a rule of measures. `Memory` for want of memory.
 pub fn accept(alloc: Global, sources: &[Vec<u8>]) -> Result<Accepted, Refusal>
     requires few { length sources.now ≤ 16 }
     requires short { All IsShort sources.now }

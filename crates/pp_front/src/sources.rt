@@ -51,8 +51,8 @@ fn add_source<'a>(
     Ok(())
 }
 
-/// Reads the sources in their order, each as a text and as the unit that it spells, which lies in the arena. The lists are
-/// empty before.
+/// Reads the sources in their order, each as a text and as the unit that it spells, which lies in the arena. The lists
+/// are empty before.
 ///
 /// # Errors
 /// `Line` with the line that refuses the first source that spells no unit. `Memory` for want of memory. The lists then

@@ -1,5 +1,6 @@
 -- What is left at the end of two lists: it tells nothing of type parameters, and lists of two lengths don't fit.
-use Rattle.std.proofs.Common.{◌≡◌, ℕ, suc, ◌≤◌, ◌<◌, List, [], ◌∷◌, length, drop, map, min, refl, ap, sym, ◌∙◌, arith, ⊎_elim, ◌⊎◌, inl, inr}
+use Rattle.std.proofs.Common.{◌≡◌, ℕ, suc, ◌≤◌, ◌<◌, List, [], ◌∷◌, length, drop, map, min, refl, ap, sym, ◌∙◌, arith}
+use Rattle.std.proofs.Common.{⊎_elim, ◌⊎◌, inl, inr}
 use Rattle.std.proofs.lemmas.List.{drop_all}
 use Rattle.std.specs.Prelude.{nat_eq, Bool, true, false, ◌&&◌, if◌then◌else◌}
 use Rattle.pp_generic.specs.declared.expected.Expected.{Expected}

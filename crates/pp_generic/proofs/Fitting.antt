@@ -1,5 +1,6 @@
 -- Two roots fit exactly where their arguments fit, one by one.
-use Rattle.std.proofs.Common.{◌≡◌, ℕ, ◌+◌, ◌<◌, ◌≤◌, List, [], ◌∷◌, length, get_or, drop, map, refl, ap, sym, ◌∙◌, arith, suc, drop-cons}
+use Rattle.std.proofs.Common.{◌≡◌, ℕ, ◌+◌, ◌<◌, ◌≤◌, List, [], ◌∷◌, length, get_or, drop, map, refl, ap, sym, ◌∙◌}
+use Rattle.std.proofs.Common.{arith, suc, drop-cons}
 use Rattle.std.proofs.lemmas.List.{drop_all}
 use Rattle.std.specs.Prelude.{nat_eq, Bool, true, false, ◌&&◌}
 use Rattle.pp_generic.specs.declared.expected.Expected.{Expected}

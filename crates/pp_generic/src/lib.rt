@@ -1,8 +1,8 @@
 //! Sorts with type parameters: copies and equality, what is put in place of the parameters, and what is found of them.
 //!
 //! Where a function or a constructor is applied, its type parameters are found one by one: what is found so far is a
-//! `Found`, and what is expected of an expression is an `Expected`, a sort of which parts may be open. `specs/Equal.antt`,
-//! `specs/Expected.antt` and `specs/Found.antt` have the definitions.
+//! `Found`, and what is expected of an expression is an `Expected`, a sort of which parts may be open.
+//! `specs/Equal.antt`, `specs/Expected.antt` and `specs/Found.antt` have the definitions.
 #![tactic(auto)]
 
 mod expected;
@@ -13,6 +13,3 @@ pub use expected::{Expected, exact, expect, fits, known, whole};
 pub use found::{Found, all_found, learn, none_found};
 pub use sort::{are_same, copies, copy, put};
 pub use std::alloc::AllocError as NoMemory;
-
-#[cfg(test)]
-mod tests;

@@ -4,12 +4,41 @@ use Rattle.std.specs.Prelude.{Bool, false, List, [], ◌∷◌}
 use Rattle.pp_tokens.specs.declared.token.Token.{Token}
 use Rattle.pp_tokens.specs.declared.token.TokenKind.{TokenKind}
 use Rattle.pp_tree.specs.Plain.{Word}
-use Rattle.pp_grammar.specs.Frames.{syntax_at, Frame, Mode, want, have, after_name, after_name_types, args_open, after_int, after_int_dot, after_minus, have_negative, after_negative_dot, after_dot, after_if, want_then, want_else, after_match, want_case, have_matched, after_matched_dot, want_pattern, after_pattern_name, after_pattern_minus, pattern_args_open, have_pattern, want_type, after_type_name, have_type, want_stat, after_stat, after_last, after_val_word, after_val_name, after_assert_word, after_require, after_decreases, measure_open, after_tuple, want_body, have_contracted, after_contracted_dot, after_ensuring, want_lambda_or_semi, want_lambda, after_lambda_name, after_lambda_round, after_lambda_round_name, after_lambda_closed, after_lambda_typed, after_claim, after_body, want_name, after_head_name, want_type_param, after_type_param, after_type_params, params_open, want_param, after_param_name, after_params, want_object_name, after_object_name, Move, go, stop, ends, ItemMode, at_start, at_item, after_item, after_package, after_package_name, after_import, after_path_name, after_path_dot, want_chosen, after_chosen, after_object, after_object_title, after_object_line, after_at, after_annotation, after_annotation_line, after_case, after_modifiers, Parsed, State, between, within, failed, done}
+use Rattle.pp_grammar.specs.Frames.{syntax_at, Frame, Mode, want, have, after_name, after_name_types, args_open}
+use Rattle.pp_grammar.specs.Frames.{after_int, after_int_dot, after_minus, have_negative, after_negative_dot, after_dot}
+use Rattle.pp_grammar.specs.Frames.{after_if, want_then, want_else, after_match, want_case, have_matched}
+use Rattle.pp_grammar.specs.Frames.{after_matched_dot, want_pattern, after_pattern_name, after_pattern_minus}
+use Rattle.pp_grammar.specs.Frames.{pattern_args_open, have_pattern, want_type, after_type_name, have_type, want_stat}
+use Rattle.pp_grammar.specs.Frames.{after_stat, after_last, after_val_word, after_val_name, after_assert_word}
+use Rattle.pp_grammar.specs.Frames.{after_require, after_decreases, measure_open, after_tuple, want_body}
+use Rattle.pp_grammar.specs.Frames.{have_contracted, after_contracted_dot, after_ensuring, want_lambda_or_semi}
+use Rattle.pp_grammar.specs.Frames.{want_lambda, after_lambda_name, after_lambda_round, after_lambda_round_name}
+use Rattle.pp_grammar.specs.Frames.{after_lambda_closed, after_lambda_typed, after_claim, after_body, want_name}
+use Rattle.pp_grammar.specs.Frames.{after_head_name, want_type_param, after_type_param, after_type_params, params_open}
+use Rattle.pp_grammar.specs.Frames.{want_param, after_param_name, after_params, want_object_name, after_object_name}
+use Rattle.pp_grammar.specs.Frames.{Move, go, stop, ends, ItemMode, at_start, at_item, after_item, after_package}
+use Rattle.pp_grammar.specs.Frames.{after_package_name, after_import, after_path_name, after_path_dot, want_chosen}
+use Rattle.pp_grammar.specs.Frames.{after_chosen, after_object, after_object_title, after_object_line, after_at}
+use Rattle.pp_grammar.specs.Frames.{after_annotation, after_annotation_line, after_case, after_modifiers, Parsed, State}
+use Rattle.pp_grammar.specs.Frames.{between, within, failed, done}
 use Rattle.pp_grammar.specs.Joining.{nothing_parsed, with_decl}
-use Rattle.pp_grammar.specs.StepTypes.{on_have_type, on_want_type, on_type_name, on_want_pattern, on_pattern_minus, on_have_pattern, on_pattern_name, on_pattern_args_open}
-use Rattle.pp_grammar.specs.StepExprs.{on_want, on_minus, on_if, on_want_then, on_have, on_dot, on_have_negative, on_negative_dot, on_have_matched, on_matched_dot, on_name, on_name_types, on_args_open, on_int, on_int_dot, on_match_word, on_want_case, on_want_else}
-use Rattle.pp_grammar.specs.StepBodies.{on_want_stat, on_after_stat, on_after_last, on_val_word, on_val_name, on_assert_word, on_after_require, on_after_decreases, on_measure_open, on_after_tuple, on_want_body, on_have_contracted, on_contracted_dot, on_after_ensuring, on_want_lambda, on_want_lambda_or_semi, on_lambda_name, on_lambda_round, on_lambda_round_name, on_lambda_closed, on_lambda_typed, on_after_claim, on_after_body, on_want_name, on_head_name, on_want_type_param, on_after_type_param, on_after_type_params, on_params_open, on_want_param, on_param_name, on_after_params, on_want_object_name, on_object_name}
-use Rattle.pp_grammar.specs.StepItems.{on_start, on_item, on_after_item, on_after_package, on_package_name, on_after_import, on_path_name, on_path_dot, on_want_chosen, on_chosen, on_after_object, on_object_title, on_object_line, on_after_at, on_annotation, on_declaration, on_after_case, on_modifiers}
+use Rattle.pp_grammar.specs.StepTypes.{on_have_type, on_want_type, on_type_name, on_want_pattern, on_pattern_minus}
+use Rattle.pp_grammar.specs.StepTypes.{on_have_pattern, on_pattern_name, on_pattern_args_open}
+use Rattle.pp_grammar.specs.StepExprs.{on_want, on_minus, on_if, on_want_then, on_have, on_dot, on_have_negative}
+use Rattle.pp_grammar.specs.StepExprs.{on_negative_dot, on_have_matched, on_matched_dot, on_name, on_name_types}
+use Rattle.pp_grammar.specs.StepExprs.{on_args_open, on_int, on_int_dot, on_match_word, on_want_case, on_want_else}
+use Rattle.pp_grammar.specs.StepBodies.{on_want_stat, on_after_stat, on_after_last, on_val_word, on_val_name}
+use Rattle.pp_grammar.specs.StepBodies.{on_assert_word, on_after_require, on_after_decreases, on_measure_open}
+use Rattle.pp_grammar.specs.StepBodies.{on_after_tuple, on_want_body, on_have_contracted, on_contracted_dot}
+use Rattle.pp_grammar.specs.StepBodies.{on_after_ensuring, on_want_lambda, on_want_lambda_or_semi, on_lambda_name}
+use Rattle.pp_grammar.specs.StepBodies.{on_lambda_round, on_lambda_round_name, on_lambda_closed, on_lambda_typed}
+use Rattle.pp_grammar.specs.StepBodies.{on_after_claim, on_after_body, on_want_name, on_head_name, on_want_type_param}
+use Rattle.pp_grammar.specs.StepBodies.{on_after_type_param, on_after_type_params, on_params_open, on_want_param}
+use Rattle.pp_grammar.specs.StepBodies.{on_param_name, on_after_params, on_want_object_name, on_object_name}
+use Rattle.pp_grammar.specs.StepItems.{on_start, on_item, on_after_item, on_after_package, on_package_name}
+use Rattle.pp_grammar.specs.StepItems.{on_after_import, on_path_name, on_path_dot, on_want_chosen, on_chosen}
+use Rattle.pp_grammar.specs.StepItems.{on_after_object, on_object_title, on_object_line, on_after_at, on_annotation}
+use Rattle.pp_grammar.specs.StepItems.{on_declaration, on_after_case, on_modifiers}
 
 module _ (text : Word) (t : Token) where
   -- within a declaration

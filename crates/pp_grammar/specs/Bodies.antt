@@ -10,7 +10,8 @@ use Rattle.pp_tokens.specs.declared.token.Bracket.TheVariants.{OpenRound, CloseR
 use Rattle.pp_tree.specs.declared.operator.BinaryOp.{BinaryOp}
 use Rattle.pp_tree.specs.declared.operator.UnaryOp.{UnaryOp}
 use Rattle.pp_tree.specs.Plain.{Word, TypeTree, Tree, name, unary, binary, PostTree}
-use Rattle.pp_grammar.specs.Words.{word, res, role, require_word, decreases_word, ensuring_word, holds_word, unary_of, binary_of, level, loosest, tightest}
+use Rattle.pp_grammar.specs.Words.{word, res, role, require_word, decreases_word, ensuring_word, holds_word, unary_of}
+use Rattle.pp_grammar.specs.Words.{binary_of, level, loosest, tightest}
 use Rattle.pp_grammar.specs.Types.{IsGap, IsSemis, IsType, IsAscription}
 use Rattle.pp_grammar.specs.Exprs.{IsExpr, IsInfix, IsMatched, IsSimple, IsStats, IsFields}
 

@@ -6,12 +6,16 @@ use Rattle.pp_tokens.specs.declared.token.TokenKind.TheVariants.{Name, Word as R
 use Rattle.pp_tokens.specs.declared.token.Reserved.TheVariants.{Case, Else, False, If, Match, True, Val}
 use Rattle.pp_tokens.specs.declared.token.Operator.{Operator}
 use Rattle.pp_tokens.specs.declared.token.Operator.TheVariants.{Minus, Assign, Arrow}
-use Rattle.pp_tokens.specs.declared.token.Bracket.TheVariants.{OpenRound, CloseRound, OpenSquare, OpenBrace, CloseBrace, Comma, Dot, Semicolon}
+use Rattle.pp_tokens.specs.declared.token.Bracket.TheVariants.{OpenRound, CloseRound, OpenSquare, OpenBrace, CloseBrace}
+use Rattle.pp_tokens.specs.declared.token.Bracket.TheVariants.{Comma, Dot, Semicolon}
 use Rattle.pp_tree.specs.declared.operator.BinaryOp.{BinaryOp}
 use Rattle.pp_tree.specs.declared.operator.UnaryOp.{UnaryOp}
-use Rattle.pp_tree.specs.Plain.{Word, TypeTree, TypeTrees, no_types, PatternTree, Tree, int, bool, name, apply, field, unary, binary, choice, matching, val_in, assert_in, Trees, no_trees, more_trees, CaseTrees, no_cases}
+use Rattle.pp_tree.specs.Plain.{Word, TypeTree, TypeTrees, no_types, PatternTree, Tree, int, bool, name, apply, field}
+use Rattle.pp_tree.specs.Plain.{unary, binary, choice, matching, val_in, assert_in, Trees, no_trees, more_trees}
+use Rattle.pp_tree.specs.Plain.{CaseTrees, no_cases}
 use Rattle.pp_tree.specs.Shown.{case_before}
-use Rattle.pp_grammar.specs.Words.{word, role, plain, assert_word, int_word, bound_of, unary_of, binary_of, level, loosest, tightest, number_of, negative_of, is_sign}
+use Rattle.pp_grammar.specs.Words.{word, role, plain, assert_word, int_word, bound_of, unary_of, binary_of, level}
+use Rattle.pp_grammar.specs.Words.{loosest, tightest, number_of, negative_of, is_sign}
 use Rattle.pp_grammar.specs.Types.{IsGap, IsSemis, IsBreaks, IsTypes, IsAscription}
 use Rattle.pp_grammar.specs.Patterns.{IsPattern}
 

@@ -3,7 +3,8 @@
 use Rattle.std.specs.Prelude.{ℕ, Bool, List, Option}
 use Rattle.pp_tree.specs.declared.operator.BinaryOp.{BinaryOp}
 use Rattle.pp_tree.specs.declared.operator.UnaryOp.{UnaryOp}
-use Rattle.pp_tree.specs.Plain.{Word, TypeTree, TypeTrees, PatternTree, Tree, ParamTree, PostTree, DeclTree, ImportTree, UnitTree}
+use Rattle.pp_tree.specs.Plain.{Word, TypeTree, TypeTrees, PatternTree, Tree, ParamTree, PostTree, DeclTree, ImportTree}
+use Rattle.pp_tree.specs.Plain.{UnitTree}
 
 -- Why tokens spell no unit: a token that can't stand there, or what the language leaves out, with its name.
 pub data Fault : Type 0 where

@@ -1,10 +1,13 @@
 -- How finished parts are put together: operands with the operators before them, statements with what follows them,
 -- lists whose last item stands first.
 use Rattle.std.specs.Prelude.{ℕ, suc, Bool, true, false, cond, ◌||◌, nat_le, List, [], ◌∷◌, Option, Some, None}
-use Rattle.pp_tree.specs.Plain.{Word, TypeTree, TypeTrees, more_types, PatternTree, PatternTrees, more_patterns, Tree, unary, binary, choice, val_in, assert_in, Trees, more_trees, CaseTrees, ClassTree, PostTree, DeclTree, ctor, def, UnitTree}
+use Rattle.pp_tree.specs.Plain.{Word, TypeTree, TypeTrees, more_types, PatternTree, PatternTrees, more_patterns, Tree}
+use Rattle.pp_tree.specs.Plain.{unary, binary, choice, val_in, assert_in, Trees, more_trees, CaseTrees, ClassTree}
+use Rattle.pp_tree.specs.Plain.{PostTree, DeclTree, ctor, def, UnitTree}
 use Rattle.pp_tree.specs.Shown.{case_before}
 use Rattle.pp_grammar.specs.Words.{level, loosest, tightest}
-use Rattle.pp_grammar.specs.Frames.{Head, Placed, Contracts, CaseText, Frame, prefixing, left, if_rest, after_val, after_assert, guarding, claiming_hole, Parsed}
+use Rattle.pp_grammar.specs.Frames.{Head, Placed, Contracts, CaseText, Frame, prefixing, left, if_rest, after_val}
+use Rattle.pp_grammar.specs.Frames.{after_assert, guarding, claiming_hole, Parsed}
 
 -- ---- lists, the last first, before others
 

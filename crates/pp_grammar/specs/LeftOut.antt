@@ -4,7 +4,9 @@ use Rattle.pp_tokens.specs.declared.token.Token.{Token}
 use Rattle.pp_tokens.specs.declared.token.TokenKind.{TokenKind}
 use Rattle.pp_tokens.specs.declared.token.TokenKind.TheVariants.{Name, Word as Reserve, Op}
 use Rattle.pp_tokens.specs.declared.token.Reserved.{Reserved}
-use Rattle.pp_tokens.specs.declared.token.Reserved.TheVariants.{Abstract, Case, Class, Def, Else, Extends, False, Final, If, Import, Match, Object, Package, Sealed, Trait, True, Val}
+use Rattle.pp_tokens.specs.declared.token.Reserved.TheVariants.{Abstract, Case, Class, Def, Else, Extends, False, Final}
+use Rattle.pp_tokens.specs.declared.token.Reserved.TheVariants.{If, Import, Match, Object, Package, Sealed, Trait, True}
+use Rattle.pp_tokens.specs.declared.token.Reserved.TheVariants.{Val}
 use Rattle.pp_tokens.specs.declared.token.Operator.TheVariants.{At}
 use Rattle.pp_tree.specs.Plain.{Word}
 use Rattle.pp_grammar.specs.Words.{word, role, require_word, decreases_word, is_library, is_known_annotation}

@@ -5,7 +5,8 @@ use Rattle.pp_tokens.specs.declared.token.TokenKind.TheVariants.{Name, Word as R
 use Rattle.pp_tokens.specs.declared.token.Reserved.TheVariants.{True, False}
 use Rattle.pp_tokens.specs.declared.token.Operator.TheVariants.{Minus, At}
 use Rattle.pp_tokens.specs.declared.token.Bracket.TheVariants.{OpenRound, CloseRound, Comma}
-use Rattle.pp_tree.specs.Plain.{Word, PatternTree, any, int_pattern, bool_pattern, ctor_pattern, PatternTrees, no_patterns, more_patterns}
+use Rattle.pp_tree.specs.Plain.{Word, PatternTree, any, int_pattern, bool_pattern, ctor_pattern, PatternTrees}
+use Rattle.pp_tree.specs.Plain.{no_patterns, more_patterns}
 use Rattle.pp_grammar.specs.Words.{word, binds, is_sign, number_of, negative_of, negated_of}
 
 -- the pattern under the name w, which stands at the offset; a pattern has room for one name

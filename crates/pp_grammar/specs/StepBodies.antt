@@ -6,15 +6,29 @@ use Rattle.pp_tokens.specs.declared.token.TokenKind.{TokenKind}
 use Rattle.pp_tokens.specs.declared.token.TokenKind.TheVariants.{Name, Word as Reserve, Op, Mark, Newline}
 use Rattle.pp_tokens.specs.declared.token.Reserved.TheVariants.{Case, Extends, Match, Val}
 use Rattle.pp_tokens.specs.declared.token.Operator.TheVariants.{Assign, Arrow, Colon}
-use Rattle.pp_tokens.specs.declared.token.Bracket.TheVariants.{OpenRound, CloseRound, OpenSquare, CloseSquare, OpenBrace, CloseBrace, Comma, Dot, Semicolon}
+use Rattle.pp_tokens.specs.declared.token.Bracket.TheVariants.{OpenRound, CloseRound, OpenSquare, CloseSquare}
+use Rattle.pp_tokens.specs.declared.token.Bracket.TheVariants.{OpenBrace, CloseBrace, Comma, Dot, Semicolon}
 use Rattle.pp_tree.specs.declared.operator.BinaryOp.{BinaryOp}
 use Rattle.pp_tree.specs.Plain.{Word, TypeTree, Tree, name, PostTree}
-use Rattle.pp_grammar.specs.Words.{word, Role, plain, require_word, decreases_word, ensuring_word, holds_word, assert_word, int_word, role, binary_of}
+use Rattle.pp_grammar.specs.Words.{word, Role, plain, require_word, decreases_word, ensuring_word, holds_word}
+use Rattle.pp_grammar.specs.Words.{assert_word, int_word, role, binary_of}
 use Rattle.pp_grammar.specs.Units.{class_decl}
-use Rattle.pp_grammar.specs.Frames.{syntax_at, unsupported_at, Head, Kind, of_class, of_def, Contracts, Placed, in_parentheses, in_braces, Frame, header, param_type, result_type, parent_type, object_parent, body_of, head_braces, requiring, measuring, tuple_or_round, post_of, claiming, claiming_hole, result_name_type, result_name_type_in_round, round, val_type, val_value, asserting, want, want_type, want_stat, after_val_word, after_val_name, after_assert_word, after_require, after_decreases, measure_open, after_last, after_contracted_dot, want_lambda_or_semi, want_lambda, after_lambda_name, after_lambda_round, after_lambda_round_name, after_lambda_closed, after_claim, after_head_name, want_type_param, after_type_param, after_type_params, params_open, after_param_name, after_params, after_object_name, Move, go, stop, ends}
-use Rattle.pp_grammar.specs.Joining.{no_contracts, with_word, has_measure, head_at, with_type_param, with_list, class_tree, def_tree}
+use Rattle.pp_grammar.specs.Frames.{syntax_at, unsupported_at, Head, Kind, of_class, of_def, Contracts, Placed}
+use Rattle.pp_grammar.specs.Frames.{in_parentheses, in_braces, Frame, header, param_type, result_type, parent_type}
+use Rattle.pp_grammar.specs.Frames.{object_parent, body_of, head_braces, requiring, measuring, tuple_or_round, post_of}
+use Rattle.pp_grammar.specs.Frames.{claiming, claiming_hole, result_name_type, result_name_type_in_round, round}
+use Rattle.pp_grammar.specs.Frames.{val_type, val_value, asserting, want, want_type, want_stat, after_val_word}
+use Rattle.pp_grammar.specs.Frames.{after_val_name, after_assert_word, after_require, after_decreases, measure_open}
+use Rattle.pp_grammar.specs.Frames.{after_last, after_contracted_dot, want_lambda_or_semi, want_lambda}
+use Rattle.pp_grammar.specs.Frames.{after_lambda_name, after_lambda_round, after_lambda_round_name, after_lambda_closed}
+use Rattle.pp_grammar.specs.Frames.{after_claim, after_head_name, want_type_param, after_type_param, after_type_params}
+use Rattle.pp_grammar.specs.Frames.{params_open, after_param_name, after_params, after_object_name, Move, go, stop}
+use Rattle.pp_grammar.specs.Frames.{ends}
+use Rattle.pp_grammar.specs.Joining.{no_contracts, with_word, has_measure, head_at, with_type_param, with_list}
+use Rattle.pp_grammar.specs.Joining.{class_tree, def_tree}
 use Rattle.pp_grammar.specs.StepTypes.{refuse}
-use Rattle.pp_grammar.specs.StepExprs.{on_want, on_have, on_name, on_int, on_operand_name, on_post_word, on_sealed_brace, on_sealed_case, on_claim_brace, on_measured}
+use Rattle.pp_grammar.specs.StepExprs.{on_want, on_have, on_name, on_int, on_operand_name, on_post_word}
+use Rattle.pp_grammar.specs.StepExprs.{on_sealed_brace, on_sealed_case, on_claim_brace, on_measured}
 use Rattle.pp_grammar.specs.Joining.{seal}
 
 module _ (text : Word) (t : Token) where

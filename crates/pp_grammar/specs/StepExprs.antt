@@ -2,17 +2,30 @@
 use Rattle.std.specs.Prelude.{ℕ, ℤ, Bool, true, false, cond, nat_le, List, [], ◌∷◌, Option, Some, None}
 use Rattle.pp_tokens.specs.declared.token.Token.{Token}
 use Rattle.pp_tokens.specs.declared.token.TokenKind.{TokenKind}
-use Rattle.pp_tokens.specs.declared.token.TokenKind.TheVariants.{Name, Word as Reserve, Number, Hex, Op, Mark, Hole, Newline}
+use Rattle.pp_tokens.specs.declared.token.TokenKind.TheVariants.{Name, Word as Reserve, Number, Hex, Op, Mark, Hole}
+use Rattle.pp_tokens.specs.declared.token.TokenKind.TheVariants.{Newline}
 use Rattle.pp_tokens.specs.declared.token.Reserved.TheVariants.{Case, Else, False, If, Match, True}
 use Rattle.pp_tokens.specs.declared.token.Operator.TheVariants.{Minus, Not, Flip, Arrow}
-use Rattle.pp_tokens.specs.declared.token.Bracket.TheVariants.{OpenRound, CloseRound, OpenSquare, OpenBrace, CloseBrace, Comma, Dot, Semicolon}
+use Rattle.pp_tokens.specs.declared.token.Bracket.TheVariants.{OpenRound, CloseRound, OpenSquare, OpenBrace, CloseBrace}
+use Rattle.pp_tokens.specs.declared.token.Bracket.TheVariants.{Comma, Dot, Semicolon}
 use Rattle.pp_tree.specs.declared.operator.BinaryOp.{BinaryOp}
 use Rattle.pp_tree.specs.declared.operator.UnaryOp.TheVariants as unary_op
-use Rattle.pp_tree.specs.Plain.{Word, TypeTree, TypeTrees, no_types, Tree, int, bool, name, apply, field, matching, no_trees, no_cases}
-use Rattle.pp_grammar.specs.Words.{word, res, Role, plain, ensuring_word, holds_word, int_word, role, bound_of, binary_of, level, loosest, tightest, number_of, negative_of, is_signed}
+use Rattle.pp_tree.specs.Plain.{Word, TypeTree, TypeTrees, no_types, Tree, int, bool, name, apply, field, matching}
+use Rattle.pp_tree.specs.Plain.{no_trees, no_cases}
+use Rattle.pp_grammar.specs.Words.{word, res, Role, plain, ensuring_word, holds_word, int_word, role, bound_of}
+use Rattle.pp_grammar.specs.Words.{binary_of, level, loosest, tightest, number_of, negative_of, is_signed}
 use Rattle.pp_grammar.specs.Bodies.{holding_at}
-use Rattle.pp_grammar.specs.Frames.{syntax_at, Contracts, Placed, CaseText, in_parentheses, in_braces, Frame, body_of, head_braces, requiring, measuring, tuple_or_round, in_tuple, post_of, claiming, claiming_hole, round, name_types, args, prefixing, left, if_test, if_then, if_rest, cases_of, guarding, arm, braces, val_value, after_val, asserting, after_assert, want, have, after_name, args_open, after_int, after_int_dot, after_minus, have_negative, after_negative_dot, after_dot, after_if, want_then, want_else, after_match, want_case, have_matched, after_matched_dot, want_pattern, want_type, want_stat, after_stat, after_last, after_tuple, have_contracted, after_ensuring, after_claim, after_body, Move, go, stop, ends}
-use Rattle.pp_grammar.specs.Joining.{trees_onto, cases_onto, floor, takes_hole, Operand, unwind, Sealed, seal, with_requirement, with_measure, def_tree}
+use Rattle.pp_grammar.specs.Frames.{syntax_at, Contracts, Placed, CaseText, in_parentheses, in_braces, Frame, body_of}
+use Rattle.pp_grammar.specs.Frames.{head_braces, requiring, measuring, tuple_or_round, in_tuple, post_of, claiming}
+use Rattle.pp_grammar.specs.Frames.{claiming_hole, round, name_types, args, prefixing, left, if_test, if_then, if_rest}
+use Rattle.pp_grammar.specs.Frames.{cases_of, guarding, arm, braces, val_value, after_val, asserting, after_assert}
+use Rattle.pp_grammar.specs.Frames.{want, have, after_name, args_open, after_int, after_int_dot, after_minus}
+use Rattle.pp_grammar.specs.Frames.{have_negative, after_negative_dot, after_dot, after_if, want_then, want_else}
+use Rattle.pp_grammar.specs.Frames.{after_match, want_case, have_matched, after_matched_dot, want_pattern, want_type}
+use Rattle.pp_grammar.specs.Frames.{want_stat, after_stat, after_last, after_tuple, have_contracted, after_ensuring}
+use Rattle.pp_grammar.specs.Frames.{after_claim, after_body, Move, go, stop, ends}
+use Rattle.pp_grammar.specs.Joining.{trees_onto, cases_onto, floor, takes_hole, Operand, unwind, Sealed, seal}
+use Rattle.pp_grammar.specs.Joining.{with_requirement, with_measure, def_tree}
 use Rattle.pp_grammar.specs.StepTypes.{refuse}
 
 module _ (text : Word) (t : Token) where

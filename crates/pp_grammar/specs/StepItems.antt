@@ -10,7 +10,12 @@ use Rattle.pp_tokens.specs.declared.token.Bracket.TheVariants.{OpenBrace, CloseB
 use Rattle.pp_tree.specs.Plain.{Word}
 use Rattle.pp_grammar.specs.Words.{word, is_library, is_known_annotation, is_trait_word}
 use Rattle.pp_grammar.specs.Units.{Modifiers, unmodified, modified}
-use Rattle.pp_grammar.specs.Frames.{unsupported_at, of_class, of_def, Placed, want_name, want_object_name, at_start, at_item, after_item, after_package, after_package_name, after_import, after_path_name, after_path_dot, want_chosen, after_chosen, after_object, after_object_title, after_object_line, after_at, after_annotation, after_annotation_line, after_case, after_modifiers, Parsed, State, between, within, failed, done}
+use Rattle.pp_grammar.specs.Frames.{unsupported_at, of_class, of_def, Placed, want_name, want_object_name, at_start}
+use Rattle.pp_grammar.specs.Frames.{at_item, after_item, after_package, after_package_name, after_import}
+use Rattle.pp_grammar.specs.Frames.{after_path_name, after_path_dot, want_chosen, after_chosen, after_object}
+use Rattle.pp_grammar.specs.Frames.{after_object_title, after_object_line, after_at, after_annotation}
+use Rattle.pp_grammar.specs.Frames.{after_annotation_line, after_case, after_modifiers, Parsed, State, between, within}
+use Rattle.pp_grammar.specs.Frames.{failed, done}
 use Rattle.pp_grammar.specs.Joining.{with_import, with_object, unit_of}
 use Rattle.pp_grammar.specs.StepTypes.{fault_at}
 

@@ -7,12 +7,21 @@ use Rattle.pp_tokens.specs.declared.token.TokenKind.TheVariants.{Name, Word as R
 use Rattle.pp_tokens.specs.declared.token.Reserved.TheVariants.{False, If, True}
 use Rattle.pp_tokens.specs.declared.token.Operator.TheVariants.{Minus, Assign, Arrow, At}
 use Rattle.pp_tokens.specs.declared.token.Bracket.TheVariants.{OpenRound, CloseRound, OpenSquare, CloseSquare, Comma}
-use Rattle.pp_tree.specs.Plain.{Word, TypeTree, type_text, no_types, PatternTree, any, int_pattern, bool_pattern, ctor_pattern, no_patterns}
-use Rattle.pp_grammar.specs.Words.{word, Role, require_word, decreases_word, role, binds, number_of, negated_of, negative_of, is_signed}
+use Rattle.pp_tree.specs.Plain.{Word, TypeTree, type_text, no_types, PatternTree, any, int_pattern, bool_pattern}
+use Rattle.pp_tree.specs.Plain.{ctor_pattern, no_patterns}
+use Rattle.pp_grammar.specs.Words.{word, Role, require_word, decreases_word, role, binds, number_of, negated_of}
+use Rattle.pp_grammar.specs.Words.{negative_of, is_signed}
 use Rattle.pp_grammar.specs.Patterns.{named_at}
 use Rattle.pp_grammar.specs.Units.{class_decl}
-use Rattle.pp_grammar.specs.Frames.{Fault, syntax_at, unsupported_at, of_class, of_def, Frame, header, param_type, result_type, parent_type, object_parent, body_of, claiming, result_name_type, result_name_type_in_round, type_args, naming, pattern_round, pattern_args, name_types, cases_of, guarding, arm, val_type, val_value, want, after_name_types, want_pattern, after_pattern_name, after_pattern_minus, pattern_args_open, have_pattern, want_type, after_type_name, have_type, want_stat, want_body, after_lambda_typed, want_param, after_params, Move, go, stop, ends}
-use Rattle.pp_grammar.specs.Joining.{types_onto, patterns_onto, no_contracts, with_param, with_list, class_tree, object_tree}
+use Rattle.pp_grammar.specs.Frames.{Fault, syntax_at, unsupported_at, of_class, of_def, Frame, header, param_type}
+use Rattle.pp_grammar.specs.Frames.{result_type, parent_type, object_parent, body_of, claiming, result_name_type}
+use Rattle.pp_grammar.specs.Frames.{result_name_type_in_round, type_args, naming, pattern_round, pattern_args}
+use Rattle.pp_grammar.specs.Frames.{name_types, cases_of, guarding, arm, val_type, val_value, want, after_name_types}
+use Rattle.pp_grammar.specs.Frames.{want_pattern, after_pattern_name, after_pattern_minus, pattern_args_open}
+use Rattle.pp_grammar.specs.Frames.{have_pattern, want_type, after_type_name, have_type, want_stat, want_body}
+use Rattle.pp_grammar.specs.Frames.{after_lambda_typed, want_param, after_params, Move, go, stop, ends}
+use Rattle.pp_grammar.specs.Joining.{types_onto, patterns_onto, no_contracts, with_param, with_list, class_tree}
+use Rattle.pp_grammar.specs.Joining.{object_tree}
 
 -- the offset of a pattern
 abbrev pub pattern_place : PatternTree → ℕ

@@ -4,10 +4,13 @@ use Rattle.std.specs.Prelude.{ℕ, zero, suc, ◌≡◌, Bool, true, false, List
 use Rattle.pp_tokens.specs.declared.token.Token.{Token}
 use Rattle.pp_tokens.specs.declared.token.TokenKind.{TokenKind}
 use Rattle.pp_tokens.specs.declared.token.TokenKind.TheVariants.{Name, Word as Reserve, Op, Mark, Hole, End}
-use Rattle.pp_tokens.specs.declared.token.Reserved.TheVariants.{Abstract, Case, Def, Extends, Final, Import, Object, Package, Sealed}
+use Rattle.pp_tokens.specs.declared.token.Reserved.TheVariants.{Abstract, Case, Def, Extends, Final, Import, Object}
+use Rattle.pp_tokens.specs.declared.token.Reserved.TheVariants.{Package, Sealed}
 use Rattle.pp_tokens.specs.declared.token.Operator.TheVariants.{Assign, Colon, At}
-use Rattle.pp_tokens.specs.declared.token.Bracket.TheVariants.{OpenRound, CloseRound, OpenSquare, CloseSquare, OpenBrace, CloseBrace, Comma, Dot}
-use Rattle.pp_tree.specs.Plain.{Word, TypeTree, Tree, ParamTree, ClassTree, PostTree, DeclTree, root, ctor, other, def, ImportTree, UnitTree}
+use Rattle.pp_tokens.specs.declared.token.Bracket.TheVariants.{OpenRound, CloseRound, OpenSquare, CloseSquare}
+use Rattle.pp_tokens.specs.declared.token.Bracket.TheVariants.{OpenBrace, CloseBrace, Comma, Dot}
+use Rattle.pp_tree.specs.Plain.{Word, TypeTree, Tree, ParamTree, ClassTree, PostTree, DeclTree, root, ctor, other, def}
+use Rattle.pp_tree.specs.Plain.{ImportTree, UnitTree}
 use Rattle.pp_grammar.specs.Words.{word, is_library, is_known_annotation, is_trait_word, begins_dot}
 use Rattle.pp_grammar.specs.Types.{IsGap, IsSemis, IsBreak, IsType}
 use Rattle.pp_grammar.specs.Bodies.{IsBody}

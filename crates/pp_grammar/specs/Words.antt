@@ -1,13 +1,16 @@
 -- What single tokens mean: the names with a meaning of their own, the operators with their levels, the numbers.
 -- Source: Stainless documentation, for the words; Scala Language Specification 2.13, 6.12.3, for the levels; else own.
-use Rattle.std.specs.Prelude.{ℕ, Bool, true, false, cond, ◌&&◌, ◌||◌, ◌==◌, nat_le, nat_lt, List, [], ◌∷◌, Option, Some, None, ℤ, neg_ℤ, slice_range, bytes_eq, codes}
+use Rattle.std.specs.Prelude.{ℕ, Bool, true, false, cond, ◌&&◌, ◌||◌, ◌==◌, nat_le, nat_lt, List, [], ◌∷◌, Option, Some}
+use Rattle.std.specs.Prelude.{None, ℤ, neg_ℤ, slice_range, bytes_eq, codes}
 use Rattle.std.specs.Int.{w32, cast_signed, int_wrap}
 use Rattle.pp_tokens.specs.declared.token.Token.{Token}
 use Rattle.pp_tokens.specs.declared.token.TokenKind.{TokenKind}
 use Rattle.pp_tokens.specs.declared.token.TokenKind.TheVariants.{Word as Reserve, Number, Hex, Op, Mark, Newline}
 use Rattle.pp_tokens.specs.declared.token.Reserved.TheVariants.{Class, Trait}
 use Rattle.pp_tokens.specs.declared.token.Operator.{Operator}
-use Rattle.pp_tokens.specs.declared.token.Operator.TheVariants.{Plus, Minus, Times, Over, Percent, Equal, Differs, Less, AtMost, More, AtLeast, AndAlso, OrElse, Not, And, Or, Xor, Flip, Shl, Shr, Ushr}
+use Rattle.pp_tokens.specs.declared.token.Operator.TheVariants.{Plus, Minus, Times, Over, Percent, Equal, Differs, Less}
+use Rattle.pp_tokens.specs.declared.token.Operator.TheVariants.{AtMost, More, AtLeast, AndAlso, OrElse, Not, And, Or}
+use Rattle.pp_tokens.specs.declared.token.Operator.TheVariants.{Xor, Flip, Shl, Shr, Ushr}
 use Rattle.pp_tokens.specs.declared.token.Bracket.TheVariants.{Semicolon, Dot}
 use Rattle.pp_tree.specs.declared.operator.BinaryOp.{BinaryOp}
 use Rattle.pp_tree.specs.declared.operator.BinaryOp.TheVariants as binary

@@ -1,14 +1,23 @@
 -- The automaton reads each unit that is spelled.
 use Rattle.pp_grammar.specs.Automaton.{run, start}
-use Rattle.pp_grammar.specs.Frames.{ItemMode, Parsed, State, after_item, after_object, after_object_line, after_object_title, after_package, after_package_name, at_item, at_start, between, done}
+use Rattle.pp_grammar.specs.Frames.{ItemMode, Parsed, State, after_item, after_object, after_object_line}
+use Rattle.pp_grammar.specs.Frames.{after_object_title, after_package, after_package_name, at_item, at_start, between}
+use Rattle.pp_grammar.specs.Frames.{done}
 use Rattle.pp_grammar.specs.Joining.{nothing_parsed, unit_of, with_decl, with_object}
 use Rattle.pp_grammar.specs.StepItems.{on_declaration, on_item, on_package_name, on_start}
 use Rattle.pp_grammar.specs.Types.{IsBreak, IsGap, IsSemis, no_newline, no_semi, one_newline, one_semi, semis}
-use Rattle.pp_grammar.specs.Units.{IsDef, IsImportText, IsItem, IsItems, IsMember, IsMembers, IsMoreItems, IsMoreMembers, IsObject, IsPackages, IsPath, Piece, SpellsUnit, case_object, class_of, def_of, import_all, import_path, import_some, item_class, item_import, item_object, items, last_of_path, library, member_class, member_def, member_import, members, more_of_path, no_items, no_members, no_more_items, no_more_members, no_package, object_of, of_object, one_more_item, one_more_member, one_package, unit}
+use Rattle.pp_grammar.specs.Units.{IsDef, IsImportText, IsItem, IsItems, IsMember, IsMembers, IsMoreItems}
+use Rattle.pp_grammar.specs.Units.{IsMoreMembers, IsObject, IsPackages, IsPath, Piece, SpellsUnit, case_object}
+use Rattle.pp_grammar.specs.Units.{class_of, def_of, import_all, import_path, import_some, item_class, item_import}
+use Rattle.pp_grammar.specs.Units.{item_object, items, last_of_path, library, member_class, member_def, member_import}
+use Rattle.pp_grammar.specs.Units.{members, more_of_path, no_items, no_members, no_more_items, no_more_members}
+use Rattle.pp_grammar.specs.Units.{no_package, object_of, of_object, one_more_item, one_more_member, one_package, unit}
 use Rattle.pp_grammar.specs.Words.{is_semi, word}
 use Rattle.pp_grammar_complete.proofs.ReachBodies.{MemberEnds, ends_member}
 use Rattle.pp_grammar_complete.proofs.ReachHeads.{ItemEnds, def_read, ends_item}
-use Rattle.pp_grammar_complete.proofs.ReachItems.{Declaring, annotations_declare, annotations_read, declares_kind, item_declares, item_gap, item_semis, item_step, modified_declares, reaches_class, reaches_import, trait_declares}
+use Rattle.pp_grammar_complete.proofs.ReachItems.{Declaring, annotations_declare, annotations_read, declares_kind}
+use Rattle.pp_grammar_complete.proofs.ReachItems.{item_declares, item_gap, item_semis, item_step, modified_declares}
+use Rattle.pp_grammar_complete.proofs.ReachItems.{reaches_class, reaches_import, trait_declares}
 use Rattle.pp_grammar_sound.proofs.UnitFronts.{added, added_append, unit_added}
 use Rattle.pp_tokens.specs.declared.token.Bracket.TheVariants.{CloseBrace, OpenBrace, Semicolon}
 use Rattle.pp_tokens.specs.declared.token.Reserved.TheVariants.{Import, Object, Package}

@@ -1,31 +1,50 @@
 -- What is to be shown of each part of an expression, and one lemma for each alternative of the grammar.
 use Rattle.pp_grammar.specs.Automaton.{on_mode}
 use Rattle.pp_grammar.specs.Exprs.{IsFields, IsGuard, IsSemicolon, guard, no_guard, no_semicolon, semicolon}
-use Rattle.pp_grammar.specs.Frames.{CaseText, Frame, Mode, Parsed, after_assert, after_assert_word, after_if, after_int, after_int_dot, after_match, after_name, after_name_types, after_val, after_val_word, args, args_open, arm, asserting, braces, cases_of, go, guarding, have, have_matched, have_pattern, if_rest, if_test, if_then, left, prefixing, round, val_value, want, want_case, want_else, want_pattern, want_stat}
+use Rattle.pp_grammar.specs.Frames.{CaseText, Frame, Mode, Parsed, after_assert, after_assert_word, after_if, after_int}
+use Rattle.pp_grammar.specs.Frames.{after_int_dot, after_match, after_name, after_name_types, after_val, after_val_word}
+use Rattle.pp_grammar.specs.Frames.{args, args_open, arm, asserting, braces, cases_of, go, guarding, have, have_matched}
+use Rattle.pp_grammar.specs.Frames.{have_pattern, if_rest, if_test, if_then, left, prefixing, round, val_value, want}
+use Rattle.pp_grammar.specs.Frames.{want_case, want_else, want_pattern, want_stat}
 use Rattle.pp_grammar.specs.Joining.{Operand, above, cases_onto, floor, trees_onto, unwind}
 use Rattle.pp_grammar.specs.Patterns.{IsPattern}
 use Rattle.pp_grammar.specs.StepExprs.{on_bound, on_guard, on_match, on_operand, on_operator}
 use Rattle.pp_grammar.specs.StepTypes.{refuse}
 use Rattle.pp_grammar.specs.Types.{IsAscription, IsBreaks, IsGap, IsSemis, IsTypes}
-use Rattle.pp_grammar.specs.Words.{assert_word, binary_of, bound_of, int_word, is_sign, level, loosest, negative_of, number_of, plain, role, tightest, unary_of, word}
-use Rattle.pp_grammar_complete.proofs.ExprSteps.{EndRest, Ended, IsCaseHead, Reached, RestEnds, behind_first, case_ends_rest, end_rest_step, ended_step, ends_rest, fields_end, have_next, is_stat, le_true, matched_ended, name_have, name_step, negative_next, next_ended, number_step, operator_follows_by, operator_next, prefix_step, reaches_fields, reaches_negative_fields, rest_closes, signed_step, stat_floor, stat_stays, types_have, unwind_stays}
+use Rattle.pp_grammar.specs.Words.{assert_word, binary_of, bound_of, int_word, is_sign, level, loosest, negative_of}
+use Rattle.pp_grammar.specs.Words.{number_of, plain, role, tightest, unary_of, word}
+use Rattle.pp_grammar_complete.proofs.ExprSteps.{EndRest, Ended, IsCaseHead, Reached, RestEnds, behind_first}
+use Rattle.pp_grammar_complete.proofs.ExprSteps.{case_ends_rest, end_rest_step, ended_step, ends_rest, fields_end}
+use Rattle.pp_grammar_complete.proofs.ExprSteps.{have_next, is_stat, le_true, matched_ended, name_have, name_step}
+use Rattle.pp_grammar_complete.proofs.ExprSteps.{negative_next, next_ended, number_step, operator_follows_by}
+use Rattle.pp_grammar_complete.proofs.ExprSteps.{operator_next, prefix_step, reaches_fields, reaches_negative_fields}
+use Rattle.pp_grammar_complete.proofs.ExprSteps.{rest_closes, signed_step, stat_floor, stat_stays, types_have}
+use Rattle.pp_grammar_complete.proofs.ExprSteps.{unwind_stays}
 use Rattle.pp_grammar_complete.proofs.ReachPatterns.{reaches_pattern}
 use Rattle.pp_grammar_complete.proofs.ReachTypes.{reaches_name_types}
 use Rattle.pp_grammar_complete.proofs.Starts.{Starts, begins_args, begins_stat, begins_then}
-use Rattle.pp_grammar_complete.proofs.StatSteps.{assert_sealed, ends_stats, match_closed, match_if, next_case, reaches_ascription, reaches_breaks, skips_gap, stat_ended, stat_role_step, val_ended, val_sealed}
-use Rattle.pp_grammar_complete.proofs.Steps.{Closes, Ends, Follows, Go, Run, closes, closes_follows, follows_ends, gap_closes, go_on, goes_on, goes_on_operand, semicolon_closes, semis_close, take_step}
+use Rattle.pp_grammar_complete.proofs.StatSteps.{assert_sealed, ends_stats, match_closed, match_if, next_case}
+use Rattle.pp_grammar_complete.proofs.StatSteps.{reaches_ascription, reaches_breaks, skips_gap, stat_ended}
+use Rattle.pp_grammar_complete.proofs.StatSteps.{stat_role_step, val_ended, val_sealed}
+use Rattle.pp_grammar_complete.proofs.Steps.{Closes, Ends, Follows, Go, Run, closes, closes_follows, follows_ends}
+use Rattle.pp_grammar_complete.proofs.Steps.{gap_closes, go_on, goes_on, goes_on_operand, semicolon_closes, semis_close}
+use Rattle.pp_grammar_complete.proofs.Steps.{take_step}
 use Rattle.pp_grammar_sound.proofs.Unwound.{level_in}
-use Rattle.pp_tokens.specs.declared.token.Bracket.TheVariants.{CloseBrace, CloseRound, Comma, Dot, OpenBrace, OpenRound, OpenSquare}
+use Rattle.pp_tokens.specs.declared.token.Bracket.TheVariants.{CloseBrace, CloseRound, Comma, Dot, OpenBrace, OpenRound}
+use Rattle.pp_tokens.specs.declared.token.Bracket.TheVariants.{OpenSquare}
 use Rattle.pp_tokens.specs.declared.token.Operator.{Operator}
 use Rattle.pp_tokens.specs.declared.token.Operator.TheVariants.{Arrow, Assign, Minus}
 use Rattle.pp_tokens.specs.declared.token.Reserved.TheVariants.{Else, If, Match, Val}
 use Rattle.pp_tokens.specs.declared.token.Token.{Token}
 use Rattle.pp_tokens.specs.declared.token.TokenKind.TheVariants.{Mark, Name, Op, Word as Reserve}
-use Rattle.pp_tree.specs.Plain.{CaseTrees, PatternTree, Tree, Trees, TypeTree, TypeTrees, Word, apply, assert_in, binary, choice, int, matching, more_trees, name, no_cases, no_trees, no_types, unary, val_in}
+use Rattle.pp_tree.specs.Plain.{CaseTrees, PatternTree, Tree, Trees, TypeTree, TypeTrees, Word, apply, assert_in}
+use Rattle.pp_tree.specs.Plain.{binary, choice, int, matching, more_trees, name, no_cases, no_trees, no_types, unary}
+use Rattle.pp_tree.specs.Plain.{val_in}
 use Rattle.pp_tree.specs.Shown.{case_before}
 use Rattle.pp_tree.specs.declared.operator.BinaryOp.{BinaryOp}
 use Rattle.pp_tree.specs.declared.operator.UnaryOp.{UnaryOp}
-use Rattle.std.proofs.Common.{Bool, List, None, Option, Some, [], ap, arith, cond, false, refl, subst, suc, sym, true, ℕ, ℤ, ◌∙◌, ◌∷◌, ◌≡◌, ◌≤◌}
+use Rattle.std.proofs.Common.{Bool, List, None, Option, Some, [], ap, arith, cond, false, refl, subst, suc, sym, true}
+use Rattle.std.proofs.Common.{ℕ, ℤ, ◌∙◌, ◌∷◌, ◌≡◌, ◌≤◌}
 
 module _ (text : Word) (d : Parsed) (b : Bool) where
   -- ---- what is to be shown of each part

@@ -2,15 +2,22 @@
 use Rattle.pp_tree.specs.declared.operator.UnaryOp.TheVariants as unary_op
 use Rattle.std.specs.Prelude.{nat_le}
 use Rattle.pp_grammar.specs.Exprs.{IsFields, no_field, one_field}
-use Rattle.pp_grammar.specs.Frames.{Frame, Parsed, State, after_assert, after_dot, after_minus, after_name, after_name_types, after_negative_dot, after_val, arm, braces, go, have, have_matched, have_negative, head_braces, if_rest, left, prefixing, want}
+use Rattle.pp_grammar.specs.Frames.{Frame, Parsed, State, after_assert, after_dot, after_minus, after_name}
+use Rattle.pp_grammar.specs.Frames.{after_name_types, after_negative_dot, after_val, arm, braces, go, have}
+use Rattle.pp_grammar.specs.Frames.{have_matched, have_negative, head_braces, if_rest, left, prefixing, want}
 use Rattle.pp_grammar.specs.Joining.{Operand, above, floor, unwind}
-use Rattle.pp_grammar.specs.StepExprs.{on_binary, on_dot_name, on_expr_end, on_have, on_have_matched, on_have_negative, on_name, on_name_types, on_negative, on_negative_field, on_number, on_operand, on_operand_name, on_operator, on_unwound, on_want}
+use Rattle.pp_grammar.specs.StepExprs.{on_binary, on_dot_name, on_expr_end, on_have, on_have_matched, on_have_negative}
+use Rattle.pp_grammar.specs.StepExprs.{on_name, on_name_types, on_negative, on_negative_field, on_number, on_operand}
+use Rattle.pp_grammar.specs.StepExprs.{on_operand_name, on_operator, on_unwound, on_want}
 use Rattle.pp_grammar.specs.StepTypes.{refuse}
-use Rattle.pp_grammar.specs.Words.{Role, binary_of, is_minus, is_sign, is_signed, level, negative_of, number_of, plain, role, tightest, unary_of, word}
+use Rattle.pp_grammar.specs.Words.{Role, binary_of, is_minus, is_sign, is_signed, level, negative_of, number_of, plain}
+use Rattle.pp_grammar.specs.Words.{role, tightest, unary_of, word}
 use Rattle.pp_grammar_complete.proofs.Starts.{Starts}
-use Rattle.pp_grammar_complete.proofs.Steps.{Closes, Ends, Follows, Go, Run, closes, go_on, goes_on, goes_on_operand, take_step}
+use Rattle.pp_grammar_complete.proofs.Steps.{Closes, Ends, Follows, Go, Run, closes, go_on, goes_on, goes_on_operand}
+use Rattle.pp_grammar_complete.proofs.Steps.{take_step}
 use Rattle.pp_grammar_sound.proofs.Unwound.{le_cases}
-use Rattle.pp_tokens.specs.declared.token.Bracket.TheVariants.{CloseBrace, CloseRound, Comma, Dot, OpenRound, OpenSquare, Semicolon}
+use Rattle.pp_tokens.specs.declared.token.Bracket.TheVariants.{CloseBrace, CloseRound, Comma, Dot, OpenRound}
+use Rattle.pp_tokens.specs.declared.token.Bracket.TheVariants.{OpenSquare, Semicolon}
 use Rattle.pp_tokens.specs.declared.token.Operator.{Operator}
 use Rattle.pp_tokens.specs.declared.token.Operator.TheVariants.{Arrow, At, Flip, Minus, Not}
 use Rattle.pp_tokens.specs.declared.token.Reserved.TheVariants.{Case, Else}
@@ -20,7 +27,8 @@ use Rattle.pp_tokens.specs.declared.token.TokenKind.TheVariants.{Hex, Mark, Name
 use Rattle.pp_tree.specs.Plain.{Tree, TypeTrees, Word, apply, field, int, name, no_trees}
 use Rattle.pp_tree.specs.declared.operator.BinaryOp.{BinaryOp}
 use Rattle.pp_tree.specs.declared.operator.UnaryOp.{UnaryOp}
-use Rattle.std.proofs.Common.{Bool, List, Some, [], ap, arith, cond, false, inl, inr, refl, sym, true, ℕ, ℤ, ◌&&◌, ◌∙◌, ◌∷◌, ◌≡◌, ◌≤◌}
+use Rattle.std.proofs.Common.{Bool, List, Some, [], ap, arith, cond, false, inl, inr, refl, sym, true, ℕ, ℤ, ◌&&◌, ◌∙◌}
+use Rattle.std.proofs.Common.{◌∷◌, ◌≡◌, ◌≤◌}
 
 pub le_true : (p l : ℕ) → p ≤ l → nat_le p l ≡ true
 le_true p l le = elim (le_cases p l) [ inl h ↦ h.0 | inr h ↦ absurd (omega arith) ]

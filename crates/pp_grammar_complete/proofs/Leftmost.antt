@@ -1,5 +1,6 @@
 -- Modes that only the first token of an expression tells from the mode in which an expression is wanted.
-use Rattle.pp_grammar.specs.Exprs.{IsExpr, IsInfix, IsMatched, IsPrefix, IsPrimary, IsSimple, if_else, infix_expr, looser, match_of, matched, negative, no_prefix, operand, operator, prefixed, simple}
+use Rattle.pp_grammar.specs.Exprs.{IsExpr, IsInfix, IsMatched, IsPrefix, IsPrimary, IsSimple, if_else, infix_expr}
+use Rattle.pp_grammar.specs.Exprs.{looser, match_of, matched, negative, no_prefix, operand, operator, prefixed, simple}
 use Rattle.pp_grammar.specs.Frames.{Frame, Mode, Parsed, want}
 use Rattle.pp_grammar_complete.proofs.Steps.{Run}
 use Rattle.pp_tokens.specs.declared.token.Operator.{Operator}

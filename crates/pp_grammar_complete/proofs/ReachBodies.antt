@@ -1,16 +1,24 @@
 -- The automaton reads each body that is spelled.
 use Rattle.pp_grammar.specs.Automaton.{on_mode, run}
-use Rattle.pp_grammar.specs.Bodies.{IsBody, IsClosed, IsHead, IsPost, block_alone, closed_block, closed_matched, closed_simple, dot_ensuring, dot_holds, ensuring, expr_alone, head_block, head_infix, head_matched, holding_at, holds, post_at}
-use Rattle.pp_grammar.specs.Exprs.{IsExpr, IsInfix, IsMatched, IsPrimary, IsRest, at_types, at_types_on_arguments, block, bound, false_word, in_block, in_round, name_alone, number, on_arguments, true_word}
-use Rattle.pp_grammar.specs.Frames.{Contracts, Frame, Head, Mode, Parsed, State, after_body, after_contracted_dot, after_dot, after_item, after_matched_dot, between, body_of, braces, ends, have, have_contracted, have_matched, head_braces, want, want_body}
+use Rattle.pp_grammar.specs.Bodies.{IsBody, IsClosed, IsHead, IsPost, block_alone, closed_block, closed_matched}
+use Rattle.pp_grammar.specs.Bodies.{closed_simple, dot_ensuring, dot_holds, ensuring, expr_alone, head_block}
+use Rattle.pp_grammar.specs.Bodies.{head_infix, head_matched, holding_at, holds, post_at}
+use Rattle.pp_grammar.specs.Exprs.{IsExpr, IsInfix, IsMatched, IsPrimary, IsRest, at_types, at_types_on_arguments}
+use Rattle.pp_grammar.specs.Exprs.{block, bound, false_word, in_block, in_round, name_alone, number, on_arguments}
+use Rattle.pp_grammar.specs.Exprs.{true_word}
+use Rattle.pp_grammar.specs.Frames.{Contracts, Frame, Head, Mode, Parsed, State, after_body, after_contracted_dot}
+use Rattle.pp_grammar.specs.Frames.{after_dot, after_item, after_matched_dot, between, body_of, braces, ends, have}
+use Rattle.pp_grammar.specs.Frames.{have_contracted, have_matched, head_braces, want, want_body}
 use Rattle.pp_grammar.specs.Joining.{Operand, above, def_tree, no_contracts, onto, with_decl}
 use Rattle.pp_grammar.specs.StepBodies.{on_contracted_name, on_have_contracted, on_want_body}
-use Rattle.pp_grammar.specs.StepExprs.{on_dot_name, on_have, on_operand, on_post_operand, on_post_word, on_unwound, on_want}
+use Rattle.pp_grammar.specs.StepExprs.{on_dot_name, on_have, on_operand, on_post_operand, on_post_word, on_unwound}
+use Rattle.pp_grammar.specs.StepExprs.{on_want}
 use Rattle.pp_grammar.specs.Words.{Role, ensuring_word, holds_word, loosest, number_of, plain, role, word}
 use Rattle.pp_grammar_complete.proofs.ExprSteps.{Ended, end_rest_step, ends_rest}
 use Rattle.pp_grammar_complete.proofs.Leftmost.{BeginsSame, Same, same_closed, same_expr, same_infix, same_matched}
 use Rattle.pp_grammar_complete.proofs.ReachContracts.{BlockRead, block_contracts, block_plain, reaches_block}
-use Rattle.pp_grammar_complete.proofs.ReachExprs.{reaches_expr, reaches_infix, reaches_matched, reaches_rest, reaches_simple}
+use Rattle.pp_grammar_complete.proofs.ReachExprs.{reaches_expr, reaches_infix, reaches_matched, reaches_rest}
+use Rattle.pp_grammar_complete.proofs.ReachExprs.{reaches_simple}
 use Rattle.pp_grammar_complete.proofs.ReachPosts.{reaches_post}
 use Rattle.pp_grammar_complete.proofs.Steps.{Closes, Go, Run, closes, go_on, goes_on, goes_on_operand, take_step}
 use Rattle.pp_tokens.specs.declared.token.Bracket.TheVariants.{CloseBrace, Dot, OpenBrace, Semicolon}
@@ -18,7 +26,8 @@ use Rattle.pp_tokens.specs.declared.token.Token.{Token}
 use Rattle.pp_tokens.specs.declared.token.TokenKind.{TokenKind}
 use Rattle.pp_tokens.specs.declared.token.TokenKind.TheVariants.{Hex, Mark, Name, Newline, Number}
 use Rattle.pp_tree.specs.Plain.{DeclTree, PostTree, Tree, TypeTree, Word, def}
-use Rattle.std.proofs.Common.{Bool, List, None, Option, Some, [], ap, arith, false, inl, inr, refl, sym, true, ℤ, ◌∙◌, ◌∷◌, ◌≡◌, ◌⊎◌}
+use Rattle.std.proofs.Common.{Bool, List, None, Option, Some, [], ap, arith, false, inl, inr, refl, sym, true, ℤ, ◌∙◌}
+use Rattle.std.proofs.Common.{◌∷◌, ◌≡◌, ◌⊎◌}
 
 -- the tokens that end a function
 abbrev pub ends_member : TokenKind → Bool

@@ -1,9 +1,17 @@
 -- The automaton reads the contracts at the head of a body.
 use Rattle.pp_grammar.specs.Automaton.{on_mode}
-use Rattle.pp_grammar.specs.Bodies.{Contract, IsContract, IsContractBlock, IsContracts, IsMeasure, are_in_order, are_requirements, components, contract_block, decreases, ends_with_measure, last_component, measure, measure_of_tuple, no_contract, one_more_component, one_more_contract, require, requirement, requirements}
-use Rattle.pp_grammar.specs.Exprs.{IsExpr, IsPrimary, IsStats, at_types, at_types_on_arguments, block, bound, false_word, in_block, in_round, name_alone, number, on_arguments, true_word}
-use Rattle.pp_grammar.specs.Frames.{Contracts, Frame, Head, Mode, Parsed, Placed, after_decreases, after_require, after_stat, after_tuple, body_of, have, have_contracted, head_braces, in_tuple, measure_open, measuring, requiring, round, tuple_or_round, want, want_body, want_stat}
-use Rattle.pp_grammar.specs.Joining.{above, first_or, has_measure, late_behind, no_contracts, onto, with_requirement, with_word}
+use Rattle.pp_grammar.specs.Bodies.{Contract, IsContract, IsContractBlock, IsContracts, IsMeasure, are_in_order}
+use Rattle.pp_grammar.specs.Bodies.{are_requirements, components, contract_block, decreases, ends_with_measure}
+use Rattle.pp_grammar.specs.Bodies.{last_component, measure, measure_of_tuple, no_contract, one_more_component}
+use Rattle.pp_grammar.specs.Bodies.{one_more_contract, require, requirement, requirements}
+use Rattle.pp_grammar.specs.Exprs.{IsExpr, IsPrimary, IsStats, at_types, at_types_on_arguments, block, bound}
+use Rattle.pp_grammar.specs.Exprs.{false_word, in_block, in_round, name_alone, number, on_arguments, true_word}
+use Rattle.pp_grammar.specs.Frames.{Contracts, Frame, Head, Mode, Parsed, Placed, after_decreases, after_require}
+use Rattle.pp_grammar.specs.Frames.{after_stat, after_tuple, body_of, have, have_contracted, head_braces, in_tuple}
+use Rattle.pp_grammar.specs.Frames.{measure_open, measuring, requiring, round, tuple_or_round, want, want_body}
+use Rattle.pp_grammar.specs.Frames.{want_stat}
+use Rattle.pp_grammar.specs.Joining.{above, first_or, has_measure, late_behind, no_contracts, onto, with_requirement}
+use Rattle.pp_grammar.specs.Joining.{with_word}
 use Rattle.pp_grammar.specs.StepBodies.{on_decreases_word, on_measure_open, on_require_word, on_stat_name}
 use Rattle.pp_grammar.specs.StepExprs.{on_head_closed, on_want}
 use Rattle.pp_grammar.specs.Types.{IsGap}
@@ -18,7 +26,8 @@ use Rattle.pp_tokens.specs.declared.token.Token.{Token}
 use Rattle.pp_tokens.specs.declared.token.TokenKind.{TokenKind}
 use Rattle.pp_tokens.specs.declared.token.TokenKind.TheVariants.{Hex, Mark, Name, Number}
 use Rattle.pp_tree.specs.Plain.{Tree, TypeTree, Word}
-use Rattle.std.proofs.Common.{Bool, List, None, Option, Some, [], ap, arith, false, is_some, refl, sym, true, ℕ, ℤ, ◌++◌, ◌∙◌, ◌∷◌, ◌≡◌}
+use Rattle.std.proofs.Common.{Bool, List, None, Option, Some, [], ap, arith, false, is_some, refl, sym, true, ℕ, ℤ}
+use Rattle.std.proofs.Common.{◌++◌, ◌∙◌, ◌∷◌, ◌≡◌}
 use Rattle.std.proofs.lemmas.List.{append-nil}
 use Rattle.std.proofs.lemmas.List.{append-nil}
 

@@ -1,8 +1,24 @@
 -- The automaton reads each expression that is spelled: the induction.
-use Rattle.pp_grammar.specs.Exprs.{IsArguments, IsCase, IsCases, IsExpr, IsExprs, IsGuard, IsInfix, IsMatched, IsPrefix, IsPrimary, IsRest, IsSimple, IsStats, arguments, assert_stat, at_types, at_types_on_arguments, block, bound, case_of, false_word, guard, if_else, in_block, in_round, infix_expr, last_case, last_expr, last_of_exprs, looser, match_of, matched, name_alone, negative, no_arguments, no_guard, no_prefix, number, on_arguments, one_more_case, one_more_expr, operand, operator, prefixed, rest, simple, true_word, val_stat}
+use Rattle.pp_grammar.specs.Exprs.{IsArguments, IsCase, IsCases, IsExpr, IsExprs, IsGuard, IsInfix, IsMatched, IsPrefix}
+use Rattle.pp_grammar.specs.Exprs.{IsPrimary, IsRest, IsSimple, IsStats, arguments, assert_stat, at_types}
+use Rattle.pp_grammar.specs.Exprs.{at_types_on_arguments, block, bound, case_of, false_word, guard, if_else, in_block}
+use Rattle.pp_grammar.specs.Exprs.{in_round, infix_expr, last_case, last_expr, last_of_exprs, looser, match_of, matched}
+use Rattle.pp_grammar.specs.Exprs.{name_alone, negative, no_arguments, no_guard, no_prefix, number, on_arguments}
+use Rattle.pp_grammar.specs.Exprs.{one_more_case, one_more_expr, operand, operator, prefixed, rest, simple, true_word}
+use Rattle.pp_grammar.specs.Exprs.{val_stat}
 use Rattle.pp_grammar.specs.Frames.{Parsed, want}
 use Rattle.pp_grammar.specs.Words.{tightest}
-use Rattle.pp_grammar_complete.proofs.ExprParts.{ReachesArguments, ReachesCase, ReachesCases, ReachesExpr, ReachesExprs, ReachesGuard, ReachesInfix, ReachesMatched, ReachesRest, ReachesSimple, ReachesStats, application_reached, arguments_reached, block_reached, bound_reached, case_reached, cases_of_last, cases_of_more, expr_of_if, expr_of_infix, expr_of_matched, generic_application_reached, guard_ends, infix_of_negative, infix_of_operator, infix_of_prefix, infix_of_simple, infix_of_tighter, last_argument_reached, matched_of, name_reached, no_arguments_reached, number_reached, one_more_argument_reached, rest_reached, round_reached, simple_with_fields, stats_of_assert, stats_of_expr, stats_of_val, types_reached, with_guard, without_guard}
+use Rattle.pp_grammar_complete.proofs.ExprParts.{ReachesArguments, ReachesCase, ReachesCases, ReachesExpr, ReachesExprs}
+use Rattle.pp_grammar_complete.proofs.ExprParts.{ReachesGuard, ReachesInfix, ReachesMatched, ReachesRest, ReachesSimple}
+use Rattle.pp_grammar_complete.proofs.ExprParts.{ReachesStats, application_reached, arguments_reached, block_reached}
+use Rattle.pp_grammar_complete.proofs.ExprParts.{bound_reached, case_reached, cases_of_last, cases_of_more, expr_of_if}
+use Rattle.pp_grammar_complete.proofs.ExprParts.{expr_of_infix, expr_of_matched, generic_application_reached}
+use Rattle.pp_grammar_complete.proofs.ExprParts.{guard_ends, infix_of_negative, infix_of_operator, infix_of_prefix}
+use Rattle.pp_grammar_complete.proofs.ExprParts.{infix_of_simple, infix_of_tighter, last_argument_reached, matched_of}
+use Rattle.pp_grammar_complete.proofs.ExprParts.{name_reached, no_arguments_reached, number_reached}
+use Rattle.pp_grammar_complete.proofs.ExprParts.{one_more_argument_reached, rest_reached, round_reached}
+use Rattle.pp_grammar_complete.proofs.ExprParts.{simple_with_fields, stats_of_assert, stats_of_expr, stats_of_val}
+use Rattle.pp_grammar_complete.proofs.ExprParts.{types_reached, with_guard, without_guard}
 use Rattle.pp_grammar_complete.proofs.Starts.{expr_starts, exprs_start, simple_starts}
 use Rattle.pp_grammar_complete.proofs.StatSteps.{cases_head}
 use Rattle.pp_grammar_complete.proofs.Steps.{goes_on, take_step}

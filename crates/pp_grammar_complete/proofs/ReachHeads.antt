@@ -1,18 +1,24 @@
 -- The automaton reads each function and each class that is spelled, from its name on.
 use Rattle.pp_grammar.specs.Automaton.{run}
 use Rattle.pp_grammar.specs.Bodies.{IsBody}
-use Rattle.pp_grammar.specs.Frames.{Frame, Head, Kind, Parsed, after_head_name, after_item, after_object_name, after_param_name, after_params, after_type_param, after_type_params, between, ends, have_type, header, object_parent, of_class, of_def, param_type, params_open, parent_type, result_type, want_name, want_object_name, want_param, want_type_param}
+use Rattle.pp_grammar.specs.Frames.{Frame, Head, Kind, Parsed, after_head_name, after_item, after_object_name}
+use Rattle.pp_grammar.specs.Frames.{after_param_name, after_params, after_type_param, after_type_params, between, ends}
+use Rattle.pp_grammar.specs.Frames.{have_type, header, object_parent, of_class, of_def, param_type, params_open}
+use Rattle.pp_grammar.specs.Frames.{parent_type, result_type, want_name, want_object_name, want_param, want_type_param}
 use Rattle.pp_grammar.specs.Joining.{class_tree, object_tree, onto, with_decl, with_param, with_type_param}
 use Rattle.pp_grammar.specs.StepBodies.{on_after_params, on_after_type_params, on_class_params, on_head_name}
 use Rattle.pp_grammar.specs.Types.{IsType}
-use Rattle.pp_grammar.specs.Units.{IsNames, IsParamList, IsParams, IsParent, IsTypeParams, class_decl, empty_list, last_name, last_param, no_list, no_parent, no_type_params, one_more_name, one_more_param, param_list, parent, type_params}
+use Rattle.pp_grammar.specs.Units.{IsNames, IsParamList, IsParams, IsParent, IsTypeParams, class_decl, empty_list}
+use Rattle.pp_grammar.specs.Units.{last_name, last_param, no_list, no_parent, no_type_params, one_more_name}
+use Rattle.pp_grammar.specs.Units.{one_more_param, param_list, parent, type_params}
 use Rattle.pp_grammar.specs.Words.{word}
 use Rattle.pp_grammar_complete.proofs.ReachBodies.{MemberEnds, def_of_parts, reaches_body}
 use Rattle.pp_grammar_complete.proofs.ReachContracts.{onto_twice}
 use Rattle.pp_grammar_complete.proofs.ReachTypes.{reaches_type}
 use Rattle.pp_grammar_complete.proofs.Steps.{Ends, Run, go_on, goes_on, take_step}
 use Rattle.pp_grammar_sound.proofs.Opens.{head_of}
-use Rattle.pp_tokens.specs.declared.token.Bracket.TheVariants.{CloseBrace, CloseRound, CloseSquare, Comma, Dot, OpenBrace, OpenRound, OpenSquare, Semicolon}
+use Rattle.pp_tokens.specs.declared.token.Bracket.TheVariants.{CloseBrace, CloseRound, CloseSquare, Comma, Dot}
+use Rattle.pp_tokens.specs.declared.token.Bracket.TheVariants.{OpenBrace, OpenRound, OpenSquare, Semicolon}
 use Rattle.pp_tokens.specs.declared.token.Operator.TheVariants.{Assign, Colon}
 use Rattle.pp_tokens.specs.declared.token.Reserved.TheVariants.{Extends}
 use Rattle.pp_tokens.specs.declared.token.Token.{Token}

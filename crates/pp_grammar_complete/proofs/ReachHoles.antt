@@ -1,14 +1,23 @@
 -- The automaton reads each claim with a hole, whose first operand may look like a lambda.
 use Rattle.pp_grammar.specs.Automaton.{on_mode}
 use Rattle.pp_grammar.specs.Bodies.{IsHole, hole, hole_on_left, hole_on_right, looser_hole, prefixed_hole}
-use Rattle.pp_grammar.specs.Exprs.{IsExpr, IsFields, IsInfix, IsPrefix, IsPrimary, arguments, at_types, at_types_on_arguments, block, bound, false_word, if_else, in_block, in_round, infix_expr, looser, match_of, matched, name_alone, negative, no_arguments, no_field, no_prefix, number, on_arguments, one_field, operand, operator, prefixed, simple, true_word}
-use Rattle.pp_grammar.specs.Frames.{Frame, Mode, Parsed, after_int, after_lambda_closed, after_lambda_name, after_lambda_round, after_lambda_round_name, after_name, claiming_hole, go, have, left, prefixing, round, want, want_lambda}
+use Rattle.pp_grammar.specs.Exprs.{IsExpr, IsFields, IsInfix, IsPrefix, IsPrimary, arguments, at_types}
+use Rattle.pp_grammar.specs.Exprs.{at_types_on_arguments, block, bound, false_word, if_else, in_block, in_round}
+use Rattle.pp_grammar.specs.Exprs.{infix_expr, looser, match_of, matched, name_alone, negative, no_arguments, no_field}
+use Rattle.pp_grammar.specs.Exprs.{no_prefix, number, on_arguments, one_field, operand, operator, prefixed, simple}
+use Rattle.pp_grammar.specs.Exprs.{true_word}
+use Rattle.pp_grammar.specs.Frames.{Frame, Mode, Parsed, after_int, after_lambda_closed, after_lambda_name}
+use Rattle.pp_grammar.specs.Frames.{after_lambda_round, after_lambda_round_name, after_name, claiming_hole, go, have}
+use Rattle.pp_grammar.specs.Frames.{left, prefixing, round, want, want_lambda}
 use Rattle.pp_grammar.specs.Joining.{Operand, above, floor, takes_hole, unwind}
-use Rattle.pp_grammar.specs.StepBodies.{on_lambda_closed, on_lambda_name, on_lambda_round, on_lambda_round_name, on_late_name, on_late_round, on_want_lambda}
+use Rattle.pp_grammar.specs.StepBodies.{on_lambda_closed, on_lambda_name, on_lambda_round, on_lambda_round_name}
+use Rattle.pp_grammar.specs.StepBodies.{on_late_name, on_late_round, on_want_lambda}
 use Rattle.pp_grammar.specs.StepExprs.{on_have, on_name, on_operand_name, on_operator, on_want}
 use Rattle.pp_grammar.specs.StepTypes.{refuse}
-use Rattle.pp_grammar.specs.Words.{Role, binary_of, int_word, is_minus, is_number, is_sign, level, number_of, plain, res, role, tightest, unary_of, word}
-use Rattle.pp_grammar_complete.proofs.ExprSteps.{Reached, have_next, le_true, operator_follows_by, operator_next, prefix_step, reaches_fields, unwind_stays}
+use Rattle.pp_grammar.specs.Words.{Role, binary_of, int_word, is_minus, is_number, is_sign, level, number_of, plain}
+use Rattle.pp_grammar.specs.Words.{res, role, tightest, unary_of, word}
+use Rattle.pp_grammar_complete.proofs.ExprSteps.{Reached, have_next, le_true, operator_follows_by, operator_next}
+use Rattle.pp_grammar_complete.proofs.ExprSteps.{prefix_step, reaches_fields, unwind_stays}
 use Rattle.pp_grammar_complete.proofs.ReachExprs.{reaches_infix}
 use Rattle.pp_grammar_complete.proofs.Starts.{starts_with}
 use Rattle.pp_grammar_complete.proofs.Steps.{Closes, Follows, Go, Run, closes, go_on, take_step}
@@ -22,7 +31,8 @@ use Rattle.pp_tokens.specs.declared.token.TokenKind.TheVariants.{Hex, Hole, Mark
 use Rattle.pp_tree.specs.Plain.{Tree, Word, binary, name, unary}
 use Rattle.pp_tree.specs.declared.operator.BinaryOp.{BinaryOp}
 use Rattle.pp_tree.specs.declared.operator.UnaryOp.{UnaryOp}
-use Rattle.std.proofs.Common.{Bool, List, Some, [], ap, arith, cond, false, refl, suc, sym, true, ℕ, ℤ, ◌&&◌, ◌==◌, ◌∙◌, ◌∷◌, ◌≡◌, ◌≤◌}
+use Rattle.std.proofs.Common.{Bool, List, Some, [], ap, arith, cond, false, refl, suc, sym, true, ℕ, ℤ, ◌&&◌, ◌==◌, ◌∙◌}
+use Rattle.std.proofs.Common.{◌∷◌, ◌≡◌, ◌≤◌}
 
 -- a token that tells a name before it from the name of a lambda
 abbrev pub is_plain_next : TokenKind → Bool

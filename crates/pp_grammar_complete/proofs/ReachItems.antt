@@ -1,22 +1,31 @@
 -- The automaton reads each class and each import that is spelled.
 use Rattle.pp_grammar.specs.Automaton.{on_item_mode, run}
-use Rattle.pp_grammar.specs.Frames.{ItemMode, Parsed, Placed, State, after_annotation, after_annotation_line, after_at, after_case, after_chosen, after_import, after_item, after_modifiers, after_path_dot, after_path_name, at_item, between, of_class, want_chosen, want_name, within}
+use Rattle.pp_grammar.specs.Frames.{ItemMode, Parsed, Placed, State, after_annotation, after_annotation_line, after_at}
+use Rattle.pp_grammar.specs.Frames.{after_case, after_chosen, after_import, after_item, after_modifiers, after_path_dot}
+use Rattle.pp_grammar.specs.Frames.{after_path_name, at_item, between, of_class, want_chosen, want_name, within}
 use Rattle.pp_grammar.specs.Joining.{with_decl, with_import}
-use Rattle.pp_grammar.specs.StepItems.{on_after_case, on_after_item, on_annotation, on_annotation_name, on_class_word, on_declaration, on_import_all, on_item, on_modified, on_modifiers, on_object_import, on_other_import, on_path_end, on_path_name}
+use Rattle.pp_grammar.specs.StepItems.{on_after_case, on_after_item, on_annotation, on_annotation_name, on_class_word}
+use Rattle.pp_grammar.specs.StepItems.{on_declaration, on_import_all, on_item, on_modified, on_modifiers}
+use Rattle.pp_grammar.specs.StepItems.{on_object_import, on_other_import, on_path_end, on_path_name}
 use Rattle.pp_grammar.specs.Types.{IsBreak, IsGap, IsSemis, no_newline, no_semi, one_newline, one_semi, semis}
-use Rattle.pp_grammar.specs.Units.{IsAnnotations, IsChoice, IsClass, IsImport, IsImportText, IsModified, IsPath, Modifiers, Piece, case_object, class_of, import_all, import_path, import_some, is_one, last_chosen, last_of_path, library, modified, more_of_path, no_annotation, no_modifier, of_object, one_annotation, one_modifier, one_more_chosen, unmodified}
+use Rattle.pp_grammar.specs.Units.{IsAnnotations, IsChoice, IsClass, IsImport, IsImportText, IsModified, IsPath}
+use Rattle.pp_grammar.specs.Units.{Modifiers, Piece, case_object, class_of, import_all, import_path, import_some}
+use Rattle.pp_grammar.specs.Units.{is_one, last_chosen, last_of_path, library, modified, more_of_path, no_annotation}
+use Rattle.pp_grammar.specs.Units.{no_modifier, of_object, one_annotation, one_modifier, one_more_chosen, unmodified}
 use Rattle.pp_grammar.specs.Words.{begins_dot, is_dot, is_library, is_semi, is_trait_word, word}
 use Rattle.pp_grammar_complete.proofs.ExprSteps.{behind_first}
 use Rattle.pp_grammar_complete.proofs.ReachHeads.{ItemEnds, class_read, object_read}
 use Rattle.pp_grammar_sound.proofs.UnitFronts.{added, longer_path}
 use Rattle.pp_tokens.specs.declared.token.Bracket.TheVariants.{Dot, Semicolon}
 use Rattle.pp_tokens.specs.declared.token.Operator.TheVariants.{At}
-use Rattle.pp_tokens.specs.declared.token.Reserved.TheVariants.{Abstract, Case, Class, Def, Final, Import, Object, Sealed, Trait}
+use Rattle.pp_tokens.specs.declared.token.Reserved.TheVariants.{Abstract, Case, Class, Def, Final, Import, Object}
+use Rattle.pp_tokens.specs.declared.token.Reserved.TheVariants.{Sealed, Trait}
 use Rattle.pp_tokens.specs.declared.token.Token.{Token}
 use Rattle.pp_tokens.specs.declared.token.TokenKind.{TokenKind}
 use Rattle.pp_tokens.specs.declared.token.TokenKind.TheVariants.{Mark, Name, Newline, Op, Word as Reserve}
 use Rattle.pp_tree.specs.Plain.{DeclTree, Word}
-use Rattle.std.proofs.Common.{Bool, List, None, Option, Some, [], ap, cond, false, inl, inr, refl, sym, true, ℕ, ◌∙◌, ◌∷◌, ◌≡◌, ◌⊎◌}
+use Rattle.std.proofs.Common.{Bool, List, None, Option, Some, [], ap, cond, false, inl, inr, refl, sym, true, ℕ, ◌∙◌}
+use Rattle.std.proofs.Common.{◌∷◌, ◌≡◌, ◌⊎◌}
 
 -- the words that begin a class, but for `case`
 abbrev pub declares_kind : TokenKind → Bool

@@ -1,17 +1,25 @@
 -- The automaton reads each pattern that is spelled.
-use Rattle.pp_grammar.specs.Frames.{Frame, Parsed, after_pattern_name, go, have_pattern, naming, pattern_args, pattern_args_open, pattern_round, want_pattern}
+use Rattle.pp_grammar.specs.Frames.{Frame, Parsed, after_pattern_name, go, have_pattern, naming, pattern_args}
+use Rattle.pp_grammar.specs.Frames.{pattern_args_open, pattern_round, want_pattern}
 use Rattle.pp_grammar.specs.Joining.{patterns_onto}
-use Rattle.pp_grammar.specs.Patterns.{IsPattern, IsPatterns, IsPlain, anything, binding, constructor_alone, constructor_of, constructor_of_none, false_pattern, last_pattern, named_at, named_pattern, negated_pattern, number_pattern, one_more_pattern, pattern_in_round, signed_pattern, true_pattern, unnamed}
-use Rattle.pp_grammar.specs.StepTypes.{on_have_pattern, on_int_pattern, on_named_pattern, on_naming, on_pattern_args_open, on_pattern_at, on_pattern_name, on_want_pattern, pattern_of_name}
+use Rattle.pp_grammar.specs.Patterns.{IsPattern, IsPatterns, IsPlain, anything, binding, constructor_alone}
+use Rattle.pp_grammar.specs.Patterns.{constructor_of, constructor_of_none, false_pattern, last_pattern, named_at}
+use Rattle.pp_grammar.specs.Patterns.{named_pattern, negated_pattern, number_pattern, one_more_pattern}
+use Rattle.pp_grammar.specs.Patterns.{pattern_in_round, signed_pattern, true_pattern, unnamed}
+use Rattle.pp_grammar.specs.StepTypes.{on_have_pattern, on_int_pattern, on_named_pattern, on_naming}
+use Rattle.pp_grammar.specs.StepTypes.{on_pattern_args_open, on_pattern_at, on_pattern_name, on_want_pattern}
+use Rattle.pp_grammar.specs.StepTypes.{pattern_of_name}
 use Rattle.pp_grammar.specs.Words.{binds, is_minus, is_sign, is_signed, negated_of, negative_of, number_of, word}
 use Rattle.pp_grammar_complete.proofs.Steps.{Ends, Run, go_on, goes_on, take_step}
-use Rattle.pp_tokens.specs.declared.token.Bracket.TheVariants.{CloseBrace, CloseRound, CloseSquare, Comma, Dot, OpenBrace, OpenRound, OpenSquare, Semicolon}
+use Rattle.pp_tokens.specs.declared.token.Bracket.TheVariants.{CloseBrace, CloseRound, CloseSquare, Comma, Dot}
+use Rattle.pp_tokens.specs.declared.token.Bracket.TheVariants.{OpenBrace, OpenRound, OpenSquare, Semicolon}
 use Rattle.pp_tokens.specs.declared.token.Operator.TheVariants.{At, Minus}
 use Rattle.pp_tokens.specs.declared.token.Token.{Token}
 use Rattle.pp_tokens.specs.declared.token.TokenKind.{TokenKind}
 use Rattle.pp_tokens.specs.declared.token.TokenKind.TheVariants.{Hex, Mark, Number, Op}
 use Rattle.pp_tree.specs.Plain.{PatternTree, PatternTrees, Word, any, ctor_pattern, int_pattern, no_patterns}
-use Rattle.std.proofs.Common.{Bool, List, None, Option, Some, [], ap, cond, false, refl, sym, true, ℕ, ℤ, ◌&&◌, ◌∙◌, ◌∷◌, ◌≡◌}
+use Rattle.std.proofs.Common.{Bool, List, None, Option, Some, [], ap, cond, false, refl, sym, true, ℕ, ℤ, ◌&&◌, ◌∙◌}
+use Rattle.std.proofs.Common.{◌∷◌, ◌≡◌}
 
 -- a name with `@` is on top
 abbrev pub is_naming : List Frame → Bool

@@ -1,7 +1,13 @@
 -- The automaton reads each postcondition that is spelled.
-use Rattle.pp_grammar.specs.Bodies.{IsHole, IsLambda, IsPost, hole, hole_on_left, hole_on_right, looser_hole, of_hole, of_name, of_name_in_round, of_typed_name, post_in_braces, post_in_round, prefixed_hole}
+use Rattle.pp_grammar.specs.Bodies.{IsHole, IsLambda, IsPost, hole, hole_on_left, hole_on_right, looser_hole, of_hole}
+use Rattle.pp_grammar.specs.Bodies.{of_name, of_name_in_round, of_typed_name, post_in_braces, post_in_round}
+use Rattle.pp_grammar.specs.Bodies.{prefixed_hole}
 use Rattle.pp_grammar.specs.Exprs.{IsExpr}
-use Rattle.pp_grammar.specs.Frames.{Frame, Move, Parsed, State, after_body, after_claim, after_ensuring, after_lambda_closed, after_lambda_name, after_lambda_round, after_lambda_round_name, after_lambda_typed, claiming, claiming_hole, go, have_type, in_braces, in_parentheses, post_of, result_name_type, result_name_type_in_round, want, want_lambda, want_lambda_or_semi}
+use Rattle.pp_grammar.specs.Frames.{Frame, Move, Parsed, State, after_body, after_claim, after_ensuring}
+use Rattle.pp_grammar.specs.Frames.{after_lambda_closed, after_lambda_name, after_lambda_round, after_lambda_round_name}
+use Rattle.pp_grammar.specs.Frames.{after_lambda_typed, claiming, claiming_hole, go, have_type, in_braces}
+use Rattle.pp_grammar.specs.Frames.{in_parentheses, post_of, result_name_type, result_name_type_in_round, want}
+use Rattle.pp_grammar.specs.Frames.{want_lambda, want_lambda_or_semi}
 use Rattle.pp_grammar.specs.Joining.{above}
 use Rattle.pp_grammar.specs.StepBodies.{on_after_claim, on_want_lambda, on_want_lambda_or_semi}
 use Rattle.pp_grammar.specs.StepExprs.{on_claim_brace, on_claim_round, on_claim_semi, on_unwound}

@@ -1,5 +1,6 @@
 -- The automaton reads each type that is spelled.
-use Rattle.pp_grammar.specs.Frames.{Frame, Parsed, after_name_types, after_type_name, have_type, name_types, type_args, want_type}
+use Rattle.pp_grammar.specs.Frames.{Frame, Parsed, after_name_types, after_type_name, have_type, name_types, type_args}
+use Rattle.pp_grammar.specs.Frames.{want_type}
 use Rattle.pp_grammar.specs.Joining.{types_onto}
 use Rattle.pp_grammar.specs.StepTypes.{on_have_type, on_type_name}
 use Rattle.pp_grammar.specs.Types.{IsType, IsTypes, last_type, one_more_type, type_name, type_of}

@@ -1,6 +1,10 @@
 -- The token that an expression begins with.
 use Rattle.pp_grammar.specs.Bodies.{IsMeasure, last_component, one_more_component}
-use Rattle.pp_grammar.specs.Exprs.{IsExpr, IsExprs, IsInfix, IsPrefix, IsPrimary, IsSimple, at_types, at_types_on_arguments, block, bound, false_word, if_else, in_block, in_round, infix_expr, last_of_exprs, looser, match_of, matched, name_alone, negative, no_prefix, number, on_arguments, one_more_expr, operand, operator, prefixed, simple, true_word}
+use Rattle.pp_grammar.specs.Exprs.{IsExpr, IsExprs, IsInfix, IsPrefix, IsPrimary, IsSimple, at_types}
+use Rattle.pp_grammar.specs.Exprs.{at_types_on_arguments, block, bound, false_word, if_else, in_block, in_round}
+use Rattle.pp_grammar.specs.Exprs.{infix_expr, last_of_exprs, looser, match_of, matched, name_alone, negative}
+use Rattle.pp_grammar.specs.Exprs.{no_prefix, number, on_arguments, one_more_expr, operand, operator, prefixed, simple}
+use Rattle.pp_grammar.specs.Exprs.{true_word}
 use Rattle.pp_grammar.specs.Frames.{Frame, Parsed, args, args_open, want, want_stat, want_then}
 use Rattle.pp_grammar.specs.StepBodies.{on_stat_name, on_want_stat}
 use Rattle.pp_grammar.specs.StepExprs.{on_args_open, on_operand_name, on_want, on_want_then}
@@ -12,7 +16,8 @@ use Rattle.pp_tokens.specs.declared.token.Operator.TheVariants.{Flip, Minus, Not
 use Rattle.pp_tokens.specs.declared.token.Reserved.TheVariants.{False, If, True, Val}
 use Rattle.pp_tokens.specs.declared.token.Token.{Token}
 use Rattle.pp_tokens.specs.declared.token.TokenKind.{TokenKind}
-use Rattle.pp_tokens.specs.declared.token.TokenKind.TheVariants.{Hex, Hole, Mark, Name, Newline, Number, Op, Word as Reserve}
+use Rattle.pp_tokens.specs.declared.token.TokenKind.TheVariants.{Hex, Hole, Mark, Name, Newline, Number, Op}
+use Rattle.pp_tokens.specs.declared.token.TokenKind.TheVariants.{Word as Reserve}
 use Rattle.pp_tree.specs.Plain.{Tree, Trees, TypeTrees, Word}
 use Rattle.pp_tree.specs.declared.operator.UnaryOp.{UnaryOp}
 use Rattle.std.proofs.Common.{Bool, List, Some, [], ap, false, refl, true, ℕ, ℤ, ◌∙◌, ◌∷◌, ◌≡◌}

@@ -1,13 +1,17 @@
 -- Steps of the automaton between statements and in matches, and what the next token tells of them.
 use Rattle.pp_grammar.specs.Exprs.{IsCases, case_of, last_case, one_more_case}
-use Rattle.pp_grammar.specs.Frames.{CaseText, Frame, Parsed, after_assert, after_last, after_match, after_stat, after_val, after_val_name, arm, braces, cases_of, go, have_matched, have_type, head_braces, val_type, val_value, want, want_pattern, want_stat, want_then}
+use Rattle.pp_grammar.specs.Frames.{CaseText, Frame, Parsed, after_assert, after_last, after_match, after_stat}
+use Rattle.pp_grammar.specs.Frames.{after_val, after_val_name, arm, braces, cases_of, go, have_matched, have_type}
+use Rattle.pp_grammar.specs.Frames.{head_braces, val_type, val_value, want, want_pattern, want_stat, want_then}
 use Rattle.pp_grammar.specs.Joining.{above, cases_onto, floor}
 use Rattle.pp_grammar.specs.StepBodies.{on_after_last, on_after_stat, on_stat_name, on_want_stat}
 use Rattle.pp_grammar.specs.StepExprs.{on_expr_end, on_match, on_semi, on_semicolon}
 use Rattle.pp_grammar.specs.StepTypes.{refuse}
-use Rattle.pp_grammar.specs.Types.{IsAscription, IsBreaks, IsGap, IsSemis, ascribed, more_newlines, no_newlines, no_semi, no_type, one_semi, semis}
+use Rattle.pp_grammar.specs.Types.{IsAscription, IsBreaks, IsGap, IsSemis, ascribed, more_newlines, no_newlines}
+use Rattle.pp_grammar.specs.Types.{no_semi, no_type, one_semi, semis}
 use Rattle.pp_grammar.specs.Words.{Role, is_semi, role, word}
-use Rattle.pp_grammar_complete.proofs.ExprSteps.{EndRest, Ended, IsCaseHead, RestEnds, behind_first, end_rest_step, ends_rest, is_stat, le_true}
+use Rattle.pp_grammar_complete.proofs.ExprSteps.{EndRest, Ended, IsCaseHead, RestEnds, behind_first, end_rest_step}
+use Rattle.pp_grammar_complete.proofs.ExprSteps.{ends_rest, is_stat, le_true}
 use Rattle.pp_grammar_complete.proofs.ReachTypes.{reaches_type}
 use Rattle.pp_grammar_complete.proofs.Steps.{Go, Run, go_on, goes_on, take_step}
 use Rattle.pp_tokens.specs.declared.token.Bracket.TheVariants.{CloseBrace, Semicolon}

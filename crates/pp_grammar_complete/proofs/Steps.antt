@@ -5,7 +5,8 @@ use Rattle.pp_grammar.specs.Exprs.{IsSemicolon, no_semicolon, semicolon}
 use Rattle.pp_grammar.specs.Frames.{Frame, Mode, Move, Parsed, State, within}
 use Rattle.pp_grammar.specs.Types.{IsGap, IsSemis, no_semi, one_semi, semis}
 use Rattle.pp_grammar.specs.Words.{is_semi}
-use Rattle.pp_tokens.specs.declared.token.Bracket.TheVariants.{CloseBrace, CloseRound, Comma, Dot, OpenRound, OpenSquare, Semicolon}
+use Rattle.pp_tokens.specs.declared.token.Bracket.TheVariants.{CloseBrace, CloseRound, Comma, Dot, OpenRound}
+use Rattle.pp_tokens.specs.declared.token.Bracket.TheVariants.{OpenSquare, Semicolon}
 use Rattle.pp_tokens.specs.declared.token.Operator.TheVariants.{At}
 use Rattle.pp_tokens.specs.declared.token.Reserved.TheVariants.{Case, Else}
 use Rattle.pp_tokens.specs.declared.token.Token.{Token}

@@ -1,12 +1,29 @@
 -- The faults of each step in statements, contracts, postconditions and heads.
-use Rattle.pp_grammar.specs.Frames.{Contracts, Frame, Head, Kind, Placed, body_of, claiming_hole, head_braces, header, measuring, of_class, of_def, round}
+use Rattle.pp_grammar.specs.Frames.{Contracts, Frame, Head, Kind, Placed, body_of, claiming_hole, head_braces, header}
+use Rattle.pp_grammar.specs.Frames.{measuring, of_class, of_def, round}
 use Rattle.pp_grammar.specs.Joining.{has_measure, seal}
-use Rattle.pp_grammar.specs.StepBodies.{misplaced_name, on_after_body, on_after_claim, on_after_decreases, on_after_ensuring, on_after_last, on_after_params, on_after_require, on_after_stat, on_after_tuple, on_after_type_param, on_after_type_params, on_assert_word, on_class_params, on_contracted_dot, on_contracted_end, on_contracted_name, on_contracted_operand, on_contracted_operator, on_decreases, on_decreases_word, on_def_params, on_have_contracted, on_head_name, on_lambda_closed, on_lambda_name, on_lambda_round, on_lambda_round_name, on_lambda_typed, on_late_name, on_late_round, on_measure_open, on_misplaced, on_no_params, on_object_name, on_param_name, on_params_open, on_require, on_require_word, on_stat_name, on_tuple_closed, on_type_param, on_val_name, on_val_word, on_want_body, on_want_lambda, on_want_lambda_or_semi, on_want_name, on_want_object_name, on_want_param, on_want_stat, on_want_type_param}
+use Rattle.pp_grammar.specs.StepBodies.{misplaced_name, on_after_body, on_after_claim, on_after_decreases}
+use Rattle.pp_grammar.specs.StepBodies.{on_after_ensuring, on_after_last, on_after_params, on_after_require}
+use Rattle.pp_grammar.specs.StepBodies.{on_after_stat, on_after_tuple, on_after_type_param, on_after_type_params}
+use Rattle.pp_grammar.specs.StepBodies.{on_assert_word, on_class_params, on_contracted_dot, on_contracted_end}
+use Rattle.pp_grammar.specs.StepBodies.{on_contracted_name, on_contracted_operand, on_contracted_operator, on_decreases}
+use Rattle.pp_grammar.specs.StepBodies.{on_decreases_word, on_def_params, on_have_contracted, on_head_name}
+use Rattle.pp_grammar.specs.StepBodies.{on_lambda_closed, on_lambda_name, on_lambda_round, on_lambda_round_name}
+use Rattle.pp_grammar.specs.StepBodies.{on_lambda_typed, on_late_name, on_late_round, on_measure_open, on_misplaced}
+use Rattle.pp_grammar.specs.StepBodies.{on_no_params, on_object_name, on_param_name, on_params_open, on_require}
+use Rattle.pp_grammar.specs.StepBodies.{on_require_word, on_stat_name, on_tuple_closed, on_type_param, on_val_name}
+use Rattle.pp_grammar.specs.StepBodies.{on_val_word, on_want_body, on_want_lambda, on_want_lambda_or_semi, on_want_name}
+use Rattle.pp_grammar.specs.StepBodies.{on_want_object_name, on_want_param, on_want_stat, on_want_type_param}
 use Rattle.pp_grammar.specs.StepTypes.{refuse}
-use Rattle.pp_grammar.specs.Words.{Role, assert_word, binary_of, decreases_word, ensuring_word, holds_word, int_word, plain, require_word, role, word}
-use Rattle.pp_grammar_laws.proofs.FaultExprs.{good_on_claim_brace, good_on_have, good_on_int, good_on_measured, good_on_name, good_on_operand_name, good_on_post_word, good_on_sealed_brace, good_on_sealed_case, good_on_want}
-use Rattle.pp_grammar_laws.proofs.Faults.{GoodContracts, GoodFrames, GoodMove, GoodOffset, GoodPlaced, NameOk, good_first, good_seal, refusal_good}
-use Rattle.pp_tokens.specs.declared.token.Bracket.TheVariants.{CloseBrace, CloseRound, CloseSquare, Comma, Dot, OpenBrace, OpenRound, OpenSquare, Semicolon}
+use Rattle.pp_grammar.specs.Words.{Role, assert_word, binary_of, decreases_word, ensuring_word, holds_word, int_word}
+use Rattle.pp_grammar.specs.Words.{plain, require_word, role, word}
+use Rattle.pp_grammar_laws.proofs.FaultExprs.{good_on_claim_brace, good_on_have, good_on_int, good_on_measured}
+use Rattle.pp_grammar_laws.proofs.FaultExprs.{good_on_name, good_on_operand_name, good_on_post_word}
+use Rattle.pp_grammar_laws.proofs.FaultExprs.{good_on_sealed_brace, good_on_sealed_case, good_on_want}
+use Rattle.pp_grammar_laws.proofs.Faults.{GoodContracts, GoodFrames, GoodMove, GoodOffset, GoodPlaced, NameOk}
+use Rattle.pp_grammar_laws.proofs.Faults.{good_first, good_seal, refusal_good}
+use Rattle.pp_tokens.specs.declared.token.Bracket.TheVariants.{CloseBrace, CloseRound, CloseSquare, Comma, Dot}
+use Rattle.pp_tokens.specs.declared.token.Bracket.TheVariants.{OpenBrace, OpenRound, OpenSquare, Semicolon}
 use Rattle.pp_tokens.specs.declared.token.Operator.TheVariants.{Arrow, Assign, Colon}
 use Rattle.pp_tokens.specs.declared.token.Reserved.TheVariants.{Case, Extends, Match, Val}
 use Rattle.pp_tokens.specs.declared.token.Token.{Token}

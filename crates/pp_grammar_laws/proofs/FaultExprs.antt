@@ -1,18 +1,34 @@
 -- The faults of each step in an expression.
 use Rattle.pp_tree.specs.declared.operator.UnaryOp.TheVariants as unary_op
 use Rattle.std.specs.Prelude.{nat_le}
-use Rattle.pp_grammar.specs.Frames.{CaseText, Contracts, Frame, Placed, after_assert, after_val, args, arm, asserting, body_of, braces, cases_of, claiming, claiming_hole, guarding, head_braces, if_test, if_then, in_braces, in_parentheses, in_tuple, measuring, post_of, prefixing, requiring, round, tuple_or_round, val_value}
+use Rattle.pp_grammar.specs.Frames.{CaseText, Contracts, Frame, Placed, after_assert, after_val, args, arm, asserting}
+use Rattle.pp_grammar.specs.Frames.{body_of, braces, cases_of, claiming, claiming_hole, guarding, head_braces, if_test}
+use Rattle.pp_grammar.specs.Frames.{if_then, in_braces, in_parentheses, in_tuple, measuring, post_of, prefixing}
+use Rattle.pp_grammar.specs.Frames.{requiring, round, tuple_or_round, val_value}
 use Rattle.pp_grammar.specs.Joining.{Operand, Sealed as SealedBlock, floor, seal, takes_hole, unwind}
-use Rattle.pp_grammar.specs.StepExprs.{on_args_open, on_binary, on_bound, on_brace_closed, on_case_ended, on_claim_brace, on_claim_round, on_claim_semi, on_comma, on_dot, on_dot_name, on_else, on_end, on_ensuring, on_expr_end, on_guard, on_have, on_have_matched, on_have_negative, on_head_closed, on_holds, on_hole_end, on_if, on_int, on_int_dot, on_match, on_match_closed, on_match_dot, on_match_word, on_matched_dot, on_measured, on_minus, on_name, on_name_types, on_negative, on_negative_dot, on_negative_field, on_next_case, on_number, on_operand, on_operand_name, on_operator, on_post_operand, on_post_word, on_required, on_round_closed, on_sealed_brace, on_sealed_case, on_semi, on_semicolon, on_unwound, on_want, on_want_case, on_want_else, on_want_then}
+use Rattle.pp_grammar.specs.StepExprs.{on_args_open, on_binary, on_bound, on_brace_closed, on_case_ended}
+use Rattle.pp_grammar.specs.StepExprs.{on_claim_brace, on_claim_round, on_claim_semi, on_comma, on_dot, on_dot_name}
+use Rattle.pp_grammar.specs.StepExprs.{on_else, on_end, on_ensuring, on_expr_end, on_guard, on_have, on_have_matched}
+use Rattle.pp_grammar.specs.StepExprs.{on_have_negative, on_head_closed, on_holds, on_hole_end, on_if, on_int}
+use Rattle.pp_grammar.specs.StepExprs.{on_int_dot, on_match, on_match_closed, on_match_dot, on_match_word}
+use Rattle.pp_grammar.specs.StepExprs.{on_matched_dot, on_measured, on_minus, on_name, on_name_types, on_negative}
+use Rattle.pp_grammar.specs.StepExprs.{on_negative_dot, on_negative_field, on_next_case, on_number, on_operand}
+use Rattle.pp_grammar.specs.StepExprs.{on_operand_name, on_operator, on_post_operand, on_post_word, on_required}
+use Rattle.pp_grammar.specs.StepExprs.{on_round_closed, on_sealed_brace, on_sealed_case, on_semi, on_semicolon}
+use Rattle.pp_grammar.specs.StepExprs.{on_unwound, on_want, on_want_case, on_want_else, on_want_then}
 use Rattle.pp_grammar.specs.StepTypes.{refuse}
-use Rattle.pp_grammar.specs.Words.{Role, binary_of, bound_of, ensuring_word, holds_word, int_word, is_signed, level, loosest, negative_of, number_of, plain, res, role, tightest, word}
-use Rattle.pp_grammar_laws.proofs.Faults.{GoodContracts, GoodFrames, GoodMove, NameOk, good_cond, good_late, good_seal, good_unwind, refusal_good}
-use Rattle.pp_tokens.specs.declared.token.Bracket.TheVariants.{CloseBrace, CloseRound, Comma, Dot, OpenBrace, OpenRound, OpenSquare, Semicolon}
+use Rattle.pp_grammar.specs.Words.{Role, binary_of, bound_of, ensuring_word, holds_word, int_word, is_signed, level}
+use Rattle.pp_grammar.specs.Words.{loosest, negative_of, number_of, plain, res, role, tightest, word}
+use Rattle.pp_grammar_laws.proofs.Faults.{GoodContracts, GoodFrames, GoodMove, NameOk, good_cond, good_late, good_seal}
+use Rattle.pp_grammar_laws.proofs.Faults.{good_unwind, refusal_good}
+use Rattle.pp_tokens.specs.declared.token.Bracket.TheVariants.{CloseBrace, CloseRound, Comma, Dot, OpenBrace, OpenRound}
+use Rattle.pp_tokens.specs.declared.token.Bracket.TheVariants.{OpenSquare, Semicolon}
 use Rattle.pp_tokens.specs.declared.token.Operator.TheVariants.{Arrow, Flip, Minus, Not}
 use Rattle.pp_tokens.specs.declared.token.Reserved.TheVariants.{Case, Else, False, If, Match, True}
 use Rattle.pp_tokens.specs.declared.token.Token.{Token}
 use Rattle.pp_tokens.specs.declared.token.TokenKind.{TokenKind}
-use Rattle.pp_tokens.specs.declared.token.TokenKind.TheVariants.{Hex, Hole, Mark, Name, Newline, Number, Op, Word as Reserve}
+use Rattle.pp_tokens.specs.declared.token.TokenKind.TheVariants.{Hex, Hole, Mark, Name, Newline, Number, Op}
+use Rattle.pp_tokens.specs.declared.token.TokenKind.TheVariants.{Word as Reserve}
 use Rattle.pp_tree.specs.Plain.{Tree, TypeTree, TypeTrees, Word, apply, name, no_trees}
 use Rattle.pp_tree.specs.declared.operator.BinaryOp.{BinaryOp}
 use Rattle.std.proofs.Common.{Bool, List, None, Option, Some, [], false, true, ℕ, ℤ, ◌∷◌, ◌≡◌}

@@ -1,16 +1,27 @@
 -- The automaton's faults: each offset begins a token, and what is unsupported is left out by the language.
 use Rattle.pp_grammar.specs.Automaton.{moved, on_item_mode, on_mode, run, start, step}
-use Rattle.pp_grammar.specs.Frames.{Fault, ItemMode, Move, Parsed, Placed, State, after_annotation, after_annotation_line, after_at, after_case, after_chosen, after_import, after_item, after_modifiers, after_object, after_object_line, after_object_title, after_package, after_package_name, after_path_dot, after_path_name, at_item, at_start, between, done, ends, failed, go, stop, syntax_at, unsupported_at, want_chosen, within}
+use Rattle.pp_grammar.specs.Frames.{Fault, ItemMode, Move, Parsed, Placed, State, after_annotation}
+use Rattle.pp_grammar.specs.Frames.{after_annotation_line, after_at, after_case, after_chosen, after_import, after_item}
+use Rattle.pp_grammar.specs.Frames.{after_modifiers, after_object, after_object_line, after_object_title, after_package}
+use Rattle.pp_grammar.specs.Frames.{after_package_name, after_path_dot, after_path_name, at_item, at_start, between}
+use Rattle.pp_grammar.specs.Frames.{done, ends, failed, go, stop, syntax_at, unsupported_at, want_chosen, within}
 use Rattle.pp_grammar.specs.Joining.{with_decl}
 use Rattle.pp_grammar.specs.LeftOut.{HasLeftOut, a_measure, a_requirement, an_annotation, an_import}
-use Rattle.pp_grammar.specs.StepItems.{on_after_at, on_after_case, on_after_import, on_after_item, on_after_object, on_after_package, on_annotation, on_annotation_name, on_chosen, on_class_word, on_declaration, on_def, on_import_all, on_item, on_modified, on_object_closed, on_object_import, on_object_line, on_object_title, on_object_word, on_other_import, on_package_name, on_path_dot, on_path_end, on_path_name, on_start, on_unit_end, on_want_chosen}
+use Rattle.pp_grammar.specs.StepItems.{on_after_at, on_after_case, on_after_import, on_after_item, on_after_object}
+use Rattle.pp_grammar.specs.StepItems.{on_after_package, on_annotation, on_annotation_name, on_chosen, on_class_word}
+use Rattle.pp_grammar.specs.StepItems.{on_declaration, on_def, on_import_all, on_item, on_modified, on_object_closed}
+use Rattle.pp_grammar.specs.StepItems.{on_object_import, on_object_line, on_object_title, on_object_word}
+use Rattle.pp_grammar.specs.StepItems.{on_other_import, on_package_name, on_path_dot, on_path_end, on_path_name}
+use Rattle.pp_grammar.specs.StepItems.{on_start, on_unit_end, on_want_chosen}
 use Rattle.pp_grammar.specs.StepTypes.{fault_at}
-use Rattle.pp_grammar.specs.Units.{IsImportText, IsPath, Modifiers, import_all, import_path, import_some, is_one, last_chosen, last_of_path, modified, unmodified}
+use Rattle.pp_grammar.specs.Units.{IsImportText, IsPath, Modifiers, import_all, import_path, import_some, is_one}
+use Rattle.pp_grammar.specs.Units.{last_chosen, last_of_path, modified, unmodified}
 use Rattle.pp_grammar.specs.Words.{is_dot, is_known_annotation, is_library, is_trait_word, word}
 use Rattle.pp_grammar_laws.proofs.FaultModes.{mode_good}
 use Rattle.pp_grammar_laws.proofs.Faults.{GoodFault, GoodFrames, GoodMode, GoodMove, NameOk, fault_good}
 use Rattle.pp_grammar_laws.specs.Laws.{BeginsToken}
-use Rattle.pp_grammar_sound.proofs.UnitFronts.{FrontChoice, choice_behind, choice_more, choice_none, longer_path, path_goes_on}
+use Rattle.pp_grammar_sound.proofs.UnitFronts.{FrontChoice, choice_behind, choice_more, choice_none, longer_path}
+use Rattle.pp_grammar_sound.proofs.UnitFronts.{path_goes_on}
 use Rattle.pp_tokens.specs.declared.token.Bracket.TheVariants.{CloseBrace, Comma, Dot, OpenBrace, Semicolon}
 use Rattle.pp_tokens.specs.declared.token.Operator.TheVariants.{At}
 use Rattle.pp_tokens.specs.declared.token.Reserved.TheVariants.{Case, Def, Import, Object, Package}
@@ -18,7 +29,8 @@ use Rattle.pp_tokens.specs.declared.token.Token.{Token}
 use Rattle.pp_tokens.specs.declared.token.TokenKind.{TokenKind}
 use Rattle.pp_tokens.specs.declared.token.TokenKind.TheVariants.{End, Hole, Mark, Name, Newline, Op, Word as Reserve}
 use Rattle.pp_tree.specs.Plain.{Word}
-use Rattle.std.proofs.Common.{Bool, List, None, Option, Some, [], ap, false, refl, subst, sym, true, ℕ, ◌++◌, ◌∙◌, ◌∷◌, ◌≡◌}
+use Rattle.std.proofs.Common.{Bool, List, None, Option, Some, [], ap, false, refl, subst, sym, true, ℕ, ◌++◌, ◌∙◌, ◌∷◌}
+use Rattle.std.proofs.Common.{◌≡◌}
 use Rattle.std.proofs.lemmas.List.{append_assoc}
 use Rattle.std.proofs.lemmas.List.{append_assoc}
 

@@ -1,10 +1,38 @@
 -- The faults of each step within a declaration.
 use Rattle.pp_grammar.specs.Automaton.{on_mode}
-use Rattle.pp_grammar.specs.Frames.{Frame, Mode, after_assert_word, after_body, after_claim, after_contracted_dot, after_decreases, after_dot, after_ensuring, after_head_name, after_if, after_int, after_int_dot, after_lambda_closed, after_lambda_name, after_lambda_round, after_lambda_round_name, after_lambda_typed, after_last, after_match, after_matched_dot, after_minus, after_name, after_name_types, after_negative_dot, after_object_name, after_param_name, after_params, after_pattern_minus, after_pattern_name, after_require, after_stat, after_tuple, after_type_name, after_type_param, after_type_params, after_val_name, after_val_word, args_open, have, have_contracted, have_matched, have_negative, have_pattern, have_type, measure_open, params_open, pattern_args_open, want, want_body, want_case, want_else, want_lambda, want_lambda_or_semi, want_name, want_object_name, want_param, want_pattern, want_stat, want_then, want_type, want_type_param}
+use Rattle.pp_grammar.specs.Frames.{Frame, Mode, after_assert_word, after_body, after_claim, after_contracted_dot}
+use Rattle.pp_grammar.specs.Frames.{after_decreases, after_dot, after_ensuring, after_head_name, after_if, after_int}
+use Rattle.pp_grammar.specs.Frames.{after_int_dot, after_lambda_closed, after_lambda_name, after_lambda_round}
+use Rattle.pp_grammar.specs.Frames.{after_lambda_round_name, after_lambda_typed, after_last, after_match}
+use Rattle.pp_grammar.specs.Frames.{after_matched_dot, after_minus, after_name, after_name_types, after_negative_dot}
+use Rattle.pp_grammar.specs.Frames.{after_object_name, after_param_name, after_params, after_pattern_minus}
+use Rattle.pp_grammar.specs.Frames.{after_pattern_name, after_require, after_stat, after_tuple, after_type_name}
+use Rattle.pp_grammar.specs.Frames.{after_type_param, after_type_params, after_val_name, after_val_word, args_open}
+use Rattle.pp_grammar.specs.Frames.{have, have_contracted, have_matched, have_negative, have_pattern, have_type}
+use Rattle.pp_grammar.specs.Frames.{measure_open, params_open, pattern_args_open, want, want_body, want_case, want_else}
+use Rattle.pp_grammar.specs.Frames.{want_lambda, want_lambda_or_semi, want_name, want_object_name, want_param}
+use Rattle.pp_grammar.specs.Frames.{want_pattern, want_stat, want_then, want_type, want_type_param}
 use Rattle.pp_grammar.specs.Words.{word}
-use Rattle.pp_grammar_laws.proofs.FaultBodies.{good_on_after_body, good_on_after_claim, good_on_after_decreases, good_on_after_ensuring, good_on_after_last, good_on_after_params, good_on_after_require, good_on_after_stat, good_on_after_tuple, good_on_after_type_param, good_on_after_type_params, good_on_assert_word, good_on_contracted_dot, good_on_have_contracted, good_on_head_name, good_on_lambda_closed, good_on_lambda_name, good_on_lambda_round, good_on_lambda_round_name, good_on_lambda_typed, good_on_measure_open, good_on_object_name, good_on_param_name, good_on_params_open, good_on_val_name, good_on_val_word, good_on_want_body, good_on_want_lambda, good_on_want_lambda_or_semi, good_on_want_name, good_on_want_object_name, good_on_want_param, good_on_want_stat, good_on_want_type_param}
-use Rattle.pp_grammar_laws.proofs.FaultExprs.{good_on_args_open, good_on_dot, good_on_have, good_on_have_matched, good_on_have_negative, good_on_if, good_on_int, good_on_int_dot, good_on_match_word, good_on_matched_dot, good_on_minus, good_on_name, good_on_name_types, good_on_negative_dot, good_on_want, good_on_want_case, good_on_want_else, good_on_want_then}
-use Rattle.pp_grammar_laws.proofs.FaultTypes.{good_on_have_pattern, good_on_have_type, good_on_pattern_args_open, good_on_pattern_minus, good_on_pattern_name, good_on_type_name, good_on_want_pattern, good_on_want_type}
+use Rattle.pp_grammar_laws.proofs.FaultBodies.{good_on_after_body, good_on_after_claim, good_on_after_decreases}
+use Rattle.pp_grammar_laws.proofs.FaultBodies.{good_on_after_ensuring, good_on_after_last, good_on_after_params}
+use Rattle.pp_grammar_laws.proofs.FaultBodies.{good_on_after_require, good_on_after_stat, good_on_after_tuple}
+use Rattle.pp_grammar_laws.proofs.FaultBodies.{good_on_after_type_param, good_on_after_type_params, good_on_assert_word}
+use Rattle.pp_grammar_laws.proofs.FaultBodies.{good_on_contracted_dot, good_on_have_contracted, good_on_head_name}
+use Rattle.pp_grammar_laws.proofs.FaultBodies.{good_on_lambda_closed, good_on_lambda_name, good_on_lambda_round}
+use Rattle.pp_grammar_laws.proofs.FaultBodies.{good_on_lambda_round_name, good_on_lambda_typed, good_on_measure_open}
+use Rattle.pp_grammar_laws.proofs.FaultBodies.{good_on_object_name, good_on_param_name, good_on_params_open}
+use Rattle.pp_grammar_laws.proofs.FaultBodies.{good_on_val_name, good_on_val_word, good_on_want_body}
+use Rattle.pp_grammar_laws.proofs.FaultBodies.{good_on_want_lambda, good_on_want_lambda_or_semi, good_on_want_name}
+use Rattle.pp_grammar_laws.proofs.FaultBodies.{good_on_want_object_name, good_on_want_param, good_on_want_stat}
+use Rattle.pp_grammar_laws.proofs.FaultBodies.{good_on_want_type_param}
+use Rattle.pp_grammar_laws.proofs.FaultExprs.{good_on_args_open, good_on_dot, good_on_have, good_on_have_matched}
+use Rattle.pp_grammar_laws.proofs.FaultExprs.{good_on_have_negative, good_on_if, good_on_int, good_on_int_dot}
+use Rattle.pp_grammar_laws.proofs.FaultExprs.{good_on_match_word, good_on_matched_dot, good_on_minus, good_on_name}
+use Rattle.pp_grammar_laws.proofs.FaultExprs.{good_on_name_types, good_on_negative_dot, good_on_want, good_on_want_case}
+use Rattle.pp_grammar_laws.proofs.FaultExprs.{good_on_want_else, good_on_want_then}
+use Rattle.pp_grammar_laws.proofs.FaultTypes.{good_on_have_pattern, good_on_have_type, good_on_pattern_args_open}
+use Rattle.pp_grammar_laws.proofs.FaultTypes.{good_on_pattern_minus, good_on_pattern_name, good_on_type_name}
+use Rattle.pp_grammar_laws.proofs.FaultTypes.{good_on_want_pattern, good_on_want_type}
 use Rattle.pp_grammar_laws.proofs.Faults.{GoodFrames, GoodMode, GoodMove, NameOk}
 use Rattle.pp_tokens.specs.declared.token.Token.{Token}
 use Rattle.pp_tokens.specs.declared.token.TokenKind.TheVariants.{Name}

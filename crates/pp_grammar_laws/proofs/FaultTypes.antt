@@ -1,7 +1,14 @@
 -- The faults of each step in a type or a pattern.
-use Rattle.pp_grammar.specs.Frames.{Frame, cases_of, header, name_types, naming, object_parent, of_class, of_def, param_type, parent_type, pattern_args, pattern_round, result_name_type, result_name_type_in_round, result_type, type_args, val_type}
+use Rattle.pp_grammar.specs.Frames.{Frame, cases_of, header, name_types, naming, object_parent, of_class, of_def}
+use Rattle.pp_grammar.specs.Frames.{param_type, parent_type, pattern_args, pattern_round, result_name_type}
+use Rattle.pp_grammar.specs.Frames.{result_name_type_in_round, result_type, type_args, val_type}
 use Rattle.pp_grammar.specs.Patterns.{named_at}
-use Rattle.pp_grammar.specs.StepTypes.{on_case_pattern, on_have_pattern, on_have_type, on_int_pattern, on_name_type, on_named_pattern, on_naming, on_param_type, on_parent_type, on_pattern_arg, on_pattern_args_open, on_pattern_at, on_pattern_minus, on_pattern_name, on_pattern_round, on_result_name_type, on_result_name_type_in_round, on_result_type, on_type_arg, on_type_name, on_val_type, on_want_pattern, on_want_type, pattern_of_name, pattern_place, refuse}
+use Rattle.pp_grammar.specs.StepTypes.{on_case_pattern, on_have_pattern, on_have_type, on_int_pattern, on_name_type}
+use Rattle.pp_grammar.specs.StepTypes.{on_named_pattern, on_naming, on_param_type, on_parent_type, on_pattern_arg}
+use Rattle.pp_grammar.specs.StepTypes.{on_pattern_args_open, on_pattern_at, on_pattern_minus, on_pattern_name}
+use Rattle.pp_grammar.specs.StepTypes.{on_pattern_round, on_result_name_type, on_result_name_type_in_round}
+use Rattle.pp_grammar.specs.StepTypes.{on_result_type, on_type_arg, on_type_name, on_val_type, on_want_pattern}
+use Rattle.pp_grammar.specs.StepTypes.{on_want_type, pattern_of_name, pattern_place, refuse}
 use Rattle.pp_grammar.specs.Words.{binds, is_signed, negated_of, negative_of, number_of, word}
 use Rattle.pp_grammar_laws.proofs.Faults.{GoodFrames, GoodMove, GoodPattern, NameOk, good_named, refusal_good}
 use Rattle.pp_tokens.specs.declared.token.Bracket.TheVariants.{CloseRound, CloseSquare, Comma, OpenRound, OpenSquare}

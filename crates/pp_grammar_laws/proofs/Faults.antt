@@ -1,7 +1,11 @@
--- What a fault may say: its offset begins a token, and its name is one that is left out. Here B tells of an offset that a
--- token begins there, and L of a name and an offset that the name is left out there.
+-- What a fault may say: its offset begins a token, and its name is one that is left out. Here B tells of an offset that
+-- a token begins there, and L of a name and an offset that the name is left out there.
 use Rattle.std.specs.Prelude.{nat_le}
-use Rattle.pp_grammar.specs.Frames.{Contracts, Fault, Frame, Mode, Move, Placed, after_assert, after_decreases, after_int, after_lambda_closed, after_lambda_name, after_lambda_round_name, after_pattern_minus, after_pattern_name, after_val, body_of, ends, go, have_pattern, head_braces, if_rest, left, measuring, naming, pattern_args, pattern_args_open, prefixing, stop, syntax_at, unsupported_at}
+use Rattle.pp_grammar.specs.Frames.{Contracts, Fault, Frame, Mode, Move, Placed, after_assert, after_decreases}
+use Rattle.pp_grammar.specs.Frames.{after_int, after_lambda_closed, after_lambda_name, after_lambda_round_name}
+use Rattle.pp_grammar.specs.Frames.{after_pattern_minus, after_pattern_name, after_val, body_of, ends, go, have_pattern}
+use Rattle.pp_grammar.specs.Frames.{head_braces, if_rest, left, measuring, naming, pattern_args, pattern_args_open}
+use Rattle.pp_grammar.specs.Frames.{prefixing, stop, syntax_at, unsupported_at}
 use Rattle.pp_grammar.specs.Joining.{Operand, first_or, late_behind, seal, unwind}
 use Rattle.pp_grammar.specs.Patterns.{named_at}
 use Rattle.pp_grammar.specs.StepTypes.{fault_at, pattern_place, refuse, refused_name}
@@ -9,7 +13,8 @@ use Rattle.pp_grammar.specs.Words.{Role, decreases_word, level, require_word, ro
 use Rattle.pp_tokens.specs.declared.token.Token.{Token}
 use Rattle.pp_tokens.specs.declared.token.TokenKind.{TokenKind}
 use Rattle.pp_tokens.specs.declared.token.TokenKind.TheVariants.{Name}
-use Rattle.pp_tree.specs.Plain.{PatternTree, Tree, Word, any, assert_in, binary, bool_pattern, choice, ctor_pattern, int_pattern, unary, val_in}
+use Rattle.pp_tree.specs.Plain.{PatternTree, Tree, Word, any, assert_in, binary, bool_pattern, choice, ctor_pattern}
+use Rattle.pp_tree.specs.Plain.{int_pattern, unary, val_in}
 use Rattle.std.proofs.Common.{Bool, List, None, Option, Some, [], cond, false, refl, true, ℕ, ◌||◌, ◌∷◌, ◌≡◌}
 
 -- a name that stands at the offset

@@ -1,5 +1,12 @@
 -- Sizes and offsets of bodies.
-use Rattle.pp_grammar.specs.Bodies.{Contract, IsBody, IsClosed, IsContract, IsContractBlock, IsContracts, IsHead, IsHole, IsLambda, IsMeasure, IsPost, block_alone, closed_block, closed_matched, closed_simple, components, contract_block, decreases, dot_ensuring, dot_holds, ensuring, expr_alone, head_block, head_infix, head_matched, holding_at, holds, hole, hole_on_left, hole_on_right, last_component, looser_hole, measure, measure_of_tuple, no_contract, of_hole, of_name, of_name_in_round, of_typed_name, one_more_component, one_more_contract, post_at, post_in_braces, post_in_round, prefixed_hole, require, requirement, requirements}
+use Rattle.pp_grammar.specs.Bodies.{Contract, IsBody, IsClosed, IsContract, IsContractBlock, IsContracts, IsHead}
+use Rattle.pp_grammar.specs.Bodies.{IsHole, IsLambda, IsMeasure, IsPost, block_alone, closed_block, closed_matched}
+use Rattle.pp_grammar.specs.Bodies.{closed_simple, components, contract_block, decreases, dot_ensuring, dot_holds}
+use Rattle.pp_grammar.specs.Bodies.{ensuring, expr_alone, head_block, head_infix, head_matched, holding_at, holds, hole}
+use Rattle.pp_grammar.specs.Bodies.{hole_on_left, hole_on_right, last_component, looser_hole, measure, measure_of_tuple}
+use Rattle.pp_grammar.specs.Bodies.{no_contract, of_hole, of_name, of_name_in_round, of_typed_name, one_more_component}
+use Rattle.pp_grammar.specs.Bodies.{one_more_contract, post_at, post_in_braces, post_in_round, prefixed_hole, require}
+use Rattle.pp_grammar.specs.Bodies.{requirement, requirements}
 use Rattle.pp_grammar.specs.Words.{res}
 use Rattle.pp_grammar_laws.proofs.SizeExprs.{size_expr, size_fields, size_infix, size_matched, size_simple, size_stats}
 use Rattle.pp_grammar_laws.proofs.SizeTypes.{size_ascription, size_gap, size_semis, size_type}

@@ -1,12 +1,20 @@
 -- Sizes and offsets of declarations and imports.
-use Rattle.pp_grammar.specs.Units.{IsAnnotations, IsChoice, IsClass, IsDef, IsImportText, IsModified, IsNames, IsParamList, IsParams, IsParent, IsPath, IsTypeParams, Modifiers, case_object, class_decl, class_of, def_of, empty_list, import_all, import_path, import_some, last_chosen, last_name, last_of_path, last_param, more_of_path, no_annotation, no_list, no_modifier, no_parent, no_type_params, one_annotation, one_modifier, one_more_chosen, one_more_name, one_more_param, param_at, param_list, parent, root_or_other, type_params}
+use Rattle.pp_grammar.specs.Units.{IsAnnotations, IsChoice, IsClass, IsDef, IsImportText, IsModified, IsNames}
+use Rattle.pp_grammar.specs.Units.{IsParamList, IsParams, IsParent, IsPath, IsTypeParams, Modifiers, case_object}
+use Rattle.pp_grammar.specs.Units.{class_decl, class_of, def_of, empty_list, import_all, import_path, import_some}
+use Rattle.pp_grammar.specs.Units.{last_chosen, last_name, last_of_path, last_param, more_of_path, no_annotation}
+use Rattle.pp_grammar.specs.Units.{no_list, no_modifier, no_parent, no_type_params, one_annotation, one_modifier}
+use Rattle.pp_grammar.specs.Units.{one_more_chosen, one_more_name, one_more_param, param_at, param_list, parent}
+use Rattle.pp_grammar.specs.Units.{root_or_other, type_params}
 use Rattle.pp_grammar.specs.Words.{word}
 use Rattle.pp_grammar_laws.proofs.SizeBodies.{size_body}
 use Rattle.pp_grammar_laws.proofs.SizeTypes.{size_break, size_type}
 use Rattle.pp_grammar_laws.proofs.Sized.{Ok, Sized, head, tail}
 use Rattle.pp_tokens.specs.declared.token.Token.{Token}
-use Rattle.pp_tree.specs.Count.{DeclFewCases, FewCases, ListFewCases, PostFewCases, decl_nodes, list_nodes, nodes, post_nodes}
-use Rattle.pp_tree.specs.Offsets.{ClassOffsets, DeclOffsets, ListOffsets, Offsets, ParamOffsets, PostOffsets, TypeOffsets, WrittenOffsets}
+use Rattle.pp_tree.specs.Count.{DeclFewCases, FewCases, ListFewCases, PostFewCases, decl_nodes, list_nodes, nodes}
+use Rattle.pp_tree.specs.Count.{post_nodes}
+use Rattle.pp_tree.specs.Offsets.{ClassOffsets, DeclOffsets, ListOffsets, Offsets, ParamOffsets, PostOffsets}
+use Rattle.pp_tree.specs.Offsets.{TypeOffsets, WrittenOffsets}
 use Rattle.pp_tree.specs.Plain.{ClassTree, DeclTree, ParamTree, PostTree, Tree, TypeTree, Word, ctor, def}
 use Rattle.std.proofs.Common.{Bool, List, None, Option, Some, [], arith, false, refl, true, ℕ, ◌+◌, ◌∷◌, ◌≡◌}
 

@@ -1,14 +1,25 @@
 -- Sizes and offsets of expressions.
-use Rattle.pp_grammar.specs.Exprs.{IsArguments, IsBlock, IsCase, IsCases, IsExpr, IsExprs, IsFields, IsGuard, IsInfix, IsMatched, IsPrefix, IsPrimary, IsRest, IsSemicolon, IsSimple, IsStats, arguments, assert_stat, at_types, at_types_on_arguments, block, bound, case_of, false_word, guard, if_else, in_block, in_round, infix_expr, last_case, last_expr, last_of_exprs, looser, match_of, matched, name_alone, negative, no_arguments, no_field, no_guard, no_prefix, no_semicolon, number, on_arguments, one_field, one_more_case, one_more_expr, operand, operator, prefixed, rest, semicolon, simple, true_word, val_stat}
+use Rattle.pp_grammar.specs.Exprs.{IsArguments, IsBlock, IsCase, IsCases, IsExpr, IsExprs, IsFields, IsGuard, IsInfix}
+use Rattle.pp_grammar.specs.Exprs.{IsMatched, IsPrefix, IsPrimary, IsRest, IsSemicolon, IsSimple, IsStats, arguments}
+use Rattle.pp_grammar.specs.Exprs.{assert_stat, at_types, at_types_on_arguments, block, bound, case_of, false_word}
+use Rattle.pp_grammar.specs.Exprs.{guard, if_else, in_block, in_round, infix_expr, last_case, last_expr, last_of_exprs}
+use Rattle.pp_grammar.specs.Exprs.{looser, match_of, matched, name_alone, negative, no_arguments, no_field, no_guard}
+use Rattle.pp_grammar.specs.Exprs.{no_prefix, no_semicolon, number, on_arguments, one_field, one_more_case}
+use Rattle.pp_grammar.specs.Exprs.{one_more_expr, operand, operator, prefixed, rest, semicolon, simple, true_word}
+use Rattle.pp_grammar.specs.Exprs.{val_stat}
 use Rattle.pp_grammar.specs.Words.{word}
 use Rattle.pp_grammar_laws.proofs.SizePatterns.{size_pattern}
 use Rattle.pp_grammar_laws.proofs.SizeTypes.{size_ascription, size_breaks, size_gap, size_semis, size_types}
 use Rattle.pp_grammar_laws.proofs.Sized.{Ok, Sized, head, tail}
 use Rattle.pp_tokens.specs.declared.token.Operator.{Operator}
 use Rattle.pp_tokens.specs.declared.token.Token.{Token}
-use Rattle.pp_tree.specs.Count.{AllFewCases, CasesFewCases, FewCases, MaybeFewCases, case_count, case_nodes, maybe_nodes, nodes, nodes_of}
-use Rattle.pp_tree.specs.Offsets.{AllOffsets, CaseOffsets, MaybeOffsets, Offsets, PatternOffsets, TypesOffsets, WrittenOffsets}
-use Rattle.pp_tree.specs.Plain.{CaseTrees, PatternTree, Tree, Trees, TypeTree, TypeTrees, Word, apply, assert_in, binary, bool, choice, field, int, matching, more_trees, name, no_cases, no_trees, no_types, unary, val_in}
+use Rattle.pp_tree.specs.Count.{AllFewCases, CasesFewCases, FewCases, MaybeFewCases, case_count, case_nodes}
+use Rattle.pp_tree.specs.Count.{maybe_nodes, nodes, nodes_of}
+use Rattle.pp_tree.specs.Offsets.{AllOffsets, CaseOffsets, MaybeOffsets, Offsets, PatternOffsets, TypesOffsets}
+use Rattle.pp_tree.specs.Offsets.{WrittenOffsets}
+use Rattle.pp_tree.specs.Plain.{CaseTrees, PatternTree, Tree, Trees, TypeTree, TypeTrees, Word, apply, assert_in}
+use Rattle.pp_tree.specs.Plain.{binary, bool, choice, field, int, matching, more_trees, name, no_cases, no_trees}
+use Rattle.pp_tree.specs.Plain.{no_types, unary, val_in}
 use Rattle.pp_tree.specs.Shown.{case_before}
 use Rattle.pp_tree.specs.declared.operator.BinaryOp.{BinaryOp}
 use Rattle.pp_tree.specs.declared.operator.UnaryOp.{UnaryOp}

@@ -1,10 +1,14 @@
 -- Sizes and offsets of patterns.
-use Rattle.pp_grammar.specs.Patterns.{IsPattern, IsPatterns, IsPlain, anything, binding, constructor_alone, constructor_of, constructor_of_none, false_pattern, last_pattern, named_at, named_pattern, negated_pattern, number_pattern, one_more_pattern, pattern_in_round, signed_pattern, true_pattern, unnamed}
+use Rattle.pp_grammar.specs.Patterns.{IsPattern, IsPatterns, IsPlain, anything, binding, constructor_alone}
+use Rattle.pp_grammar.specs.Patterns.{constructor_of, constructor_of_none, false_pattern, last_pattern, named_at}
+use Rattle.pp_grammar.specs.Patterns.{named_pattern, negated_pattern, number_pattern, one_more_pattern}
+use Rattle.pp_grammar.specs.Patterns.{pattern_in_round, signed_pattern, true_pattern, unnamed}
 use Rattle.pp_grammar.specs.Words.{word}
 use Rattle.pp_grammar_laws.proofs.Sized.{Ok, Sized, head, tail}
 use Rattle.pp_tokens.specs.declared.token.Token.{Token}
 use Rattle.pp_tree.specs.Offsets.{PatternOffsets, PatternsOffsets}
-use Rattle.pp_tree.specs.Plain.{PatternTree, PatternTrees, Word, any, bool_pattern, ctor_pattern, int_pattern, more_patterns, no_patterns}
+use Rattle.pp_tree.specs.Plain.{PatternTree, PatternTrees, Word, any, bool_pattern, ctor_pattern, int_pattern}
+use Rattle.pp_tree.specs.Plain.{more_patterns, no_patterns}
 use Rattle.std.proofs.Common.{List, None, Option, Some, arith, false, subst, true, ℕ, ℤ, ◌∷◌, ◌≡◌}
 
 module _ (text : Word) (n : ℕ) (P : ℕ → Type 0) where

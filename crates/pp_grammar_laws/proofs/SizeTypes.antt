@@ -1,5 +1,7 @@
 -- Sizes and offsets of types.
-use Rattle.pp_grammar.specs.Types.{IsAscription, IsBreak, IsBreaks, IsGap, IsSemis, IsType, IsTypes, ascribed, last_type, more_newlines, no_newline, no_newlines, no_semi, no_type, one_more_type, one_newline, one_semi, semis, type_name, type_of}
+use Rattle.pp_grammar.specs.Types.{IsAscription, IsBreak, IsBreaks, IsGap, IsSemis, IsType, IsTypes, ascribed}
+use Rattle.pp_grammar.specs.Types.{last_type, more_newlines, no_newline, no_newlines, no_semi, no_type, one_more_type}
+use Rattle.pp_grammar.specs.Types.{one_newline, one_semi, semis, type_name, type_of}
 use Rattle.pp_grammar.specs.Words.{word}
 use Rattle.pp_grammar_laws.proofs.Sized.{Ok, Sized, head, tail}
 use Rattle.pp_tokens.specs.declared.token.Token.{Token}

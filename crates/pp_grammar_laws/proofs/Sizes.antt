@@ -1,5 +1,11 @@
 -- Sizes and offsets of a unit that is spelled.
-use Rattle.pp_grammar.specs.Units.{IsClass, IsDef, IsImport, IsItem, IsItems, IsMember, IsMembers, IsMoreItems, IsMoreMembers, IsObject, IsPackages, Piece, SpellsUnit, case_object, class_decl, class_of, decl_piece, decls_of, import_piece, imports_of, item_class, item_import, item_object, items, library, member_class, member_def, member_import, members, no_items, no_members, no_more_items, no_more_members, no_package, object_of, object_piece, of_object, one_more_item, one_more_member, one_package, root_or_other, unit}
+use Rattle.pp_grammar.specs.Units.{IsClass, IsDef, IsImport, IsItem, IsItems, IsMember, IsMembers, IsMoreItems}
+use Rattle.pp_grammar.specs.Units.{IsMoreMembers, IsObject, IsPackages, Piece, SpellsUnit, case_object, class_decl}
+use Rattle.pp_grammar.specs.Units.{class_of, decl_piece, decls_of, import_piece, imports_of, item_class, item_import}
+use Rattle.pp_grammar.specs.Units.{item_object, items, library, member_class, member_def, member_import, members}
+use Rattle.pp_grammar.specs.Units.{no_items, no_members, no_more_items, no_more_members, no_package, object_of}
+use Rattle.pp_grammar.specs.Units.{object_piece, of_object, one_more_item, one_more_member, one_package, root_or_other}
+use Rattle.pp_grammar.specs.Units.{unit}
 use Rattle.pp_grammar_laws.proofs.SizeDecls.{size_class, size_def, size_import_text, size_path}
 use Rattle.pp_grammar_laws.proofs.SizeTypes.{size_break, size_gap, size_semis}
 use Rattle.pp_grammar_laws.proofs.Sized.{OffsetsOf, Ok, tail}
@@ -8,7 +14,8 @@ use Rattle.pp_tokens.specs.declared.token.Token.{Token}
 use Rattle.pp_tree.specs.Count.{DeclsFewCases, UnitFewCases, decl_nodes, decls_nodes, unit_nodes}
 use Rattle.pp_tree.specs.Offsets.{DeclsOffsets, ImportsOffsets, UnitOffsets}
 use Rattle.pp_tree.specs.Plain.{ClassTree, DeclTree, ParamTree, TypeTree, UnitTree, Word}
-use Rattle.std.proofs.Common.{Bool, List, None, Option, Some, [], arith, false, inl, inr, length, refl, subst, suc, sym, true, zero, ℕ, ◌++◌, ◌+◌, ◌<◌, ◌∙◌, ◌∷◌, ◌≡◌, ◌≤◌, ◌⊎◌}
+use Rattle.std.proofs.Common.{Bool, List, None, Option, Some, [], arith, false, inl, inr, length, refl, subst, suc, sym}
+use Rattle.std.proofs.Common.{true, zero, ℕ, ◌++◌, ◌+◌, ◌<◌, ◌∙◌, ◌∷◌, ◌≡◌, ◌≤◌, ◌⊎◌}
 use Rattle.std.proofs.lemmas.List.{append_assoc}
 use Rattle.std.proofs.lemmas.List.{append_assoc}
 

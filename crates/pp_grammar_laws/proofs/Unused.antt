@@ -1,17 +1,46 @@
 -- A unit that is spelled has no reserved word that the grammar doesn't use.
-use Rattle.pp_grammar.specs.Bodies.{Contract, IsBody, IsClosed, IsContract, IsContractBlock, IsContracts, IsHead, IsHole, IsLambda, IsMeasure, IsPost, block_alone, closed_block, closed_matched, closed_simple, contract_block, dot_ensuring, dot_holds, ensuring, expr_alone, head_block, head_infix, head_matched, holds, hole, hole_on_left, hole_on_right, last_component, looser_hole, measure, measure_of_tuple, no_contract, of_hole, of_name, of_name_in_round, of_typed_name, one_more_component, one_more_contract, post_in_braces, post_in_round, prefixed_hole, requirement}
-use Rattle.pp_grammar.specs.Exprs.{IsArguments, IsBlock, IsCase, IsCases, IsExpr, IsExprs, IsFields, IsGuard, IsInfix, IsMatched, IsPrefix, IsPrimary, IsRest, IsSemicolon, IsSimple, IsStats, arguments, assert_stat, at_types, at_types_on_arguments, block, bound, case_of, false_word, guard, if_else, in_block, in_round, infix_expr, last_case, last_expr, last_of_exprs, looser, match_of, matched, name_alone, negative, no_arguments, no_field, no_guard, no_prefix, no_semicolon, number, on_arguments, one_field, one_more_case, one_more_expr, operand, operator, prefixed, rest, semicolon, simple, true_word, val_stat}
+use Rattle.pp_grammar.specs.Bodies.{Contract, IsBody, IsClosed, IsContract, IsContractBlock, IsContracts, IsHead}
+use Rattle.pp_grammar.specs.Bodies.{IsHole, IsLambda, IsMeasure, IsPost, block_alone, closed_block, closed_matched}
+use Rattle.pp_grammar.specs.Bodies.{closed_simple, contract_block, dot_ensuring, dot_holds, ensuring, expr_alone}
+use Rattle.pp_grammar.specs.Bodies.{head_block, head_infix, head_matched, holds, hole, hole_on_left, hole_on_right}
+use Rattle.pp_grammar.specs.Bodies.{last_component, looser_hole, measure, measure_of_tuple, no_contract, of_hole}
+use Rattle.pp_grammar.specs.Bodies.{of_name, of_name_in_round, of_typed_name, one_more_component, one_more_contract}
+use Rattle.pp_grammar.specs.Bodies.{post_in_braces, post_in_round, prefixed_hole, requirement}
+use Rattle.pp_grammar.specs.Exprs.{IsArguments, IsBlock, IsCase, IsCases, IsExpr, IsExprs, IsFields, IsGuard, IsInfix}
+use Rattle.pp_grammar.specs.Exprs.{IsMatched, IsPrefix, IsPrimary, IsRest, IsSemicolon, IsSimple, IsStats, arguments}
+use Rattle.pp_grammar.specs.Exprs.{assert_stat, at_types, at_types_on_arguments, block, bound, case_of, false_word}
+use Rattle.pp_grammar.specs.Exprs.{guard, if_else, in_block, in_round, infix_expr, last_case, last_expr, last_of_exprs}
+use Rattle.pp_grammar.specs.Exprs.{looser, match_of, matched, name_alone, negative, no_arguments, no_field, no_guard}
+use Rattle.pp_grammar.specs.Exprs.{no_prefix, no_semicolon, number, on_arguments, one_field, one_more_case}
+use Rattle.pp_grammar.specs.Exprs.{one_more_expr, operand, operator, prefixed, rest, semicolon, simple, true_word}
+use Rattle.pp_grammar.specs.Exprs.{val_stat}
 use Rattle.pp_grammar.specs.LeftOut.{first_unused, is_unused}
-use Rattle.pp_grammar.specs.Patterns.{IsPattern, IsPatterns, IsPlain, anything, binding, constructor_alone, constructor_of, constructor_of_none, false_pattern, last_pattern, named_pattern, negated_pattern, number_pattern, one_more_pattern, pattern_in_round, signed_pattern, true_pattern, unnamed}
-use Rattle.pp_grammar.specs.Types.{IsAscription, IsBreak, IsBreaks, IsGap, IsSemis, IsType, IsTypes, ascribed, last_type, more_newlines, no_newline, no_newlines, no_semi, no_type, one_more_type, one_newline, one_semi, semis, type_name, type_of}
-use Rattle.pp_grammar.specs.Units.{IsAnnotations, IsChoice, IsClass, IsDef, IsImport, IsImportText, IsItem, IsItems, IsMember, IsMembers, IsModified, IsMoreItems, IsMoreMembers, IsNames, IsObject, IsPackages, IsParamList, IsParams, IsParent, IsPath, IsTypeParams, Modifiers, Piece, SpellsUnit, case_object, class_of, def_of, empty_list, import_all, import_path, import_some, item_class, item_import, item_object, items, last_chosen, last_name, last_of_path, last_param, library, member_class, member_def, member_import, members, modified, more_of_path, no_annotation, no_items, no_list, no_members, no_modifier, no_more_items, no_more_members, no_package, no_parent, no_type_params, object_of, of_object, one_annotation, one_modifier, one_more_chosen, one_more_item, one_more_member, one_more_name, one_more_param, one_package, param_list, parent, type_params, unit}
+use Rattle.pp_grammar.specs.Patterns.{IsPattern, IsPatterns, IsPlain, anything, binding, constructor_alone}
+use Rattle.pp_grammar.specs.Patterns.{constructor_of, constructor_of_none, false_pattern, last_pattern, named_pattern}
+use Rattle.pp_grammar.specs.Patterns.{negated_pattern, number_pattern, one_more_pattern, pattern_in_round}
+use Rattle.pp_grammar.specs.Patterns.{signed_pattern, true_pattern, unnamed}
+use Rattle.pp_grammar.specs.Types.{IsAscription, IsBreak, IsBreaks, IsGap, IsSemis, IsType, IsTypes, ascribed}
+use Rattle.pp_grammar.specs.Types.{last_type, more_newlines, no_newline, no_newlines, no_semi, no_type, one_more_type}
+use Rattle.pp_grammar.specs.Types.{one_newline, one_semi, semis, type_name, type_of}
+use Rattle.pp_grammar.specs.Units.{IsAnnotations, IsChoice, IsClass, IsDef, IsImport, IsImportText, IsItem, IsItems}
+use Rattle.pp_grammar.specs.Units.{IsMember, IsMembers, IsModified, IsMoreItems, IsMoreMembers, IsNames, IsObject}
+use Rattle.pp_grammar.specs.Units.{IsPackages, IsParamList, IsParams, IsParent, IsPath, IsTypeParams, Modifiers, Piece}
+use Rattle.pp_grammar.specs.Units.{SpellsUnit, case_object, class_of, def_of, empty_list, import_all, import_path}
+use Rattle.pp_grammar.specs.Units.{import_some, item_class, item_import, item_object, items, last_chosen, last_name}
+use Rattle.pp_grammar.specs.Units.{last_of_path, last_param, library, member_class, member_def, member_import, members}
+use Rattle.pp_grammar.specs.Units.{modified, more_of_path, no_annotation, no_items, no_list, no_members, no_modifier}
+use Rattle.pp_grammar.specs.Units.{no_more_items, no_more_members, no_package, no_parent, no_type_params, object_of}
+use Rattle.pp_grammar.specs.Units.{of_object, one_annotation, one_modifier, one_more_chosen, one_more_item}
+use Rattle.pp_grammar.specs.Units.{one_more_member, one_more_name, one_more_param, one_package, param_list, parent}
+use Rattle.pp_grammar.specs.Units.{type_params, unit}
 use Rattle.pp_grammar.specs.Words.{is_semi, is_trait_word, negated_of, negative_of, number_of}
 use Rattle.pp_grammar_laws.specs.Laws.{SpellsNone}
 use Rattle.pp_tokens.specs.declared.token.Reserved.TheVariants.{Abstract, Case, Class, Final, Sealed, Trait}
 use Rattle.pp_tokens.specs.declared.token.Token.{Token}
 use Rattle.pp_tokens.specs.declared.token.TokenKind.{TokenKind}
 use Rattle.pp_tokens.specs.declared.token.TokenKind.TheVariants.{Hex, Mark, Newline, Number, Word as Reserve}
-use Rattle.pp_tree.specs.Plain.{CaseTrees, DeclTree, ParamTree, PatternTree, PatternTrees, PostTree, Tree, Trees, TypeTree, TypeTrees, UnitTree, Word}
+use Rattle.pp_tree.specs.Plain.{CaseTrees, DeclTree, ParamTree, PatternTree, PatternTrees, PostTree, Tree, Trees}
+use Rattle.pp_tree.specs.Plain.{TypeTree, TypeTrees, UnitTree, Word}
 use Rattle.std.proofs.Common.{Bool, List, None, Option, Some, [], ap, cond, false, refl, sym, true, ℕ, ℤ, ◌∙◌, ◌∷◌, ◌≡◌}
 
 semi_used : (k : TokenKind) → is_semi k ≡ true → is_unused k ≡ false

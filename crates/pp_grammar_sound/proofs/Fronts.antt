@@ -6,9 +6,11 @@ use Rattle.pp_tokens.specs.declared.token.Operator.TheVariants.{Colon}
 use Rattle.pp_tokens.specs.declared.token.Bracket.TheVariants.{Comma}
 use Rattle.pp_tree.specs.Plain.{Word, TypeTree, TypeTrees, PatternTree, PatternTrees, Tree, Trees, CaseTrees, ParamTree}
 use Rattle.pp_grammar.specs.Words.{word, is_semi, role, plain}
-use Rattle.pp_grammar.specs.Types.{IsGap, no_semi, one_semi, IsSemis, semis, IsBreaks, no_newlines, more_newlines, IsType, IsTypes, one_more_type}
+use Rattle.pp_grammar.specs.Types.{IsGap, no_semi, one_semi, IsSemis, semis, IsBreaks, no_newlines, more_newlines}
+use Rattle.pp_grammar.specs.Types.{IsType, IsTypes, one_more_type}
 use Rattle.pp_grammar.specs.Patterns.{IsPattern, IsPatterns, one_more_pattern}
-use Rattle.pp_grammar.specs.Exprs.{IsExpr, IsExprs, one_more_expr, IsCase, IsCases, one_more_case, IsFields, no_field, one_field}
+use Rattle.pp_grammar.specs.Exprs.{IsExpr, IsExprs, one_more_expr, IsCase, IsCases, one_more_case, IsFields, no_field}
+use Rattle.pp_grammar.specs.Exprs.{one_field}
 use Rattle.pp_grammar.specs.Bodies.{IsMeasure, one_more_component}
 use Rattle.pp_grammar.specs.Units.{IsNames, one_more_name, IsParams, one_more_param, param_at}
 use Rattle.pp_grammar.specs.Frames.{CaseText}

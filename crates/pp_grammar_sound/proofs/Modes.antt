@@ -4,22 +4,39 @@ use Rattle.pp_tokens.specs.declared.token.Token.{Token}
 use Rattle.pp_tokens.specs.declared.token.TokenKind.TheVariants.{Name, Word as Reserve, Op, Mark}
 use Rattle.pp_tokens.specs.declared.token.Reserved.TheVariants.{Case, Def, If, Match, Object, Val}
 use Rattle.pp_tokens.specs.declared.token.Operator.TheVariants.{Minus, Colon}
-use Rattle.pp_tokens.specs.declared.token.Bracket.TheVariants.{OpenRound, CloseRound, OpenSquare, OpenBrace, Comma, Dot, Semicolon}
+use Rattle.pp_tokens.specs.declared.token.Bracket.TheVariants.{OpenRound, CloseRound, OpenSquare, OpenBrace, Comma, Dot}
+use Rattle.pp_tokens.specs.declared.token.Bracket.TheVariants.{Semicolon}
 use Rattle.pp_tree.specs.Plain.{Word, TypeTree, TypeTrees, PatternTree, Tree, PostTree}
-use Rattle.pp_grammar.specs.Words.{word, role, plain, require_word, decreases_word, assert_word, loosest, tightest, is_sign, is_trait_word}
+use Rattle.pp_grammar.specs.Words.{word, role, plain, require_word, decreases_word, assert_word, loosest, tightest}
+use Rattle.pp_grammar.specs.Words.{is_sign, is_trait_word}
 use Rattle.pp_grammar.specs.Types.{IsGap, IsType}
 use Rattle.pp_grammar.specs.Patterns.{IsPlain}
 use Rattle.pp_grammar.specs.Exprs.{IsExpr, IsInfix, IsFields, IsMatched}
 use Rattle.pp_grammar.specs.Bodies.{IsLambda, IsContractBlock, IsMeasure, IsBody}
 use Rattle.pp_grammar.specs.Units.{IsAnnotations, Modifiers, unmodified, IsModified}
-use Rattle.pp_grammar.specs.Frames.{Head, Kind, of_class, of_def, Contracts, in_braces, Frame, header, body_of, head_braces, measuring, post_of, cases_of, after_assert}
+use Rattle.pp_grammar.specs.Frames.{Head, Kind, of_class, of_def, Contracts, in_braces, Frame, header, body_of}
+use Rattle.pp_grammar.specs.Frames.{head_braces, measuring, post_of, cases_of, after_assert}
 use Rattle.pp_grammar.specs.Joining.{onto, floor, no_contracts, with_word, has_measure}
 use Rattle.pp_tree.specs.Plain.{int, DeclTree}
 use Rattle.pp_grammar.specs.Words.{int_word, negative_of}
 use Rattle.pp_grammar.specs.Types.{IsTypes}
 use Rattle.pp_grammar.specs.Units.{IsDef, IsClass}
-use Rattle.pp_grammar.specs.Frames.{Mode, want, have, after_name, after_name_types, args_open, after_int, after_int_dot, after_minus, have_negative, after_negative_dot, after_dot, after_if, want_then, want_else, after_match, want_case, have_matched, after_matched_dot, want_pattern, after_pattern_name, after_pattern_minus, pattern_args_open, have_pattern, want_type, after_type_name, have_type, want_stat, after_stat, after_last, after_val_word, after_val_name, after_assert_word, after_require, after_decreases, measure_open, after_tuple, want_body, have_contracted, after_contracted_dot, after_ensuring, want_lambda_or_semi, want_lambda, after_lambda_name, after_lambda_round, after_lambda_round_name, after_lambda_closed, after_lambda_typed, after_claim, after_body, want_name, after_head_name, want_type_param, after_type_param, after_type_params, params_open, want_param, after_param_name, after_params, want_object_name, after_object_name, Move, go, stop, ends}
-use Rattle.pp_grammar_sound.proofs.Opens.{named, wanting_type_param, behind_type_param, behind_type_params, params_opened, wanting_param, behind_params, HeadAt, Signature, HeadBlock, HeadBlockEnd, SimpleText, HoleFits, Applies, Opens, ThenAt, StatAt, PostAt, EnsuringAt}
+use Rattle.pp_grammar.specs.Frames.{Mode, want, have, after_name, after_name_types, args_open, after_int, after_int_dot}
+use Rattle.pp_grammar.specs.Frames.{after_minus, have_negative, after_negative_dot, after_dot, after_if, want_then}
+use Rattle.pp_grammar.specs.Frames.{want_else, after_match, want_case, have_matched, after_matched_dot, want_pattern}
+use Rattle.pp_grammar.specs.Frames.{after_pattern_name, after_pattern_minus, pattern_args_open, have_pattern, want_type}
+use Rattle.pp_grammar.specs.Frames.{after_type_name, have_type, want_stat, after_stat, after_last, after_val_word}
+use Rattle.pp_grammar.specs.Frames.{after_val_name, after_assert_word, after_require, after_decreases, measure_open}
+use Rattle.pp_grammar.specs.Frames.{after_tuple, want_body, have_contracted, after_contracted_dot, after_ensuring}
+use Rattle.pp_grammar.specs.Frames.{want_lambda_or_semi, want_lambda, after_lambda_name, after_lambda_round}
+use Rattle.pp_grammar.specs.Frames.{after_lambda_round_name, after_lambda_closed, after_lambda_typed, after_claim}
+use Rattle.pp_grammar.specs.Frames.{after_body, want_name, after_head_name, want_type_param, after_type_param}
+use Rattle.pp_grammar.specs.Frames.{after_type_params, params_open, want_param, after_param_name, after_params}
+use Rattle.pp_grammar.specs.Frames.{want_object_name, after_object_name, Move, go, stop, ends}
+use Rattle.pp_grammar_sound.proofs.Opens.{named, wanting_type_param, behind_type_param, behind_type_params}
+use Rattle.pp_grammar_sound.proofs.Opens.{params_opened, wanting_param, behind_params, HeadAt, Signature, HeadBlock}
+use Rattle.pp_grammar_sound.proofs.Opens.{HeadBlockEnd, SimpleText, HoleFits, Applies, Opens, ThenAt, StatAt, PostAt}
+use Rattle.pp_grammar_sound.proofs.Opens.{EnsuringAt}
 use Rattle.std.proofs.Common.{ℤ}
 
 module _ (text : Word) where

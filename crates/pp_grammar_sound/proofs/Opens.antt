@@ -9,13 +9,20 @@ use Rattle.pp_tokens.specs.declared.token.Bracket.TheVariants.{OpenRound, CloseR
 use Rattle.pp_tree.specs.declared.operator.BinaryOp.{BinaryOp}
 use Rattle.pp_tree.specs.declared.operator.UnaryOp.{UnaryOp}
 use Rattle.pp_tree.specs.Plain.{Word, TypeTree, TypeTrees, PatternTree, Tree, apply, name, Trees, ParamTree}
-use Rattle.pp_grammar.specs.Words.{word, res, role, plain, require_word, decreases_word, ensuring_word, assert_word, unary_of, binary_of, level, loosest, tightest, is_sign, is_trait_word}
+use Rattle.pp_grammar.specs.Words.{word, res, role, plain, require_word, decreases_word, ensuring_word, assert_word}
+use Rattle.pp_grammar.specs.Words.{unary_of, binary_of, level, loosest, tightest, is_sign, is_trait_word}
 use Rattle.pp_grammar.specs.Types.{IsGap, IsSemis, IsBreaks, IsType, IsAscription}
 use Rattle.pp_grammar.specs.Patterns.{IsPattern}
 use Rattle.pp_grammar.specs.Exprs.{IsExpr, IsInfix, IsSimple, IsPrimary, IsFields, IsArguments, IsGuard, IsSemicolon}
 use Rattle.pp_grammar.specs.Bodies.{IsHole, IsLambda, Contract, require, decreases, IsContract, IsHead, IsClosed}
 use Rattle.pp_grammar.specs.Units.{IsAnnotations, IsTypeParams, IsParamList, Modifiers, unmodified, IsModified}
-use Rattle.pp_grammar.specs.Frames.{Head, Kind, of_class, of_def, Placed, Contracts, CaseText, in_parentheses, in_braces, Frame, header, param_type, result_type, parent_type, object_parent, body_of, head_braces, requiring, measuring, tuple_or_round, in_tuple, post_of, claiming, claiming_hole, result_name_type, result_name_type_in_round, type_args, naming, pattern_round, pattern_args, round, name_types, args, prefixing, left, if_test, if_then, if_rest, cases_of, guarding, arm, braces, val_type, val_value, after_val, asserting, after_assert}
+use Rattle.pp_grammar.specs.Frames.{Head, Kind, of_class, of_def, Placed, Contracts, CaseText, in_parentheses}
+use Rattle.pp_grammar.specs.Frames.{in_braces, Frame, header, param_type, result_type, parent_type, object_parent}
+use Rattle.pp_grammar.specs.Frames.{body_of, head_braces, requiring, measuring, tuple_or_round, in_tuple, post_of}
+use Rattle.pp_grammar.specs.Frames.{claiming, claiming_hole, result_name_type, result_name_type_in_round, type_args}
+use Rattle.pp_grammar.specs.Frames.{naming, pattern_round, pattern_args, round, name_types, args, prefixing, left}
+use Rattle.pp_grammar.specs.Frames.{if_test, if_then, if_rest, cases_of, guarding, arm, braces, val_type, val_value}
+use Rattle.pp_grammar.specs.Frames.{after_val, asserting, after_assert}
 use Rattle.pp_grammar.specs.Joining.{onto, floor, takes_hole, no_contracts, with_word, has_measure}
 use Rattle.pp_grammar_sound.proofs.Fronts.{Front, FrontTypes, FrontPatterns, FrontCases, FrontNames, FrontParams}
 

@@ -1,21 +1,45 @@
 -- Each step in statements, contracts, postconditions and heads keeps what the modes say.
-use Rattle.pp_grammar.specs.Bodies.{IsContract, IsContractBlock, IsLambda, IsMeasure, block_alone, closed_block, decreases, dot_holds, head_block, holds, measure_of_tuple, of_name, of_name_in_round}
-use Rattle.pp_grammar.specs.Exprs.{IsExpr, IsSimple, in_round, infix_expr, last_expr, name_alone, no_field, no_prefix, operand, simple}
-use Rattle.pp_grammar.specs.Frames.{Contracts, Frame, Head, Placed, after_assert, body_of, claiming_hole, head_braces, in_braces, measuring, post_of}
+use Rattle.pp_grammar.specs.Bodies.{IsContract, IsContractBlock, IsLambda, IsMeasure, block_alone, closed_block}
+use Rattle.pp_grammar.specs.Bodies.{decreases, dot_holds, head_block, holds, measure_of_tuple, of_name}
+use Rattle.pp_grammar.specs.Bodies.{of_name_in_round}
+use Rattle.pp_grammar.specs.Exprs.{IsExpr, IsSimple, in_round, infix_expr, last_expr, name_alone, no_field, no_prefix}
+use Rattle.pp_grammar.specs.Exprs.{operand, simple}
+use Rattle.pp_grammar.specs.Frames.{Contracts, Frame, Head, Placed, after_assert, body_of, claiming_hole, head_braces}
+use Rattle.pp_grammar.specs.Frames.{in_braces, measuring, post_of}
 use Rattle.pp_grammar.specs.Joining.{def_tree, has_measure, no_contracts, onto, with_word}
-use Rattle.pp_grammar.specs.StepBodies.{on_after_claim, on_after_decreases, on_after_ensuring, on_after_last, on_after_require, on_after_stat, on_after_tuple, on_assert_word, on_contracted_dot, on_contracted_name, on_contracted_operator, on_decreases, on_decreases_word, on_have_contracted, on_lambda_closed, on_lambda_name, on_lambda_round, on_lambda_round_name, on_lambda_typed, on_late_name, on_late_round, on_measure_open, on_misplaced, on_require, on_require_word, on_stat_name, on_val_name, on_val_word, on_want_body, on_want_lambda, on_want_lambda_or_semi, on_want_stat}
+use Rattle.pp_grammar.specs.StepBodies.{on_after_claim, on_after_decreases, on_after_ensuring, on_after_last}
+use Rattle.pp_grammar.specs.StepBodies.{on_after_require, on_after_stat, on_after_tuple, on_assert_word}
+use Rattle.pp_grammar.specs.StepBodies.{on_contracted_dot, on_contracted_name, on_contracted_operator, on_decreases}
+use Rattle.pp_grammar.specs.StepBodies.{on_decreases_word, on_have_contracted, on_lambda_closed, on_lambda_name}
+use Rattle.pp_grammar.specs.StepBodies.{on_lambda_round, on_lambda_round_name, on_lambda_typed, on_late_name}
+use Rattle.pp_grammar.specs.StepBodies.{on_late_round, on_measure_open, on_misplaced, on_require, on_require_word}
+use Rattle.pp_grammar.specs.StepBodies.{on_stat_name, on_val_name, on_val_word, on_want_body, on_want_lambda}
+use Rattle.pp_grammar.specs.StepBodies.{on_want_lambda_or_semi, on_want_stat}
 use Rattle.pp_grammar.specs.StepExprs.{on_post_word}
 use Rattle.pp_grammar.specs.Types.{IsGap, IsType, ascribed, no_semi, no_type, semis}
-use Rattle.pp_grammar.specs.Words.{Role, assert_word, binary_of, decreases_word, ensuring_word, holds_word, int_word, is_dot, is_semi, loosest, plain, require_word, role, word}
+use Rattle.pp_grammar.specs.Words.{Role, assert_word, binary_of, decreases_word, ensuring_word, holds_word, int_word}
+use Rattle.pp_grammar.specs.Words.{is_dot, is_semi, loosest, plain, require_word, role, word}
 use Rattle.pp_grammar_sound.proofs.Fronts.{front_none, gap_goes_on}
-use Rattle.pp_grammar_sound.proofs.Modes.{Declares, Moved, at_after_assert_word, at_after_body, at_after_claim, at_after_contract, at_after_contracted_dot, at_after_decreases, at_after_ensuring, at_after_lambda_closed, at_after_lambda_name, at_after_lambda_round, at_after_lambda_round_name, at_after_last, at_after_require, at_after_val_name, at_after_val_word, at_measure_open, at_want, at_want_lambda, at_want_lambda_or_semi, at_want_stat, at_want_type}
-use Rattle.pp_grammar_sound.proofs.Opens.{EnsuringAt, HeadBlock, HeadBlockEnd, Opens, PostAt, Signature, StatAt, contracts_none, dot_ensuring_at, ensuring_at, head_block_at, head_block_end, opens_asserting, opens_body, opens_claiming, opens_claiming_hole, opens_measuring, opens_requiring, opens_result_name_type, opens_result_name_type_in_round, opens_round, opens_stat, opens_tuple_or_round, opens_val_type, opens_val_value, post_braces_at, post_round_at, stat_assert, stat_head}
+use Rattle.pp_grammar_sound.proofs.Modes.{Declares, Moved, at_after_assert_word, at_after_body, at_after_claim}
+use Rattle.pp_grammar_sound.proofs.Modes.{at_after_contract, at_after_contracted_dot, at_after_decreases}
+use Rattle.pp_grammar_sound.proofs.Modes.{at_after_ensuring, at_after_lambda_closed, at_after_lambda_name}
+use Rattle.pp_grammar_sound.proofs.Modes.{at_after_lambda_round, at_after_lambda_round_name, at_after_last}
+use Rattle.pp_grammar_sound.proofs.Modes.{at_after_require, at_after_val_name, at_after_val_word, at_measure_open}
+use Rattle.pp_grammar_sound.proofs.Modes.{at_want, at_want_lambda, at_want_lambda_or_semi, at_want_stat, at_want_type}
+use Rattle.pp_grammar_sound.proofs.Opens.{EnsuringAt, HeadBlock, HeadBlockEnd, Opens, PostAt, Signature, StatAt}
+use Rattle.pp_grammar_sound.proofs.Opens.{contracts_none, dot_ensuring_at, ensuring_at, head_block_at, head_block_end}
+use Rattle.pp_grammar_sound.proofs.Opens.{opens_asserting, opens_body, opens_claiming, opens_claiming_hole}
+use Rattle.pp_grammar_sound.proofs.Opens.{opens_measuring, opens_requiring, opens_result_name_type}
+use Rattle.pp_grammar_sound.proofs.Opens.{opens_result_name_type_in_round, opens_round, opens_stat}
+use Rattle.pp_grammar_sound.proofs.Opens.{opens_tuple_or_round, opens_val_type, opens_val_value, post_braces_at}
+use Rattle.pp_grammar_sound.proofs.Opens.{post_round_at, stat_assert, stat_head}
 use Rattle.pp_grammar_sound.proofs.SoundContracts.{measured_end, stat_goes_on}
 use Rattle.pp_grammar_sound.proofs.SoundEnds.{def_ends, keeps_claim_brace, keeps_sealed_brace, keeps_sealed_case}
 use Rattle.pp_grammar_sound.proofs.SoundExprs.{keeps_have, keeps_operand_name, keeps_want}
 use Rattle.pp_grammar_sound.proofs.SoundMatches.{keeps_int, keeps_name}
 use Rattle.pp_grammar_sound.proofs.Unwound.{infix_of}
-use Rattle.pp_tokens.specs.declared.token.Bracket.TheVariants.{CloseBrace, CloseRound, Comma, Dot, OpenBrace, OpenRound, Semicolon}
+use Rattle.pp_tokens.specs.declared.token.Bracket.TheVariants.{CloseBrace, CloseRound, Comma, Dot, OpenBrace, OpenRound}
+use Rattle.pp_tokens.specs.declared.token.Bracket.TheVariants.{Semicolon}
 use Rattle.pp_tokens.specs.declared.token.Operator.TheVariants.{Arrow, Assign, Colon}
 use Rattle.pp_tokens.specs.declared.token.Reserved.TheVariants.{Case, Match, Val}
 use Rattle.pp_tokens.specs.declared.token.Token.{Token}

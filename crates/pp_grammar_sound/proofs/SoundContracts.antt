@@ -1,11 +1,18 @@
 -- The contracts at the head of a body, as the automaton keeps them and as the grammar lists them.
-use Rattle.pp_grammar.specs.Bodies.{Contract, IsContract, IsContracts, IsMeasure, are_in_order, are_requirements, components, decreases, ends_with_measure, last_component, no_contract, one_more_component, one_more_contract, require, requirements}
+use Rattle.pp_grammar.specs.Bodies.{Contract, IsContract, IsContracts, IsMeasure, are_in_order, are_requirements}
+use Rattle.pp_grammar.specs.Bodies.{components, decreases, ends_with_measure, last_component, no_contract}
+use Rattle.pp_grammar.specs.Bodies.{one_more_component, one_more_contract, require, requirements}
 use Rattle.pp_grammar.specs.Frames.{Contracts, Frame, Head}
-use Rattle.pp_grammar.specs.Joining.{first_or, has_measure, late_behind, onto, with_measure, with_requirement, with_word}
+use Rattle.pp_grammar.specs.Joining.{first_or, has_measure, late_behind, onto, with_measure, with_requirement}
+use Rattle.pp_grammar.specs.Joining.{with_word}
 use Rattle.pp_grammar.specs.Types.{IsGap, IsSemis}
 use Rattle.pp_grammar.specs.Words.{is_semi}
 use Rattle.pp_grammar_sound.proofs.Fronts.{gap_goes_on, semis_go_on}
-use Rattle.pp_grammar_sound.proofs.Opens.{ContractsAt, FrontContracts, HeadBlock, HeadBlockEnd, Shaped, StatAt, contracts_none, contracts_some, first_contract, head_block_at, head_block_end, measure_first, measure_last, more_requirements, next_contract, one_requirement, requirements_behind, stat_arm, stat_assert, stat_braces, stat_head, stat_val}
+use Rattle.pp_grammar_sound.proofs.Opens.{ContractsAt, FrontContracts, HeadBlock, HeadBlockEnd, Shaped, StatAt}
+use Rattle.pp_grammar_sound.proofs.Opens.{contracts_none, contracts_some, first_contract, head_block_at, head_block_end}
+use Rattle.pp_grammar_sound.proofs.Opens.{measure_first, measure_last, more_requirements, next_contract}
+use Rattle.pp_grammar_sound.proofs.Opens.{one_requirement, requirements_behind, stat_arm, stat_assert, stat_braces}
+use Rattle.pp_grammar_sound.proofs.Opens.{stat_head, stat_val}
 use Rattle.pp_tokens.specs.declared.token.Token.{Token}
 use Rattle.pp_tree.specs.Plain.{Tree, TypeTree, Word}
 use Rattle.std.proofs.Common.{List, None, Option, [], false, refl, true, ℕ, ◌++◌, ◌∙◌, ◌∷◌, ◌≡◌}

@@ -1,17 +1,35 @@
 -- Each step that ends an expression keeps what the modes say.
-use Rattle.pp_grammar.specs.Bodies.{Contract, IsBody, IsContractBlock, IsHole, IsLambda, IsPost, contract_block, dot_ensuring, ensuring, expr_alone, last_component, measure, of_hole, post_at, post_in_braces, post_in_round, requirement}
-use Rattle.pp_grammar.specs.Exprs.{IsExpr, IsGuard, IsPrimary, IsRest, IsSemicolon, IsSimple, IsStats, arguments, assert_stat, block, case_of, in_block, in_round, last_case, last_expr, last_of_exprs, match_of, no_field, no_semicolon, rest, simple, val_stat}
+use Rattle.pp_grammar.specs.Bodies.{Contract, IsBody, IsContractBlock, IsHole, IsLambda, IsPost, contract_block}
+use Rattle.pp_grammar.specs.Bodies.{dot_ensuring, ensuring, expr_alone, last_component, measure, of_hole, post_at}
+use Rattle.pp_grammar.specs.Bodies.{post_in_braces, post_in_round, requirement}
+use Rattle.pp_grammar.specs.Exprs.{IsExpr, IsGuard, IsPrimary, IsRest, IsSemicolon, IsSimple, IsStats, arguments}
+use Rattle.pp_grammar.specs.Exprs.{assert_stat, block, case_of, in_block, in_round, last_case, last_expr, last_of_exprs}
+use Rattle.pp_grammar.specs.Exprs.{match_of, no_field, no_semicolon, rest, simple, val_stat}
 use Rattle.pp_grammar.specs.Frames.{Contracts, Frame, Head, after_body, claiming_hole}
 use Rattle.pp_grammar.specs.Joining.{Operand, def_tree, no_contracts, onto, seal}
 use Rattle.pp_grammar.specs.Patterns.{IsPattern}
-use Rattle.pp_grammar.specs.StepExprs.{on_claim_brace, on_claim_round, on_claim_semi, on_comma, on_else, on_end, on_expr_end, on_hole_end, on_match_closed, on_next_case, on_round_closed, on_sealed_brace, on_sealed_case, on_semi, on_semicolon, on_unwound}
+use Rattle.pp_grammar.specs.StepExprs.{on_claim_brace, on_claim_round, on_claim_semi, on_comma, on_else, on_end}
+use Rattle.pp_grammar.specs.StepExprs.{on_expr_end, on_hole_end, on_match_closed, on_next_case, on_round_closed}
+use Rattle.pp_grammar.specs.StepExprs.{on_sealed_brace, on_sealed_case, on_semi, on_semicolon, on_unwound}
 use Rattle.pp_grammar.specs.Types.{IsGap, no_newlines, no_semi, one_semi, semis}
 use Rattle.pp_grammar.specs.Units.{def_of}
 use Rattle.pp_grammar.specs.Words.{is_dot, is_semi, loosest, word}
-use Rattle.pp_grammar_sound.proofs.Fronts.{cases_behind, cases_more, exprs_behind, front_more, front_none, measure_behind}
-use Rattle.pp_grammar_sound.proofs.Modes.{Declares, Moved, Stands, at_after_asserted, at_after_body, at_after_claim, at_after_contract, at_after_last, at_after_tuple, at_have, at_have_contracted, at_have_matched, at_want, at_want_else, at_want_pattern, at_want_stat, at_want_then, declares_def}
-use Rattle.pp_grammar_sound.proofs.Opens.{EnsuringAt, FrontContracts, Opens, PostAt, Shaped, Signature, StatAt, begins_def, contracts_none, contracts_some, dot_ensuring_at, ensuring_at, head_block_at, head_params, opens_args, opens_asserting, opens_body, opens_cases, opens_claiming, opens_claiming_hole, opens_if_rest, opens_if_test, opens_if_then, opens_measuring, opens_requiring, opens_round, opens_stat, opens_tuple, opens_tuple_or_round, opens_val_value, post_braces_at, post_round_at, signature, stat_arm, stat_assert, stat_braces, stat_head, stat_val, then_at}
-use Rattle.pp_grammar_sound.proofs.SoundContracts.{components_are, contracts_listed, in_order, is_measure, measured_end, required_end, requirements_are}
+use Rattle.pp_grammar_sound.proofs.Fronts.{cases_behind, cases_more, exprs_behind, front_more, front_none}
+use Rattle.pp_grammar_sound.proofs.Fronts.{measure_behind}
+use Rattle.pp_grammar_sound.proofs.Modes.{Declares, Moved, Stands, at_after_asserted, at_after_body, at_after_claim}
+use Rattle.pp_grammar_sound.proofs.Modes.{at_after_contract, at_after_last, at_after_tuple, at_have, at_have_contracted}
+use Rattle.pp_grammar_sound.proofs.Modes.{at_have_matched, at_want, at_want_else, at_want_pattern, at_want_stat}
+use Rattle.pp_grammar_sound.proofs.Modes.{at_want_then, declares_def}
+use Rattle.pp_grammar_sound.proofs.Opens.{EnsuringAt, FrontContracts, Opens, PostAt, Shaped, Signature, StatAt}
+use Rattle.pp_grammar_sound.proofs.Opens.{begins_def, contracts_none, contracts_some, dot_ensuring_at, ensuring_at}
+use Rattle.pp_grammar_sound.proofs.Opens.{head_block_at, head_params, opens_args, opens_asserting, opens_body}
+use Rattle.pp_grammar_sound.proofs.Opens.{opens_cases, opens_claiming, opens_claiming_hole, opens_if_rest}
+use Rattle.pp_grammar_sound.proofs.Opens.{opens_if_test, opens_if_then, opens_measuring, opens_requiring, opens_round}
+use Rattle.pp_grammar_sound.proofs.Opens.{opens_stat, opens_tuple, opens_tuple_or_round, opens_val_value}
+use Rattle.pp_grammar_sound.proofs.Opens.{post_braces_at, post_round_at, signature, stat_arm, stat_assert, stat_braces}
+use Rattle.pp_grammar_sound.proofs.Opens.{stat_head, stat_val, then_at}
+use Rattle.pp_grammar_sound.proofs.SoundContracts.{components_are, contracts_listed, in_order, is_measure, measured_end}
+use Rattle.pp_grammar_sound.proofs.SoundContracts.{required_end, requirements_are}
 use Rattle.pp_grammar_sound.proofs.Unwound.{Held, Value, as_claim, as_expr}
 use Rattle.pp_tokens.specs.declared.token.Bracket.TheVariants.{CloseBrace, CloseRound, Comma, OpenBrace, Semicolon}
 use Rattle.pp_tokens.specs.declared.token.Operator.TheVariants.{Arrow}

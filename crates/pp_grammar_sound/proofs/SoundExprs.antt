@@ -4,28 +4,43 @@ use Rattle.pp_tree.specs.declared.operator.UnaryOp.TheVariants as unary_op
 use Rattle.std.specs.Prelude.{nat_le}
 use Rattle.pp_grammar.specs.Bodies.{IsBody, IsClosed, IsHead, closed_simple, dot_holds, head_infix, holding_at, holds}
 use Rattle.pp_grammar.specs.Exprs.{IsInfix, false_word, guard, negative, no_field, number, operand, simple, true_word}
-use Rattle.pp_grammar.specs.Frames.{Frame, Head, after_if, after_match, after_minus, body_of, claiming_hole, go, guarding, have, left, prefixing, want}
+use Rattle.pp_grammar.specs.Frames.{Frame, Head, after_if, after_match, after_minus, body_of, claiming_hole, go}
+use Rattle.pp_grammar.specs.Frames.{guarding, have, left, prefixing, want}
 use Rattle.pp_grammar.specs.Joining.{Operand, floor, no_contracts, takes_hole, unwind}
-use Rattle.pp_grammar.specs.StepExprs.{on_binary, on_dot, on_dot_name, on_ensuring, on_guard, on_have, on_have_negative, on_holds, on_if, on_match, on_minus, on_negative, on_negative_dot, on_negative_field, on_number, on_operand, on_operand_name, on_operator, on_post_operand, on_post_word, on_want, on_want_then}
+use Rattle.pp_grammar.specs.StepExprs.{on_binary, on_dot, on_dot_name, on_ensuring, on_guard, on_have, on_have_negative}
+use Rattle.pp_grammar.specs.StepExprs.{on_holds, on_if, on_match, on_minus, on_negative, on_negative_dot}
+use Rattle.pp_grammar.specs.StepExprs.{on_negative_field, on_number, on_operand, on_operand_name, on_operator}
+use Rattle.pp_grammar.specs.StepExprs.{on_post_operand, on_post_word, on_want, on_want_then}
 use Rattle.pp_grammar.specs.StepTypes.{refuse}
 use Rattle.pp_grammar.specs.Types.{no_semi}
-use Rattle.pp_grammar.specs.Words.{Role, binary_of, ensuring_word, holds_word, int_word, is_dot, is_minus, is_sign, is_signed, level, loosest, negative_of, number_of, plain, res, role, tightest, unary_of, word}
+use Rattle.pp_grammar.specs.Words.{Role, binary_of, ensuring_word, holds_word, int_word, is_dot, is_minus, is_sign}
+use Rattle.pp_grammar.specs.Words.{is_signed, level, loosest, negative_of, number_of, plain, res, role, tightest}
+use Rattle.pp_grammar.specs.Words.{unary_of, word}
 use Rattle.pp_grammar_sound.proofs.Fronts.{breaks_go_on, fields_go_on}
-use Rattle.pp_grammar_sound.proofs.Modes.{IsNegative, Moved, at_after_body, at_after_dot, at_after_ensuring, at_after_if, at_after_int, at_after_match, at_after_minus, at_after_name, at_after_negative_dot, at_have, at_have_negative, at_want, at_want_stat, at_want_then, negative_at}
-use Rattle.pp_grammar_sound.proofs.Opens.{EnsuringAt, HoleFits, Opens, Signature, SimpleText, ThenAt, dot_ensuring_at, ensuring_at, hole_operand, opens_body, opens_guarding, opens_if_test, opens_if_then, opens_left, opens_prefixing, opens_round, opens_stat, stat_arm, stat_assert, stat_braces, stat_head, stat_val, then_at}
+use Rattle.pp_grammar_sound.proofs.Modes.{IsNegative, Moved, at_after_body, at_after_dot, at_after_ensuring}
+use Rattle.pp_grammar_sound.proofs.Modes.{at_after_if, at_after_int, at_after_match, at_after_minus, at_after_name}
+use Rattle.pp_grammar_sound.proofs.Modes.{at_after_negative_dot, at_have, at_have_negative, at_want, at_want_stat}
+use Rattle.pp_grammar_sound.proofs.Modes.{at_want_then, negative_at}
+use Rattle.pp_grammar_sound.proofs.Opens.{EnsuringAt, HoleFits, Opens, Signature, SimpleText, ThenAt, dot_ensuring_at}
+use Rattle.pp_grammar_sound.proofs.Opens.{ensuring_at, hole_operand, opens_body, opens_guarding, opens_if_test}
+use Rattle.pp_grammar_sound.proofs.Opens.{opens_if_then, opens_left, opens_prefixing, opens_round, opens_stat, stat_arm}
+use Rattle.pp_grammar_sound.proofs.Opens.{stat_assert, stat_braces, stat_head, stat_val, then_at}
 use Rattle.pp_grammar_sound.proofs.SoundEnds.{keeps_unwound}
-use Rattle.pp_grammar_sound.proofs.Unwound.{Held, IsLevel, Value, as_infix, at_level, le_cases, level_in, unwound, value_infix, value_simple, value_simple_hole}
+use Rattle.pp_grammar_sound.proofs.Unwound.{Held, IsLevel, Value, as_infix, at_level, le_cases, level_in, unwound}
+use Rattle.pp_grammar_sound.proofs.Unwound.{value_infix, value_simple, value_simple_hole}
 use Rattle.pp_tokens.specs.declared.token.Bracket.TheVariants.{Dot, OpenBrace, OpenRound}
 use Rattle.pp_tokens.specs.declared.token.Operator.{Operator}
 use Rattle.pp_tokens.specs.declared.token.Operator.TheVariants.{Arrow, Flip, Minus, Not}
 use Rattle.pp_tokens.specs.declared.token.Reserved.TheVariants.{False, If, Match, True}
 use Rattle.pp_tokens.specs.declared.token.Token.{Token}
 use Rattle.pp_tokens.specs.declared.token.TokenKind.{TokenKind}
-use Rattle.pp_tokens.specs.declared.token.TokenKind.TheVariants.{Hex, Hole, Mark, Name, Newline, Number, Op, Word as Reserve}
+use Rattle.pp_tokens.specs.declared.token.TokenKind.TheVariants.{Hex, Hole, Mark, Name, Newline, Number, Op}
+use Rattle.pp_tokens.specs.declared.token.TokenKind.TheVariants.{Word as Reserve}
 use Rattle.pp_tree.specs.Plain.{Tree, TypeTree, Word, field, name}
 use Rattle.pp_tree.specs.declared.operator.BinaryOp.{BinaryOp}
 use Rattle.pp_tree.specs.declared.operator.UnaryOp.{UnaryOp}
-use Rattle.std.proofs.Common.{Bool, List, None, Option, Some, [], ap, arith, cond, false, inl, inr, refl, true, ℕ, ℤ, ◌&&◌, ◌∙◌, ◌∷◌, ◌≡◌, ◌≤◌}
+use Rattle.std.proofs.Common.{Bool, List, None, Option, Some, [], ap, arith, cond, false, inl, inr, refl, true, ℕ, ℤ}
+use Rattle.std.proofs.Common.{◌&&◌, ◌∙◌, ◌∷◌, ◌≡◌, ◌≤◌}
 
 pub floor_in : (s : List Frame) → floor s ≤ 10
 floor_in [] = omega arith

@@ -1,12 +1,21 @@
 -- Each step in the head of a class or a function keeps what the modes say.
 use Rattle.pp_grammar.specs.Frames.{Head, Kind, header, of_class, of_def}
 use Rattle.pp_grammar.specs.Joining.{with_list, with_type_param}
-use Rattle.pp_grammar.specs.StepBodies.{on_after_params, on_after_type_param, on_after_type_params, on_class_params, on_def_params, on_head_name, on_object_name, on_param_name, on_params_open, on_want_name, on_want_object_name, on_want_param, on_want_type_param}
-use Rattle.pp_grammar.specs.Units.{IsAnnotations, empty_list, last_name, no_list, no_parent, no_type_params, type_params}
+use Rattle.pp_grammar.specs.StepBodies.{on_after_params, on_after_type_param, on_after_type_params, on_class_params}
+use Rattle.pp_grammar.specs.StepBodies.{on_def_params, on_head_name, on_object_name, on_param_name, on_params_open}
+use Rattle.pp_grammar.specs.StepBodies.{on_want_name, on_want_object_name, on_want_param, on_want_type_param}
+use Rattle.pp_grammar.specs.Units.{IsAnnotations, empty_list, last_name, no_list, no_parent, no_type_params}
+use Rattle.pp_grammar.specs.Units.{type_params}
 use Rattle.pp_grammar.specs.Words.{word}
 use Rattle.pp_grammar_sound.proofs.Fronts.{names_behind, names_more, names_none, params_none}
-use Rattle.pp_grammar_sound.proofs.Modes.{Moved, at_after_head_name, at_after_object_name, at_after_param_name, at_after_params, at_after_type_param, at_after_type_params, at_params_open, at_want_type, at_want_type_param}
-use Rattle.pp_grammar_sound.proofs.Opens.{Begins, HeadAt, behind_params, behind_type_param, behind_type_params, head_behind_type_param, head_named, head_param, head_params, head_params_open, head_type_param, head_type_params, named, opens_object_parent, opens_param_type, opens_parent_type, opens_result_type, params_opened, wanting_param, wanting_type_param}
+use Rattle.pp_grammar_sound.proofs.Modes.{Moved, at_after_head_name, at_after_object_name, at_after_param_name}
+use Rattle.pp_grammar_sound.proofs.Modes.{at_after_params, at_after_type_param, at_after_type_params, at_params_open}
+use Rattle.pp_grammar_sound.proofs.Modes.{at_want_type, at_want_type_param}
+use Rattle.pp_grammar_sound.proofs.Opens.{Begins, HeadAt, behind_params, behind_type_param, behind_type_params}
+use Rattle.pp_grammar_sound.proofs.Opens.{head_behind_type_param, head_named, head_param, head_params, head_params_open}
+use Rattle.pp_grammar_sound.proofs.Opens.{head_type_param, head_type_params, named, opens_object_parent}
+use Rattle.pp_grammar_sound.proofs.Opens.{opens_param_type, opens_parent_type, opens_result_type, params_opened}
+use Rattle.pp_grammar_sound.proofs.Opens.{wanting_param, wanting_type_param}
 use Rattle.pp_grammar_sound.proofs.SoundTypes.{class_ends}
 use Rattle.pp_tokens.specs.declared.token.Bracket.TheVariants.{CloseRound, CloseSquare, Comma, OpenRound, OpenSquare}
 use Rattle.pp_tokens.specs.declared.token.Operator.TheVariants.{Colon}

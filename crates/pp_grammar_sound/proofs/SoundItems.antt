@@ -2,14 +2,34 @@
 use Rattle.pp_grammar.specs.Automaton.{moved, on_mode, run, start, step}
 use Rattle.pp_grammar.specs.Frames.{Move, Parsed, State, after_path_name, between, done, ends, go, stop}
 use Rattle.pp_grammar.specs.Joining.{nothing_parsed, unit_of}
-use Rattle.pp_grammar.specs.StepItems.{on_after_at, on_after_case, on_after_import, on_after_item, on_after_object, on_after_package, on_annotation, on_annotation_name, on_chosen, on_class_word, on_declaration, on_def, on_import_all, on_item, on_modified, on_modifiers, on_object_closed, on_object_import, on_object_line, on_object_title, on_object_word, on_other_import, on_package_name, on_path_dot, on_path_end, on_path_name, on_start, on_unit_end, on_want_chosen}
+use Rattle.pp_grammar.specs.StepItems.{on_after_at, on_after_case, on_after_import, on_after_item, on_after_object}
+use Rattle.pp_grammar.specs.StepItems.{on_after_package, on_annotation, on_annotation_name, on_chosen, on_class_word}
+use Rattle.pp_grammar.specs.StepItems.{on_declaration, on_def, on_import_all, on_item, on_modified, on_modifiers}
+use Rattle.pp_grammar.specs.StepItems.{on_object_closed, on_object_import, on_object_line, on_object_title}
+use Rattle.pp_grammar.specs.StepItems.{on_object_word, on_other_import, on_package_name, on_path_dot, on_path_end}
+use Rattle.pp_grammar.specs.StepItems.{on_path_name, on_start, on_unit_end, on_want_chosen}
 use Rattle.pp_grammar.specs.Types.{IsBreak, no_newline, no_semi, one_newline, semis}
-use Rattle.pp_grammar.specs.Units.{IsImportText, IsPath, Modifiers, Piece, SpellsUnit, decl_piece, import_all, import_path, import_some, is_one, last_chosen, last_of_path, library, modified, no_annotation, no_modifier, object_piece, of_object, unit_of_pieces, unmodified}
+use Rattle.pp_grammar.specs.Units.{IsImportText, IsPath, Modifiers, Piece, SpellsUnit, decl_piece, import_all}
+use Rattle.pp_grammar.specs.Units.{import_path, import_some, is_one, last_chosen, last_of_path, library, modified}
+use Rattle.pp_grammar.specs.Units.{no_annotation, no_modifier, object_piece, of_object, unit_of_pieces, unmodified}
 use Rattle.pp_grammar.specs.Words.{is_dot, is_known_annotation, is_library, is_semi, is_trait_word, word}
 use Rattle.pp_grammar_sound.proofs.Modes.{Moved, at_want_class_name, at_want_def_name, at_want_object_name}
 use Rattle.pp_grammar_sound.proofs.SoundModes.{keeps_mode}
-use Rattle.pp_grammar_sound.proofs.SoundStates.{StateAt, front_begins_class, is_class_kind, no_def_behind, state_after, state_annotation, state_annotation_line, state_at, state_case, state_chosen, state_done, state_failed, state_import, state_item, state_modifiers, state_object, state_object_line, state_object_title, state_package, state_package_dot, state_package_name, state_path, state_path_dot, state_start, state_want_chosen, state_within, trait_is_class}
-use Rattle.pp_grammar_sound.proofs.UnitFronts.{FrontAnnotations, FrontChoice, FrontModified, NoDef, Outer, Place, PlaceEnd, StartAt, added, added_one, annotations_behind, annotations_more, annotations_none, choice_behind, choice_more, choice_none, end_closes, end_ends, inner_start, longer_path, modified_behind, modified_more, modified_none, object_at, outer_start, packages_none, path_goes_on, place_behind, place_closes, place_declares, place_ends, place_goes_on, place_import, place_inner, place_outer, start_at, start_goes_on, start_with_package, unit_added}
+use Rattle.pp_grammar_sound.proofs.SoundStates.{StateAt, front_begins_class, is_class_kind, no_def_behind, state_after}
+use Rattle.pp_grammar_sound.proofs.SoundStates.{state_annotation, state_annotation_line, state_at, state_case}
+use Rattle.pp_grammar_sound.proofs.SoundStates.{state_chosen, state_done, state_failed, state_import, state_item}
+use Rattle.pp_grammar_sound.proofs.SoundStates.{state_modifiers, state_object, state_object_line, state_object_title}
+use Rattle.pp_grammar_sound.proofs.SoundStates.{state_package, state_package_dot, state_package_name, state_path}
+use Rattle.pp_grammar_sound.proofs.SoundStates.{state_path_dot, state_start, state_want_chosen, state_within}
+use Rattle.pp_grammar_sound.proofs.SoundStates.{trait_is_class}
+use Rattle.pp_grammar_sound.proofs.UnitFronts.{FrontAnnotations, FrontChoice, FrontModified, NoDef, Outer, Place}
+use Rattle.pp_grammar_sound.proofs.UnitFronts.{PlaceEnd, StartAt, added, added_one, annotations_behind}
+use Rattle.pp_grammar_sound.proofs.UnitFronts.{annotations_more, annotations_none, choice_behind, choice_more}
+use Rattle.pp_grammar_sound.proofs.UnitFronts.{choice_none, end_closes, end_ends, inner_start, longer_path}
+use Rattle.pp_grammar_sound.proofs.UnitFronts.{modified_behind, modified_more, modified_none, object_at, outer_start}
+use Rattle.pp_grammar_sound.proofs.UnitFronts.{packages_none, path_goes_on, place_behind, place_closes, place_declares}
+use Rattle.pp_grammar_sound.proofs.UnitFronts.{place_ends, place_goes_on, place_import, place_inner, place_outer}
+use Rattle.pp_grammar_sound.proofs.UnitFronts.{start_at, start_goes_on, start_with_package, unit_added}
 use Rattle.pp_tokens.specs.declared.token.Bracket.TheVariants.{CloseBrace, Comma, Dot, OpenBrace, Semicolon}
 use Rattle.pp_tokens.specs.declared.token.Operator.TheVariants.{At}
 use Rattle.pp_tokens.specs.declared.token.Reserved.TheVariants.{Case, Def, Import, Object, Package}
@@ -17,7 +37,8 @@ use Rattle.pp_tokens.specs.declared.token.Token.{Token}
 use Rattle.pp_tokens.specs.declared.token.TokenKind.{TokenKind}
 use Rattle.pp_tokens.specs.declared.token.TokenKind.TheVariants.{End, Hole, Mark, Name, Newline, Op, Word as Reserve}
 use Rattle.pp_tree.specs.Plain.{UnitTree, Word}
-use Rattle.std.proofs.Common.{Bool, List, None, Option, Some, [], ap, false, refl, subst, sym, true, ℕ, ◌++◌, ◌∙◌, ◌∷◌, ◌≡◌}
+use Rattle.std.proofs.Common.{Bool, List, None, Option, Some, [], ap, false, refl, subst, sym, true, ℕ, ◌++◌, ◌∙◌, ◌∷◌}
+use Rattle.std.proofs.Common.{◌≡◌}
 use Rattle.std.proofs.lemmas.List.{append-nil}
 use Rattle.std.proofs.lemmas.List.{append-nil}
 

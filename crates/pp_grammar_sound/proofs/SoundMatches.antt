@@ -1,18 +1,25 @@
 -- Each step in a match and behind a name keeps what the modes say.
 use Rattle.pp_grammar.specs.Bodies.{closed_matched, head_matched}
-use Rattle.pp_grammar.specs.Exprs.{IsExpr, IsInfix, IsMatched, IsSimple, at_types, at_types_on_arguments, bound, matched, name_alone, no_arguments, no_field, on_arguments, semicolon, simple}
+use Rattle.pp_grammar.specs.Exprs.{IsExpr, IsInfix, IsMatched, IsSimple, at_types, at_types_on_arguments, bound}
+use Rattle.pp_grammar.specs.Exprs.{matched, name_alone, no_arguments, no_field, on_arguments, semicolon, simple}
 use Rattle.pp_grammar.specs.Frames.{Frame, cases_of}
 use Rattle.pp_grammar.specs.Joining.{floor, unwind}
-use Rattle.pp_grammar.specs.StepExprs.{on_args_open, on_bound, on_have_matched, on_int, on_int_dot, on_match_dot, on_match_word, on_matched_dot, on_name, on_name_types, on_want_case, on_want_else}
+use Rattle.pp_grammar.specs.StepExprs.{on_args_open, on_bound, on_have_matched, on_int, on_int_dot, on_match_dot}
+use Rattle.pp_grammar.specs.StepExprs.{on_match_word, on_matched_dot, on_name, on_name_types, on_want_case}
+use Rattle.pp_grammar.specs.StepExprs.{on_want_else}
 use Rattle.pp_grammar.specs.Types.{IsTypes}
 use Rattle.pp_grammar.specs.Words.{bound_of, int_word, is_dot, loosest, plain, role, word}
 use Rattle.pp_grammar_sound.proofs.Fronts.{cases_none, front_none, types_none}
-use Rattle.pp_grammar_sound.proofs.Modes.{Moved, at_after_int_dot, at_after_matched_dot, at_args_open, at_have, at_want_case, at_want_pattern, at_want_type}
-use Rattle.pp_grammar_sound.proofs.Opens.{Applies, Opens, opens_args, opens_body, opens_cases, opens_if_then, opens_name_types, opens_stat, stat_arm, stat_assert, stat_braces, stat_head, stat_val, then_at}
+use Rattle.pp_grammar_sound.proofs.Modes.{Moved, at_after_int_dot, at_after_matched_dot, at_args_open, at_have}
+use Rattle.pp_grammar_sound.proofs.Modes.{at_want_case, at_want_pattern, at_want_type}
+use Rattle.pp_grammar_sound.proofs.Opens.{Applies, Opens, opens_args, opens_body, opens_cases, opens_if_then}
+use Rattle.pp_grammar_sound.proofs.Opens.{opens_name_types, opens_stat, stat_arm, stat_assert, stat_braces, stat_head}
+use Rattle.pp_grammar_sound.proofs.Opens.{stat_val, then_at}
 use Rattle.pp_grammar_sound.proofs.SoundEnds.{keeps_else, keeps_unwound}
 use Rattle.pp_grammar_sound.proofs.SoundExprs.{keeps_have, keeps_post_word, keeps_want, ready_dot, ready_head}
 use Rattle.pp_grammar_sound.proofs.Unwound.{unwound, value_expr}
-use Rattle.pp_tokens.specs.declared.token.Bracket.TheVariants.{CloseRound, Dot, OpenBrace, OpenRound, OpenSquare, Semicolon}
+use Rattle.pp_tokens.specs.declared.token.Bracket.TheVariants.{CloseRound, Dot, OpenBrace, OpenRound, OpenSquare}
+use Rattle.pp_tokens.specs.declared.token.Bracket.TheVariants.{Semicolon}
 use Rattle.pp_tokens.specs.declared.token.Reserved.TheVariants.{Case, Else, Match}
 use Rattle.pp_tokens.specs.declared.token.Token.{Token}
 use Rattle.pp_tokens.specs.declared.token.TokenKind.{TokenKind}

@@ -3,15 +3,45 @@ use Rattle.pp_grammar.specs.Automaton.{on_mode}
 use Rattle.pp_grammar.specs.Frames.{Frame, Mode, of_class, of_def}
 use Rattle.pp_grammar.specs.Units.{IsAnnotations, IsModified, Modifiers, unmodified}
 use Rattle.pp_grammar.specs.Words.{is_trait_word}
-use Rattle.pp_grammar_sound.proofs.Modes.{Moved, Stands, at_after_assert_word, at_after_asserted, at_after_body, at_after_claim, at_after_contract, at_after_contracted_dot, at_after_decreases, at_after_dot, at_after_ensuring, at_after_head_name, at_after_if, at_after_int, at_after_int_dot, at_after_lambda_closed, at_after_lambda_name, at_after_lambda_round, at_after_lambda_round_name, at_after_lambda_typed, at_after_last, at_after_match, at_after_matched_dot, at_after_minus, at_after_name, at_after_name_types, at_after_negative_dot, at_after_object_name, at_after_param_name, at_after_params, at_after_pattern_minus, at_after_pattern_name, at_after_require, at_after_tuple, at_after_type_name, at_after_type_param, at_after_type_params, at_after_val_name, at_after_val_word, at_args_open, at_have, at_have_contracted, at_have_matched, at_have_negative, at_have_pattern, at_have_type, at_measure_open, at_params_open, at_pattern_args_open, at_want, at_want_body, at_want_case, at_want_class_name, at_want_def_name, at_want_else, at_want_lambda, at_want_lambda_or_semi, at_want_object_name, at_want_param, at_want_pattern, at_want_stat, at_want_then, at_want_type, at_want_type_param}
+use Rattle.pp_grammar_sound.proofs.Modes.{Moved, Stands, at_after_assert_word, at_after_asserted, at_after_body}
+use Rattle.pp_grammar_sound.proofs.Modes.{at_after_claim, at_after_contract, at_after_contracted_dot}
+use Rattle.pp_grammar_sound.proofs.Modes.{at_after_decreases, at_after_dot, at_after_ensuring, at_after_head_name}
+use Rattle.pp_grammar_sound.proofs.Modes.{at_after_if, at_after_int, at_after_int_dot, at_after_lambda_closed}
+use Rattle.pp_grammar_sound.proofs.Modes.{at_after_lambda_name, at_after_lambda_round, at_after_lambda_round_name}
+use Rattle.pp_grammar_sound.proofs.Modes.{at_after_lambda_typed, at_after_last, at_after_match, at_after_matched_dot}
+use Rattle.pp_grammar_sound.proofs.Modes.{at_after_minus, at_after_name, at_after_name_types, at_after_negative_dot}
+use Rattle.pp_grammar_sound.proofs.Modes.{at_after_object_name, at_after_param_name, at_after_params}
+use Rattle.pp_grammar_sound.proofs.Modes.{at_after_pattern_minus, at_after_pattern_name, at_after_require}
+use Rattle.pp_grammar_sound.proofs.Modes.{at_after_tuple, at_after_type_name, at_after_type_param, at_after_type_params}
+use Rattle.pp_grammar_sound.proofs.Modes.{at_after_val_name, at_after_val_word, at_args_open, at_have}
+use Rattle.pp_grammar_sound.proofs.Modes.{at_have_contracted, at_have_matched, at_have_negative, at_have_pattern}
+use Rattle.pp_grammar_sound.proofs.Modes.{at_have_type, at_measure_open, at_params_open, at_pattern_args_open, at_want}
+use Rattle.pp_grammar_sound.proofs.Modes.{at_want_body, at_want_case, at_want_class_name, at_want_def_name}
+use Rattle.pp_grammar_sound.proofs.Modes.{at_want_else, at_want_lambda, at_want_lambda_or_semi, at_want_object_name}
+use Rattle.pp_grammar_sound.proofs.Modes.{at_want_param, at_want_pattern, at_want_stat, at_want_then, at_want_type}
+use Rattle.pp_grammar_sound.proofs.Modes.{at_want_type_param}
 use Rattle.pp_grammar_sound.proofs.Opens.{Begins, begins_class, begins_def}
-use Rattle.pp_grammar_sound.proofs.SoundBodies.{keeps_after_assert, keeps_after_claim, keeps_after_contract, keeps_after_decreases, keeps_after_ensuring, keeps_after_last, keeps_after_require, keeps_after_tuple, keeps_assert_word, keeps_contracted_dot, keeps_have_contracted, keeps_lambda_closed, keeps_lambda_name, keeps_lambda_round, keeps_lambda_round_name, keeps_lambda_typed, keeps_measure_open, keeps_val_name, keeps_val_word, keeps_want_body, keeps_want_lambda, keeps_want_lambda_or_semi, keeps_want_stat}
+use Rattle.pp_grammar_sound.proofs.SoundBodies.{keeps_after_assert, keeps_after_claim, keeps_after_contract}
+use Rattle.pp_grammar_sound.proofs.SoundBodies.{keeps_after_decreases, keeps_after_ensuring, keeps_after_last}
+use Rattle.pp_grammar_sound.proofs.SoundBodies.{keeps_after_require, keeps_after_tuple, keeps_assert_word}
+use Rattle.pp_grammar_sound.proofs.SoundBodies.{keeps_contracted_dot, keeps_have_contracted, keeps_lambda_closed}
+use Rattle.pp_grammar_sound.proofs.SoundBodies.{keeps_lambda_name, keeps_lambda_round, keeps_lambda_round_name}
+use Rattle.pp_grammar_sound.proofs.SoundBodies.{keeps_lambda_typed, keeps_measure_open, keeps_val_name, keeps_val_word}
+use Rattle.pp_grammar_sound.proofs.SoundBodies.{keeps_want_body, keeps_want_lambda, keeps_want_lambda_or_semi}
+use Rattle.pp_grammar_sound.proofs.SoundBodies.{keeps_want_stat}
 use Rattle.pp_grammar_sound.proofs.SoundEnds.{def_ends}
-use Rattle.pp_grammar_sound.proofs.SoundExprs.{keeps_dot, keeps_have, keeps_have_negative, keeps_if, keeps_minus, keeps_negative_dot, keeps_want, keeps_want_then}
-use Rattle.pp_grammar_sound.proofs.SoundHeads.{keeps_after_params, keeps_after_type_param, keeps_after_type_params, keeps_head_name, keeps_object_name, keeps_param_name, keeps_params_open, keeps_want_name, keeps_want_object_name, keeps_want_param, keeps_want_type_param}
-use Rattle.pp_grammar_sound.proofs.SoundMatches.{keeps_args_open, keeps_have_matched, keeps_int, keeps_int_dot, keeps_match_word, keeps_matched_dot, keeps_name, keeps_name_types, keeps_want_case, keeps_want_else}
+use Rattle.pp_grammar_sound.proofs.SoundExprs.{keeps_dot, keeps_have, keeps_have_negative, keeps_if, keeps_minus}
+use Rattle.pp_grammar_sound.proofs.SoundExprs.{keeps_negative_dot, keeps_want, keeps_want_then}
+use Rattle.pp_grammar_sound.proofs.SoundHeads.{keeps_after_params, keeps_after_type_param, keeps_after_type_params}
+use Rattle.pp_grammar_sound.proofs.SoundHeads.{keeps_head_name, keeps_object_name, keeps_param_name, keeps_params_open}
+use Rattle.pp_grammar_sound.proofs.SoundHeads.{keeps_want_name, keeps_want_object_name, keeps_want_param}
+use Rattle.pp_grammar_sound.proofs.SoundHeads.{keeps_want_type_param}
+use Rattle.pp_grammar_sound.proofs.SoundMatches.{keeps_args_open, keeps_have_matched, keeps_int, keeps_int_dot}
+use Rattle.pp_grammar_sound.proofs.SoundMatches.{keeps_match_word, keeps_matched_dot, keeps_name, keeps_name_types}
+use Rattle.pp_grammar_sound.proofs.SoundMatches.{keeps_want_case, keeps_want_else}
 use Rattle.pp_grammar_sound.proofs.SoundPatterns.{keeps_have_pattern, keeps_pattern_args_open, keeps_pattern_name}
-use Rattle.pp_grammar_sound.proofs.SoundTypes.{keeps_have_type, keeps_pattern_minus, keeps_type_name, keeps_want_pattern, keeps_want_type}
+use Rattle.pp_grammar_sound.proofs.SoundTypes.{keeps_have_type, keeps_pattern_minus, keeps_type_name}
+use Rattle.pp_grammar_sound.proofs.SoundTypes.{keeps_want_pattern, keeps_want_type}
 use Rattle.pp_tokens.specs.declared.token.Reserved.TheVariants.{Def}
 use Rattle.pp_tokens.specs.declared.token.Token.{Token}
 use Rattle.pp_tokens.specs.declared.token.TokenKind.TheVariants.{Name, Word as Reserve}

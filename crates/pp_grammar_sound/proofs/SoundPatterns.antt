@@ -1,13 +1,20 @@
 -- Each step behind a pattern keeps what the modes say.
 use Rattle.pp_grammar.specs.Exprs.{no_guard}
 use Rattle.pp_grammar.specs.Frames.{Frame, naming}
-use Rattle.pp_grammar.specs.Patterns.{IsPattern, IsPlain, binding, constructor_alone, constructor_of, constructor_of_none, last_pattern, named_at, named_pattern, pattern_in_round, unnamed}
-use Rattle.pp_grammar.specs.StepTypes.{on_case_pattern, on_have_pattern, on_named_pattern, on_naming, on_pattern_arg, on_pattern_args_open, on_pattern_at, on_pattern_name, on_pattern_round, pattern_of_name}
+use Rattle.pp_grammar.specs.Patterns.{IsPattern, IsPlain, binding, constructor_alone, constructor_of}
+use Rattle.pp_grammar.specs.Patterns.{constructor_of_none, last_pattern, named_at, named_pattern, pattern_in_round}
+use Rattle.pp_grammar.specs.Patterns.{unnamed}
+use Rattle.pp_grammar.specs.StepTypes.{on_case_pattern, on_have_pattern, on_named_pattern, on_naming, on_pattern_arg}
+use Rattle.pp_grammar.specs.StepTypes.{on_pattern_args_open, on_pattern_at, on_pattern_name, on_pattern_round}
+use Rattle.pp_grammar.specs.StepTypes.{pattern_of_name}
 use Rattle.pp_grammar.specs.Types.{no_semi}
 use Rattle.pp_grammar.specs.Words.{binds, word}
 use Rattle.pp_grammar_sound.proofs.Fronts.{FrontPatterns, patterns_behind, patterns_more, patterns_none}
-use Rattle.pp_grammar_sound.proofs.Modes.{Moved, at_have_pattern, at_pattern_args_open, at_want, at_want_pattern, at_want_stat}
-use Rattle.pp_grammar_sound.proofs.Opens.{Opens, opens_cases, opens_guarding, opens_if_then, opens_naming, opens_pattern_args, opens_pattern_round, opens_stat, stat_arm, stat_assert, stat_braces, stat_head, stat_val, then_at}
+use Rattle.pp_grammar_sound.proofs.Modes.{Moved, at_have_pattern, at_pattern_args_open, at_want, at_want_pattern}
+use Rattle.pp_grammar_sound.proofs.Modes.{at_want_stat}
+use Rattle.pp_grammar_sound.proofs.Opens.{Opens, opens_cases, opens_guarding, opens_if_then, opens_naming}
+use Rattle.pp_grammar_sound.proofs.Opens.{opens_pattern_args, opens_pattern_round, opens_stat, stat_arm, stat_assert}
+use Rattle.pp_grammar_sound.proofs.Opens.{stat_braces, stat_head, stat_val, then_at}
 use Rattle.pp_grammar_sound.proofs.SoundTypes.{keeps_want_pattern}
 use Rattle.pp_tokens.specs.declared.token.Bracket.TheVariants.{CloseRound, Comma, OpenRound}
 use Rattle.pp_tokens.specs.declared.token.Operator.TheVariants.{Arrow, At}

@@ -1,14 +1,21 @@
 -- What each state of the automaton between declarations says of the tokens that were read.
-use Rattle.pp_grammar.specs.Frames.{Fault, Frame, Mode, Parsed, State, after_annotation, after_annotation_line, after_at, after_case, after_chosen, after_import, after_item, after_modifiers, after_object, after_object_line, after_object_title, after_package, after_package_name, after_path_dot, after_path_name, at_item, at_start, between, done, failed, want_chosen, within}
+use Rattle.pp_grammar.specs.Frames.{Fault, Frame, Mode, Parsed, State, after_annotation, after_annotation_line}
+use Rattle.pp_grammar.specs.Frames.{after_at, after_case, after_chosen, after_import, after_item, after_modifiers}
+use Rattle.pp_grammar.specs.Frames.{after_object, after_object_line, after_object_title, after_package}
+use Rattle.pp_grammar.specs.Frames.{after_package_name, after_path_dot, after_path_name, at_item, at_start, between}
+use Rattle.pp_grammar.specs.Frames.{done, failed, want_chosen, within}
 use Rattle.pp_grammar.specs.Joining.{nothing_parsed}
 use Rattle.pp_grammar.specs.Types.{IsBreak, no_newline, one_newline}
-use Rattle.pp_grammar.specs.Units.{IsAnnotations, IsPath, Modifiers, Piece, SpellsUnit, def_of, is_one, modified, no_annotation, object_piece, one_annotation}
+use Rattle.pp_grammar.specs.Units.{IsAnnotations, IsPath, Modifiers, Piece, SpellsUnit, def_of, is_one, modified}
+use Rattle.pp_grammar.specs.Units.{no_annotation, object_piece, one_annotation}
 use Rattle.pp_grammar.specs.Words.{is_known_annotation, is_trait_word, word}
 use Rattle.pp_grammar_sound.proofs.Modes.{Stands}
-use Rattle.pp_grammar_sound.proofs.UnitFronts.{FrontAnnotations, FrontChoice, FrontModified, NoDef, Outer, Place, PlaceEnd, StartAt, added, modified_more, modified_none}
+use Rattle.pp_grammar_sound.proofs.UnitFronts.{FrontAnnotations, FrontChoice, FrontModified, NoDef, Outer, Place}
+use Rattle.pp_grammar_sound.proofs.UnitFronts.{PlaceEnd, StartAt, added, modified_more, modified_none}
 use Rattle.pp_tokens.specs.declared.token.Bracket.TheVariants.{Dot, OpenBrace}
 use Rattle.pp_tokens.specs.declared.token.Operator.TheVariants.{At}
-use Rattle.pp_tokens.specs.declared.token.Reserved.TheVariants.{Abstract, Case, Class, Def, Final, Import, Object, Package, Sealed, Trait}
+use Rattle.pp_tokens.specs.declared.token.Reserved.TheVariants.{Abstract, Case, Class, Def, Final, Import, Object}
+use Rattle.pp_tokens.specs.declared.token.Reserved.TheVariants.{Package, Sealed, Trait}
 use Rattle.pp_tokens.specs.declared.token.Token.{Token}
 use Rattle.pp_tokens.specs.declared.token.TokenKind.{TokenKind}
 use Rattle.pp_tokens.specs.declared.token.TokenKind.TheVariants.{Mark, Name, Newline, Op, Word as Reserve}

@@ -2,14 +2,26 @@
 use Rattle.pp_grammar.specs.Bodies.{of_typed_name}
 use Rattle.pp_grammar.specs.Frames.{Frame, Head, Kind, header, of_class, of_def}
 use Rattle.pp_grammar.specs.Joining.{class_tree}
-use Rattle.pp_grammar.specs.Patterns.{IsPlain, anything, false_pattern, negated_pattern, number_pattern, signed_pattern, true_pattern}
-use Rattle.pp_grammar.specs.StepTypes.{on_have_type, on_int_pattern, on_name_type, on_param_type, on_pattern_minus, on_result_name_type, on_result_name_type_in_round, on_result_type, on_type_arg, on_type_name, on_val_type, on_want_pattern, on_want_type}
+use Rattle.pp_grammar.specs.Patterns.{IsPlain, anything, false_pattern, negated_pattern, number_pattern, signed_pattern}
+use Rattle.pp_grammar.specs.Patterns.{true_pattern}
+use Rattle.pp_grammar.specs.StepTypes.{on_have_type, on_int_pattern, on_name_type, on_param_type, on_pattern_minus}
+use Rattle.pp_grammar.specs.StepTypes.{on_result_name_type, on_result_name_type_in_round, on_result_type, on_type_arg}
+use Rattle.pp_grammar.specs.StepTypes.{on_type_name, on_val_type, on_want_pattern, on_want_type}
 use Rattle.pp_grammar.specs.Types.{IsType, ascribed, last_type, type_name, type_of}
 use Rattle.pp_grammar.specs.Units.{IsParent, case_object, class_decl, class_of, last_param, param_list, parent}
 use Rattle.pp_grammar.specs.Words.{is_minus, is_sign, is_signed, negated_of, negative_of, number_of, plain, role, word}
 use Rattle.pp_grammar_sound.proofs.Fronts.{FrontTypes, params_behind, params_more, types_behind, types_more, types_none}
-use Rattle.pp_grammar_sound.proofs.Modes.{Declares, Moved, at_after_lambda_typed, at_after_name_types, at_after_params, at_after_pattern_minus, at_after_pattern_name, at_after_type_name, at_have_pattern, at_have_type, at_want, at_want_body, at_want_param, at_want_pattern, at_want_type, declares_class}
-use Rattle.pp_grammar_sound.proofs.Opens.{HeadAt, Opens, PostAt, StatAt, begins_class, behind_params, head_param, head_params, opens_claiming, opens_if_then, opens_name_types, opens_object_parent, opens_param_type, opens_parent_type, opens_pattern_round, opens_result_name_type, opens_result_name_type_in_round, opens_result_type, opens_stat, opens_type_args, opens_val_type, opens_val_value, signature, stat_arm, stat_assert, stat_braces, stat_head, stat_val, then_at, wanting_param}
+use Rattle.pp_grammar_sound.proofs.Modes.{Declares, Moved, at_after_lambda_typed, at_after_name_types, at_after_params}
+use Rattle.pp_grammar_sound.proofs.Modes.{at_after_pattern_minus, at_after_pattern_name, at_after_type_name}
+use Rattle.pp_grammar_sound.proofs.Modes.{at_have_pattern, at_have_type, at_want, at_want_body, at_want_param}
+use Rattle.pp_grammar_sound.proofs.Modes.{at_want_pattern, at_want_type, declares_class}
+use Rattle.pp_grammar_sound.proofs.Opens.{HeadAt, Opens, PostAt, StatAt, begins_class, behind_params, head_param}
+use Rattle.pp_grammar_sound.proofs.Opens.{head_params, opens_claiming, opens_if_then, opens_name_types}
+use Rattle.pp_grammar_sound.proofs.Opens.{opens_object_parent, opens_param_type, opens_parent_type, opens_pattern_round}
+use Rattle.pp_grammar_sound.proofs.Opens.{opens_result_name_type, opens_result_name_type_in_round, opens_result_type}
+use Rattle.pp_grammar_sound.proofs.Opens.{opens_stat, opens_type_args, opens_val_type, opens_val_value, signature}
+use Rattle.pp_grammar_sound.proofs.Opens.{stat_arm, stat_assert, stat_braces, stat_head, stat_val, then_at}
+use Rattle.pp_grammar_sound.proofs.Opens.{wanting_param}
 use Rattle.pp_tokens.specs.declared.token.Bracket.TheVariants.{CloseRound, CloseSquare, Comma, OpenRound, OpenSquare}
 use Rattle.pp_tokens.specs.declared.token.Operator.TheVariants.{Arrow, Assign, Colon, Minus}
 use Rattle.pp_tokens.specs.declared.token.Reserved.TheVariants.{False, True, Val}
@@ -17,7 +29,8 @@ use Rattle.pp_tokens.specs.declared.token.Token.{Token}
 use Rattle.pp_tokens.specs.declared.token.TokenKind.{TokenKind}
 use Rattle.pp_tokens.specs.declared.token.TokenKind.TheVariants.{Hex, Hole, Mark, Name, Number, Op, Word as Reserve}
 use Rattle.pp_tree.specs.Plain.{TypeTree, Word, int_pattern}
-use Rattle.std.proofs.Common.{Bool, List, None, Option, Some, [], ap, cond, false, refl, true, ℕ, ℤ, ◌&&◌, ◌∙◌, ◌∷◌, ◌≡◌}
+use Rattle.std.proofs.Common.{Bool, List, None, Option, Some, [], ap, cond, false, refl, true, ℕ, ℤ, ◌&&◌, ◌∙◌, ◌∷◌}
+use Rattle.std.proofs.Common.{◌≡◌}
 
 module _ (text : Word) (t : Token) (ts us : List Token) where
   pub keeps_want_type : (s : List Frame) (k : TokenKind) → t.kind ≡ k → Opens text ts s (t ∷ us)

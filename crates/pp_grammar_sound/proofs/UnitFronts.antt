@@ -2,7 +2,14 @@
 use Rattle.pp_grammar.specs.Frames.{Parsed}
 use Rattle.pp_grammar.specs.Joining.{nothing_parsed, onto, unit_of}
 use Rattle.pp_grammar.specs.Types.{IsBreak, IsGap, IsSemis, no_semi, one_semi, semis}
-use Rattle.pp_grammar.specs.Units.{IsAnnotations, IsChoice, IsDef, IsImport, IsItem, IsItems, IsMember, IsMembers, IsModified, IsMoreItems, IsMoreMembers, IsPackages, IsPath, Modifiers, Piece, SpellsUnit, decl_piece, decls_of, import_piece, imports_of, is_one, item_class, item_import, item_object, items, last_of_path, member_class, member_def, member_import, members, modified, more_of_path, no_items, no_members, no_more_items, no_more_members, no_package, object_of, object_piece, objects_of, one_annotation, one_modifier, one_more_chosen, one_more_item, one_more_member, one_package, unit, unit_of_pieces, unmodified}
+use Rattle.pp_grammar.specs.Units.{IsAnnotations, IsChoice, IsDef, IsImport, IsItem, IsItems, IsMember, IsMembers}
+use Rattle.pp_grammar.specs.Units.{IsModified, IsMoreItems, IsMoreMembers, IsPackages, IsPath, Modifiers, Piece}
+use Rattle.pp_grammar.specs.Units.{SpellsUnit, decl_piece, decls_of, import_piece, imports_of, is_one, item_class}
+use Rattle.pp_grammar.specs.Units.{item_import, item_object, items, last_of_path, member_class, member_def}
+use Rattle.pp_grammar.specs.Units.{member_import, members, modified, more_of_path, no_items, no_members, no_more_items}
+use Rattle.pp_grammar.specs.Units.{no_more_members, no_package, object_of, object_piece, objects_of, one_annotation}
+use Rattle.pp_grammar.specs.Units.{one_modifier, one_more_chosen, one_more_item, one_more_member, one_package, unit}
+use Rattle.pp_grammar.specs.Units.{unit_of_pieces, unmodified}
 use Rattle.pp_grammar.specs.Words.{is_known_annotation, is_semi, word}
 use Rattle.pp_grammar_sound.proofs.Fronts.{gap_goes_on, semis_go_on}
 use Rattle.pp_grammar_sound.proofs.Modes.{Declares, declares_class, declares_def}

@@ -4,12 +4,15 @@ use Rattle.pp_tree.specs.declared.operator.BinaryOp.TheVariants as binary_op
 use Rattle.std.specs.Prelude.{nat_le}
 use Rattle.std.proofs.lemmas.Bool.Decides.{nat_tests}
 use Rattle.pp_grammar.specs.Bodies.{IsHole, hole, hole_on_left, hole_on_right, looser_hole, prefixed_hole}
-use Rattle.pp_grammar.specs.Exprs.{IsExpr, IsInfix, IsSemicolon, IsSimple, if_else, infix_expr, looser, no_prefix, operand, operator, prefixed}
+use Rattle.pp_grammar.specs.Exprs.{IsExpr, IsInfix, IsSemicolon, IsSimple, if_else, infix_expr, looser, no_prefix}
+use Rattle.pp_grammar.specs.Exprs.{operand, operator, prefixed}
 use Rattle.pp_grammar.specs.Frames.{Frame, if_rest, left, prefixing}
 use Rattle.pp_grammar.specs.Joining.{Operand, above, floor, unwind}
 use Rattle.pp_grammar.specs.Types.{IsBreaks}
 use Rattle.pp_grammar.specs.Words.{binary_of, is_sign, level, loosest, unary_of}
-use Rattle.pp_grammar_sound.proofs.Opens.{HoleFits, InfixText, IsHoleOperand, Opens, hole_operand, opens_if_rest, opens_if_then, opens_left, opens_prefixing, opens_stat, stat_arm, stat_assert, stat_braces, stat_head, stat_val, then_at}
+use Rattle.pp_grammar_sound.proofs.Opens.{HoleFits, InfixText, IsHoleOperand, Opens, hole_operand, opens_if_rest}
+use Rattle.pp_grammar_sound.proofs.Opens.{opens_if_then, opens_left, opens_prefixing, opens_stat, stat_arm, stat_assert}
+use Rattle.pp_grammar_sound.proofs.Opens.{stat_braces, stat_head, stat_val, then_at}
 use Rattle.pp_tokens.specs.declared.token.Bracket.TheVariants.{CloseRound, OpenRound}
 use Rattle.pp_tokens.specs.declared.token.Operator.{Operator}
 use Rattle.pp_tokens.specs.declared.token.Reserved.TheVariants.{Else, If}
@@ -18,7 +21,8 @@ use Rattle.pp_tokens.specs.declared.token.TokenKind.TheVariants.{Mark, Op, Word 
 use Rattle.pp_tree.specs.Plain.{Tree, Word, binary, choice, unary}
 use Rattle.pp_tree.specs.declared.operator.BinaryOp.{BinaryOp}
 use Rattle.pp_tree.specs.declared.operator.UnaryOp.{UnaryOp}
-use Rattle.std.proofs.Common.{Bool, List, Some, arith, false, inl, inr, refl, subst, suc, sym, true, zero, ℕ, ◌+◌, ◌-◌, ◌<◌, ◌||◌, ◌∷◌, ◌≡◌, ◌≤◌, ◌⊎◌}
+use Rattle.std.proofs.Common.{Bool, List, Some, arith, false, inl, inr, refl, subst, suc, sym, true, zero, ℕ, ◌+◌, ◌-◌}
+use Rattle.std.proofs.Common.{◌<◌, ◌||◌, ◌∷◌, ◌≡◌, ◌≤◌, ◌⊎◌}
 use Rattle.std.proofs.lemmas.Bool.Decides.{nat_tests}
 
 pub le_cases : (p l : ℕ) → ((nat_le p l ≡ true) × (p ≤ l)) ⊎ ((nat_le p l ≡ false) × (l < p))

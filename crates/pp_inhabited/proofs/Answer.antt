@@ -1,5 +1,6 @@
 -- The answer of a settled table.
-use Rattle.std.proofs.Common.{◌≡◌, ◌∙◌, ℕ, zero, suc, ◌<◌, Bool, List, [], ◌∷◌, Option, Some, None, MatchOption, length, slice_get, refl, sym, arith, true≢false}
+use Rattle.std.proofs.Common.{◌≡◌, ◌∙◌, ℕ, zero, suc, ◌<◌, Bool, List, [], ◌∷◌, Option, Some, None, MatchOption, length}
+use Rattle.std.proofs.Common.{slice_get, refl, sym, arith, true≢false}
 use Rattle.std.proofs.lemmas.Option.{slice_get_read, slice_get_within}
 use Rattle.pp_inhabited.specs.Laws.{FewTypeParams, IsSound, IsClosed}
 use Rattle.pp_inhabited.specs.Settled.{AreClosed}

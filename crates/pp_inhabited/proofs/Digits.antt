@@ -1,5 +1,7 @@
 -- The binary digits of a mask.
-use Rattle.std.proofs.Common.{◌≡◌, ◌∙◌, ℕ, zero, suc, ◌+◌, ◌-◌, ◌*◌, ◌/◌, ◌%◌, ◌<◌, ◌≤◌, Bool, true, false, not, nat_eq, if◌then◌else◌, List, [], ◌∷◌, Option, Some, None, slice_get, length, map, drop, drop-cons, get_or, refl, sym, ap, arith}
+use Rattle.std.proofs.Common.{◌≡◌, ◌∙◌, ℕ, zero, suc, ◌+◌, ◌-◌, ◌*◌, ◌/◌, ◌%◌, ◌<◌, ◌≤◌, Bool, true, false, not, nat_eq}
+use Rattle.std.proofs.Common.{if◌then◌else◌, List, [], ◌∷◌, Option, Some, None, slice_get, length, map, drop, drop-cons}
+use Rattle.std.proofs.Common.{get_or, refl, sym, ap, arith}
 use Rattle.std.proofs.lemmas.List.{length-drop, length-map}
 use Rattle.pp_inhabited.specs.Table.{mask_of, is_dead}
 use Rattle.pp_typed.specs.declared.sort.GenericSort.{GenericSort}

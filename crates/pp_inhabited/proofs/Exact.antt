@@ -1,14 +1,18 @@
 -- A table that is sound and closed is exact.
-use Rattle.std.proofs.Common.{◌≡◌, ◌∙◌, ℕ, zero, suc, ◌+◌, ◌*◌, ◌<◌, ◌≤◌, Bool, true, false, not, ◌&&◌, List, [], ◌∷◌, Option, Some, None, map, length, slice_get, refl, sym, ap, subst, arith, eq-eqb, unwrap_or, if◌then◌else◌}
+use Rattle.std.proofs.Common.{◌≡◌, ◌∙◌, ℕ, zero, suc, ◌+◌, ◌*◌, ◌<◌, ◌≤◌, Bool, true, false, not, ◌&&◌, List, [], ◌∷◌}
+use Rattle.std.proofs.Common.{Option, Some, None, map, length, slice_get, refl, sym, ap, subst, arith, eq-eqb}
+use Rattle.std.proofs.Common.{unwrap_or, if◌then◌else◌}
 use Rattle.std.proofs.lemmas.List.{length-map}
 use Rattle.std.proofs.lemmas.Option.{get_or_from_slice_get, slice_get-map, slice_get_within}
 use Rattle.std.specs.Option.{option_map}
 use Rattle.pp_inhabited.specs.Laws.{FewTypeParams, IsSound, IsClosed}
 use Rattle.pp_typed.specs.Put.{put}
 use Rattle.pp_inhabited.specs.Table.{all_live, has_arity, lives, look, mask_of}
-use Rattle.pp_typed.specs.Value.{HasValue, an_int, a_truth, a_param, a_tree, HaveValues, no_values, more_values, IsInhabited, params_from}
+use Rattle.pp_typed.specs.Value.{HasValue, an_int, a_truth, a_param, a_tree, HaveValues, no_values, more_values}
+use Rattle.pp_typed.specs.Value.{IsInhabited, params_from}
 use Rattle.pp_inhabited.proofs.Digits.{dead_at, none_dead, mask_digit, mask_small}
-use Rattle.pp_inhabited.proofs.Layers.{lives-int, lives-truth, lives-param, lives-root, put-int, put-truth, put-param, put-root}
+use Rattle.pp_inhabited.proofs.Layers.{lives-int, lives-truth, lives-param, lives-root, put-int, put-truth, put-param}
+use Rattle.pp_inhabited.proofs.Layers.{put-root}
 use Rattle.pp_typed.specs.declared.sort.GenericSort.{GenericSort}
 use Rattle.pp_typed.specs.declared.sort.GenericSort.TheOpen as layer
 use Rattle.pp_typed.specs.declared.sort.GenericSort.TheVariants.{Param, rolls-Int, rolls-Bool, rolls-Param, rolls-Root}

@@ -5,7 +5,8 @@ use Rattle.pp_inhabited.specs.Table.{has_arity, lives, lives_step, look, mask_of
 use Rattle.pp_typed.specs.declared.sort.GenericSort.{GenericSort}
 use Rattle.pp_typed.specs.declared.sort.GenericSort.TheFolds.{fold-roll-GenericSort}
 use Rattle.pp_typed.specs.declared.sort.GenericSort.TheOpen as layer
-use Rattle.pp_typed.specs.declared.sort.GenericSort.TheVariants.{Int, Bool as Truth, Param, Root, rolls-Int, rolls-Bool, rolls-Param, rolls-Root}
+use Rattle.pp_typed.specs.declared.sort.GenericSort.TheVariants.{Int, Bool as Truth, Param, Root, rolls-Int, rolls-Bool}
+use Rattle.pp_typed.specs.declared.sort.GenericSort.TheVariants.{rolls-Param, rolls-Root}
 use Rattle.pp_typed.specs.declared.typed.TypedRoot.{TypedRoot}
 
 module _ (roots : List TypedRoot) (t : List Bool) (m : ℕ) where

@@ -1,5 +1,6 @@
 -- What visits write and keep.
-use Rattle.std.proofs.Common.{◌≡◌, ◌∙◌, ℕ, zero, suc, ◌≤◌, Bool, true, false, not, ◌&&◌, nat_eq, List, [], ◌∷◌, Option, Some, None, map, length, slice_get, unwrap_or, refl, sym, subst, arith}
+use Rattle.std.proofs.Common.{◌≡◌, ◌∙◌, ℕ, zero, suc, ◌≤◌, Bool, true, false, not, ◌&&◌, nat_eq, List, [], ◌∷◌, Option}
+use Rattle.std.proofs.Common.{Some, None, map, length, slice_get, unwrap_or, refl, sym, subst, arith}
 use Rattle.std.proofs.lemmas.Bool.{eqb-true}
 use Rattle.std.proofs.lemmas.List.{length-map}
 use Rattle.std.proofs.lemmas.Option.{get_or_from_slice_get, slice_get_within}
@@ -12,7 +13,8 @@ use Rattle.pp_inhabited.proofs.Exact.{both_true, not_true}
 use Rattle.pp_inhabited.proofs.Layers.{lives-param, lives-root, put-int, put-truth, put-param, put-root}
 use Rattle.pp_typed.specs.declared.sort.GenericSort.{GenericSort}
 use Rattle.pp_typed.specs.declared.sort.GenericSort.TheOpen as layer
-use Rattle.pp_typed.specs.declared.sort.GenericSort.TheVariants.{Param, Root, rolls-Int, rolls-Bool, rolls-Param, rolls-Root}
+use Rattle.pp_typed.specs.declared.sort.GenericSort.TheVariants.{Param, Root, rolls-Int, rolls-Bool, rolls-Param}
+use Rattle.pp_typed.specs.declared.sort.GenericSort.TheVariants.{rolls-Root}
 use Rattle.pp_typed.specs.declared.sort.GenericSort.TheFolds.{ind-GenericSort, map-GenericSort}
 use Rattle.pp_typed.specs.declared.sort.GenericSort.TheViews.{roll-GenericSort}
 use Rattle.pp_typed.specs.declared.typed.TypedCtor.{TypedCtor}

@@ -1,5 +1,7 @@
 -- What a written row does to a table, and visits one after another.
-use Rattle.std.proofs.Common.{◌≡◌, ◌≢◌, ◌∙◌, ◌⊎◌, inl, inr, ℕ, zero, suc, ◌+◌, ◌*◌, ◌<◌, Bool, true, false, ◌||◌, nat_eq, List, [], ◌∷◌, Some, length, slice_get, slice_set, get_or, Contains, refl, sym, ap, subst, arith, true≢false}
+use Rattle.std.proofs.Common.{◌≡◌, ◌≢◌, ◌∙◌, ◌⊎◌, inl, inr, ℕ, zero, suc, ◌+◌, ◌*◌, ◌<◌, Bool, true, false, ◌||◌}
+use Rattle.std.proofs.Common.{nat_eq, List, [], ◌∷◌, Some, length, slice_get, slice_set, get_or, Contains, refl, sym}
+use Rattle.std.proofs.Common.{ap, subst, arith, true≢false}
 use Rattle.std.proofs.lemmas.Bool.Decides.{eqb_tells}
 use Rattle.std.proofs.Math.ListN.{length-set}
 use Rattle.pp_inhabited.specs.Laws.{FewTypeParams, FitsMask, IsSound}

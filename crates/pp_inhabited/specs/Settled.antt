@@ -1,5 +1,6 @@
 -- What visits do to a table. Source: own.
-use Rattle.std.specs.Prelude.{◌≡◌, ◌<◌, ℕ, ◌+◌, Bool, true, false, if◌then◌else◌, List, [], ◌∷◌, Some, All, length, slice_get}
+use Rattle.std.specs.Prelude.{◌≡◌, ◌<◌, ℕ, ◌+◌, Bool, true, false, if◌then◌else◌, List, [], ◌∷◌, Some, All, length}
+use Rattle.std.specs.Prelude.{slice_get}
 use Rattle.pp_inhabited.specs.Laws.{IsSound, IsClosedAt}
 use Rattle.pp_typed.specs.declared.typed.TypedCtor.{TypedCtor}
 use Rattle.pp_typed.specs.declared.typed.TypedRoot.{TypedRoot}

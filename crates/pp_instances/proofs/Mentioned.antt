@@ -7,7 +7,8 @@ use Rattle.pp_instances.specs.declared.member.Member.{Member}
 use Rattle.pp_typed.specs.declared.sort.GenericSort.{GenericSort}
 use Rattle.pp_typed.specs.declared.sort.GenericSort.TheFolds.{para-roll-GenericSort}
 use Rattle.pp_typed.specs.declared.sort.GenericSort.TheOpen as sort_layer
-use Rattle.pp_typed.specs.declared.sort.GenericSort.TheVariants.{Int, Bool, Param, Root, rolls-Int, rolls-Bool, rolls-Param, rolls-Root}
+use Rattle.pp_typed.specs.declared.sort.GenericSort.TheVariants.{Int, Bool, Param, Root, rolls-Int, rolls-Bool}
+use Rattle.pp_typed.specs.declared.sort.GenericSort.TheVariants.{rolls-Param, rolls-Root}
 
 abbrev Ms : Type 0
 Ms = List Member

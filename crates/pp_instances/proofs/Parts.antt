@@ -1,10 +1,12 @@
 -- Lists of parts, one after another.
-use Rattle.std.proofs.Common.{◌≡◌, ℕ, ◌+◌, ◌<◌, List, [], ◌∷◌, ◌++◌, map, take, length, get_or, refl, sym, ap, ◌∙◌, append_assoc}
+use Rattle.std.proofs.Common.{◌≡◌, ℕ, ◌+◌, ◌<◌, List, [], ◌∷◌, ◌++◌, map, take, length, get_or, refl, sym, ap, ◌∙◌}
+use Rattle.std.proofs.Common.{append_assoc}
 use Rattle.std.proofs.lemmas.List.{append-nil, take_more}
 use Rattle.pp_instances.specs.Same.{joined}
 
 -- two parts, one after the other
-pub two_parts : {A : Type 0} (start a b : List A) {mid end whole : List A} → mid ≡ start ++ a → end ≡ mid ++ b → whole ≡ a ++ b → end ≡ start ++ whole
+pub two_parts : {A : Type 0} (start a b : List A) {mid end whole : List A} → mid ≡ start ++ a → end ≡ mid ++ b
+    → whole ≡ a ++ b → end ≡ start ++ whole
 two_parts start a b p q r =
     q ∙ ap (λ l. l ++ b) p ∙ append_assoc start a b ∙ ap (λ l. start ++ l) (sym r)
 

@@ -1,5 +1,6 @@
 -- Printed names, piece by piece.
-use Rattle.std.proofs.Common.{◌≡◌, ℕ, zero, suc, ◌+◌, ◌<◌, ◌≤◌, List, [], ◌∷◌, ◌++◌, map, take, drop, length, get_or, refl, sym, ap, ◌∙◌, append_assoc, arith}
+use Rattle.std.proofs.Common.{◌≡◌, ℕ, zero, suc, ◌+◌, ◌<◌, ◌≤◌, List, [], ◌∷◌, ◌++◌, map, take, drop, length, get_or}
+use Rattle.std.proofs.Common.{refl, sym, ap, ◌∙◌, append_assoc, arith}
 use Rattle.std.proofs.lemmas.List.{take_more, take_all}
 use Rattle.pp_instances.proofs.Parts.{joined_push, map_push, two_parts}
 use Rattle.pp_instances.specs.Names.{after_comma, bracketed, printed_later, printed_sort}
@@ -18,7 +19,8 @@ some_taken (x ∷ xs) (suc i) h lt = omega arith
 
 module _ (typed : Typed) where
   -- one more sort after a comma
-  pub later_more : (xs : List GenericSort) (i : ℕ) (x : GenericSort) (start : List ℕ) {mid comma end : List ℕ} → 1 ≤ i → i < length xs
+  pub later_more : (xs : List GenericSort) (i : ℕ) (x : GenericSort) (start : List ℕ) {mid comma end : List ℕ} → 1 ≤ i
+      → i < length xs
       → x ≡ get_or xs i x → mid ≡ start ++ joined (map (printed_later typed) (drop 1 (take i xs)))
       → comma ≡ mid ++ 44 ∷ 32 ∷ [] → end ≡ comma ++ printed_sort typed x
       → end ≡ start ++ joined (map (printed_later typed) (drop 1 (take (i + 1) xs)))
@@ -37,15 +39,19 @@ module _ (typed : Typed) where
   each_later (x ∷ xs) = ap (λ l. printed_later typed x ∷ l) (each_later xs)
 
   -- the first, the later ones, and the brackets
-  pub bracketed_is : (xs : List GenericSort) (i : ℕ) (x : GenericSort) (start : List ℕ) {one two all end : List ℕ} → 0 < length xs
+  pub bracketed_is : (xs : List GenericSort) (i : ℕ) (x : GenericSort) (start : List ℕ) {one two all end : List ℕ}
+      → 0 < length xs
       → x ≡ get_or xs 0 x → length xs ≤ i → one ≡ start ++ 91 ∷ [] → two ≡ one ++ printed_sort typed x
       → all ≡ two ++ joined (map (printed_later typed) (drop 1 (take i xs))) → end ≡ all ++ 93 ∷ []
       → end ≡ start ++ bracketed (map (printed_sort typed) xs)
   bracketed_is [] i x start some is over p q r s = absurd (omega (arith, some))
   bracketed_is (y ∷ ys) i x start {one} {two} {all} {end} some is over p q r s =
       let later = joined (map after_comma (map (printed_sort typed) ys)) in
-      let all_is : all ≡ two ++ later = r ∙ ap (λ l. two ++ joined (map (printed_later typed) (drop 1 l))) (take_all i (y ∷ ys) over) ∙ ap (λ l. two ++ joined l) (each_later ys) in
+      let all_is : all ≡ two ++ later =
+      r ∙ ap (λ l. two ++ joined (map (printed_later typed) (drop 1 l))) (take_all i (y ∷ ys) over)
+      ∙ ap (λ l. two ++ joined l) (each_later ys) in
       let two_is : two ≡ start ++ (91 ∷ printed_sort typed y) =
-      q ∙ ap (λ z. one ++ printed_sort typed z) is ∙ ap (λ l. l ++ printed_sort typed y) p ∙ append_assoc start (91 ∷ []) (printed_sort typed y) in
+      q ∙ ap (λ z. one ++ printed_sort typed z) is ∙ ap (λ l. l ++ printed_sort typed y) p
+      ∙ append_assoc start (91 ∷ []) (printed_sort typed y) in
       s ∙ ap (λ l. l ++ 93 ∷ []) all_is ∙ append_assoc two later (93 ∷ []) ∙ ap (λ l. l ++ (later ++ 93 ∷ [])) two_is
       ∙ append_assoc start (91 ∷ printed_sort typed y) (later ++ 93 ∷ [])

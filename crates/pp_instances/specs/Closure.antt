@@ -35,8 +35,8 @@ module _ (typed : Typed) where
   abbrev pub HasInstance : List Member → ℕ → Type 0
   HasInstance seeds f = (m : Member) × Used seeds m × (m.of ≡ Function f)
 
-  -- The seeds after the first functions have been looked at, in program order: where one has no instance in the closure of
-  -- the seeds so far, it is added with every type parameter `Int`.
+  -- The seeds after the first functions have been looked at, in program order: where one has no instance in the closure
+  -- of the seeds so far, it is added with every type parameter `Int`.
   pub data Filled : ℕ → List Member → Type 0 where
     at_first : Filled 0 (start typed)
     has_some : (f : ℕ) (seeds : List Member) → Filled f seeds → HasInstance seeds f → Filled (f + 1) seeds

@@ -1,4 +1,5 @@
--- The order of instances: that of the program, and instances of one declaration in the byte order of their printed names.
+-- The order of instances: that of the program, and instances of one declaration in the byte order of their printed
+-- names.
 -- Source: own.
 use Rattle.std.specs.Prelude.{◌≡◌, ◌⊎◌, ◌<◌, ℕ, List, Some, slice_get, Contains}
 use Rattle.std.specs.Ordering.{nat_cmp}

@@ -1,6 +1,7 @@
 -- What a member uses: each function at the type arguments of each use in its text, contracts included, and each type in
 -- its text with the types inside it; a type uses those of its fields. Source: own.
-use Rattle.std.specs.Prelude.{ℕ, suc, nat_eq, if◌then◌else◌, List, [], ◌∷◌, ◌++◌, map, Option, Some, None, replicate, slice_get}
+use Rattle.std.specs.Prelude.{ℕ, suc, nat_eq, if◌then◌else◌, List, [], ◌∷◌, ◌++◌, map, Option, Some, None, replicate}
+use Rattle.std.specs.Prelude.{slice_get}
 use Rattle.pp_instances.specs.Same.{joined}
 use Rattle.pp_instances.specs.declared.member.Decl.{Decl}
 use Rattle.pp_instances.specs.declared.member.Decl.TheVariants.{Function, Root}
@@ -102,7 +103,8 @@ signature_mentions d = joined (map param_types d.params) ++ types_in d.result
 
 -- what it mentions in its contract and its body
 abbrev pub text_mentions : TypedDef → List Member
-text_mentions d = joined (map mentions d.pre) ++ joined (map mentions d.measure) ++ mentions d.body ++ post_mentions d.post
+text_mentions d = joined (map mentions d.pre) ++ joined (map mentions d.measure) ++ mentions d.body
+    ++ post_mentions d.post
 
 abbrev pub def_mentions : TypedDef → List Member
 def_mentions d = signature_mentions d ++ text_mentions d

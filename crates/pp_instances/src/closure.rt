@@ -1,6 +1,7 @@
 //! The instances that are used.
 
-ghost use Rattle.std.specs.Prelude.{◌≡◌, ◌↔◌, IsTrue, ◌≤◌, ◌<◌, ◌^◌, [], ◌∷◌, ◌++◌, ℕ, List, IfOk, MatchResult, map, length, Some, slice_get};
+ghost use Rattle.std.specs.Prelude.{◌≡◌, ◌↔◌, IsTrue, ◌≤◌, ◌<◌, ◌^◌, [], ◌∷◌, ◌++◌, ℕ, List, IfOk, MatchResult, map};
+ghost use Rattle.std.specs.Prelude.{length, Some, slice_get};
 ghost use Rattle.pp_instances.specs.Closure.{AreInstances, Distinct, HasMore, IsClosure, IsCause};
 ghost use Rattle.pp_instances.specs.Growth.{Gains, Bursts, Stage, WhyNot, HasFunction};
 ghost use Rattle.pp_instances.specs.Uses.{at_args, at_ints, function_at, start, uses};
@@ -139,7 +140,8 @@ fn include_start(alloc: Global, typed: &Typed, members: &mut Members) -> Result<
     requires few_defs { length typed.now.defs < 2 ^ 32 }
     requires none { members.old ≡ [] }
     ensures few { IfOk result (λ _. length members.new ≤ 512) }
-    ensures gains { MatchResult result (λ _. Gains [] (start typed.now) members.new) (WhyNot (Bursts 512 [] (start typed.now))) }
+    ensures gains { MatchResult result (λ _. Gains [] (start typed.now) members.new)
+        (WhyNot (Bursts 512 [] (start typed.now))) }
 {
     let defs = typed.defs.as_slice();
     for f in 0..defs.len() {
@@ -189,9 +191,9 @@ fn fill(
     close(alloc, typed, members, first)
 }
 
-/// All instances of the functions and the types of a program: those that the functions without type parameters use, and,
-/// for each function that has none, the one with every type parameter `Int`. `TooManyInstances` comes exactly where
-/// there are more than 512 on the way. The other error is want of memory.
+/// All instances of the functions and the types of a program: those that the functions without type parameters use,
+/// and, for each function that has none, the one with every type parameter `Int`. `TooManyInstances` comes exactly
+/// where there are more than 512 on the way. The other error is want of memory.
 pub fn instances(alloc: Global, typed: &Typed) -> Result<Members, InstancesFault>
     requires few_defs { length typed.now.defs < 2 ^ 32 }
     ensures few { IfOk result (λ ms. length ms ≤ 512) }

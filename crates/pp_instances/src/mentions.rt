@@ -2,7 +2,9 @@
 
 ghost use Rattle.std.specs.Prelude.{◌≡◌, ◌++◌, ◌∷◌, [], IfOk, map};
 ghost use Rattle.pp_instances.specs.Same.{joined};
-ghost use Rattle.pp_instances.specs.Uses.{types_in, types_of, mentions, case_mentions, guard_mentions, kind_mentions, param_types, signature_mentions, text_mentions, def_mentions, decl_mentions, function_at, ctor_mentions, post_mentions};
+ghost use Rattle.pp_instances.specs.Uses.{types_in, types_of, mentions, case_mentions, guard_mentions, kind_mentions};
+ghost use Rattle.pp_instances.specs.Uses.{param_types, signature_mentions, text_mentions, def_mentions, decl_mentions};
+ghost use Rattle.pp_instances.specs.Uses.{function_at, ctor_mentions, post_mentions};
 
 use crate::NoMemory;
 use crate::member::{Decl, Member};

@@ -47,7 +47,8 @@ fn add_sort(typed: &Typed, sort: &GenericSort, out: &mut String) -> Result<(), N
 /// Adds the printed names of the sorts, in brackets where there are any.
 #[cycle(names)]
 fn add_args(typed: &Typed, sorts: &[GenericSort], out: &mut String) -> Result<(), NoMemory>
-    ensures { IfOk result (λ _. string_bytes out.new ≡ string_bytes out.old ++ bracketed (map (printed_sort typed.now) sorts.now)) }
+    ensures { IfOk result (λ _. string_bytes out.new ≡ string_bytes out.old
+        ++ bracketed (map (printed_sort typed.now) sorts.now)) }
 {
     if sorts.is_empty() {
         return Ok(());

@@ -1,4 +1,4 @@
-// Lists and boxes at a type of their own.
+//! Lists and boxes at a type of their own.
 
 use super::*;
 use std::test::Fail;

@@ -1,5 +1,7 @@
 -- Places that are grouped by the numbers that stand there.
-use Rattle.std.proofs.Common.{◌≡◌, ◌∙◌, ℕ, zero, suc, ◌+◌, ◌<◌, ◌≢◌, Bool, true, false, List, [], ◌∷◌, ◌++◌, map, length, refl, sym, ap, subst, arith, get_or, slice_set, nat_eq, if◌then◌else◌, Vec, Global, add-one, add-zero, ◌⊎◌, inl, inr, take}
+use Rattle.std.proofs.Common.{◌≡◌, ◌∙◌, ℕ, zero, suc, ◌+◌, ◌<◌, ◌≢◌, Bool, true, false, List, [], ◌∷◌, ◌++◌, map}
+use Rattle.std.proofs.Common.{length, refl, sym, ap, subst, arith, get_or, slice_set, nat_eq, if◌then◌else◌, Vec}
+use Rattle.std.proofs.Common.{Global, add-one, add-zero, ◌⊎◌, inl, inr, take}
 use Rattle.std.proofs.lemmas.Bool.Decides.{eqb_tells}
 use Rattle.std.proofs.lemmas.List.{length-take-le, length-map, get_or-map}
 use Rattle.std.proofs.Math.Seq.{take-suc}

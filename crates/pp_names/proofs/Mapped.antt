@@ -1,5 +1,6 @@
 -- Searches through the image of a list.
-use Rattle.std.proofs.Common.{◌≡◌, ◌∙◌, Bool, ◌||◌, List, [], ◌∷◌, map, length, position, refl, sym, ap, Some, None, nat_lt, if◌then◌else◌}
+use Rattle.std.proofs.Common.{◌≡◌, ◌∙◌, Bool, ◌||◌, List, [], ◌∷◌, map, length, position, refl, sym, ap, Some, None}
+use Rattle.std.proofs.Common.{nat_lt, if◌then◌else◌}
 use Rattle.std.proofs.lemmas.List.{length-map}
 use Rattle.std.specs.List.{list_any, position_or_len}
 

@@ -1,9 +1,14 @@
 -- What holds of each offset of a unit holds of the place of each root.
-use Rattle.std.proofs.Common.{ℕ, ◌≡◌, List, [], ◌∷◌, ◌++◌, map, subst, Bool, true, false, cond, nat_lt, Option, Some, None}
+use Rattle.std.proofs.Common.{ℕ, ◌≡◌, List, [], ◌∷◌, ◌++◌, map, subst, Bool, true, false, cond, nat_lt, Option, Some}
+use Rattle.std.proofs.Common.{None}
 use Rattle.std.specs.Prelude.{flat_map}
-use Rattle.pp_tree.specs.Offsets.{TypeOffsets, WrittenOffsets, Offsets, ListOffsets, ParamOffsets, ClassOffsets, PostOffsets, DeclOffsets, DeclsOffsets, UnitOffsets}
-use Rattle.pp_tree.specs.Plain.{TypeTree, type_text, Tree, int, bool, name, apply, field, unary, binary, choice, matching, val_in, assert_in, ParamTree, ClassTree, PostTree, DeclTree, root, ctor, other, def, UnitTree}
-use Rattle.pp_tree.specs.Roots.{Root, place_of, type_place, expr_root, type_root, param_root, written_roots, class_roots, post_roots, decl_roots, unit_roots, too_high}
+use Rattle.pp_tree.specs.Offsets.{TypeOffsets, WrittenOffsets, Offsets, ListOffsets, ParamOffsets, ClassOffsets}
+use Rattle.pp_tree.specs.Offsets.{PostOffsets, DeclOffsets, DeclsOffsets, UnitOffsets}
+use Rattle.pp_tree.specs.Plain.{TypeTree, type_text, Tree, int, bool, name, apply, field, unary, binary, choice}
+use Rattle.pp_tree.specs.Plain.{matching, val_in, assert_in, ParamTree, ClassTree, PostTree, DeclTree, root, ctor}
+use Rattle.pp_tree.specs.Plain.{other, def, UnitTree}
+use Rattle.pp_tree.specs.Roots.{Root, place_of, type_place, expr_root, type_root, param_root, written_roots}
+use Rattle.pp_tree.specs.Roots.{class_roots, post_roots, decl_roots, unit_roots, too_high}
 
 module _ (P : ℕ → Type 0) where
   abbrev AllAt : List Root → Type 0

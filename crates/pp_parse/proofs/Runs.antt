@@ -1,5 +1,6 @@
 -- The run over all tokens, one token at a time.
-use Rattle.std.proofs.Common.{ℕ, ◌≡◌, ◌+◌, ◌-◌, ◌<◌, ◌≤◌, length, length-append, get_or, take, drop, arith, List, [], ◌∷◌, ◌++◌, All, refl, ap, sym, ◌∙◌, subst, Bool, true, false, cond, Option, Some}
+use Rattle.std.proofs.Common.{ℕ, ◌≡◌, ◌+◌, ◌-◌, ◌<◌, ◌≤◌, length, length-append, get_or, take, drop, arith, List, []}
+use Rattle.std.proofs.Common.{◌∷◌, ◌++◌, All, refl, ap, sym, ◌∙◌, subst, Bool, true, false, cond, Option, Some}
 use Rattle.std.proofs.lemmas.List.{take_more, drop_more, drop_all, take_all}
 use Rattle.std.proofs.lemmas.List.Elements.{All-head, All-tail}
 use Rattle.pp_tokens.specs.declared.token.Token.{Token}

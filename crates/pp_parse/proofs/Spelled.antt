@@ -1,5 +1,6 @@
 -- The parser's answers, in the words of the grammar.
-use Rattle.std.proofs.Common.{ℕ, ◌≡◌, ◌-◌, ◌<◌, ◌⊎◌, inl, inr, length, arith, List, [], ◌∷◌, ◌++◌, append_assoc, refl, sym, ◌∙◌, subst, Option, Some, None, MatchOption, Result, Ok, Err, IfOk, IfErr}
+use Rattle.std.proofs.Common.{ℕ, ◌≡◌, ◌-◌, ◌<◌, ◌⊎◌, inl, inr, length, arith, List, [], ◌∷◌, ◌++◌, append_assoc, refl}
+use Rattle.std.proofs.Common.{sym, ◌∙◌, subst, Option, Some, None, MatchOption, Result, Ok, Err, IfOk, IfErr}
 use Rattle.pp_tokens.specs.declared.token.Token.{Token}
 use Rattle.pp_tree.specs.Count.{UnitFewCases}
 use Rattle.pp_tree.specs.Offsets.{UnitOffsets}

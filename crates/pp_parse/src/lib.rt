@@ -2,8 +2,8 @@
 //!
 //! [`parse`] runs the automaton of `pp_grammar` over the tokens. What is open stands in a list, so nothing here
 //! recurses on what is nested in the source. `specs/Shown.antt` says which state of the automaton the parser's values
-//! stand for, `specs/Answers.antt` what the answers are by it, and `specs/Spelled.antt` what they mean in the words of the
-//! grammar.
+//! stand for, `specs/Answers.antt` what the answers are by it, and `specs/Spelled.antt` what they mean in the words of
+//! the grammar.
 #![tactic(auto)]
 
 mod declarations;

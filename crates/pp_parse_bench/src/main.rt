@@ -1,5 +1,5 @@
-//! How fast a source is parsed: `pp_parse_bench PATH` reads the file and prints how many declarations its unit has, or why
-//! it is refused.
+//! How fast a source is parsed: `pp_parse_bench PATH` reads the file and prints how many declarations its unit has, or
+//! why it is refused.
 #![tactic(auto)]
 
 use bumpalo::Bump;

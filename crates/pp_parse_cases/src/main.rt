@@ -1,5 +1,6 @@
 //! Sources and what they are answered: `pp_parse_cases CASES PROGRAM` reads both files. It parses the source that each
-//! line of the first has, and prints the unit that it spells, or why it is refused. In a line `\n` stands for a line feed.
+//! line of the first has, and prints the unit that it spells, or why it is refused. In a line `\n` stands for a line
+//! feed.
 //! Of the second it prints whether it is a unit, how often it can be cut within its outer braces, and how many of the
 //! pieces are units. Last come a name in many brackets, and many brackets that nothing closes.
 #![tactic(auto)]

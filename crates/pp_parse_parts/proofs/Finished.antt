@@ -1,8 +1,10 @@
 -- Lists of parts, the last first, that are finished.
-use Rattle.std.proofs.Common.{◌≡◌, List, [], ◌∷◌, ◌++◌, map, append-nil, refl, ap, sym, ◌∙◌, option_map, subst, Option, Some, None}
+use Rattle.std.proofs.Common.{◌≡◌, List, [], ◌∷◌, ◌++◌, map, append-nil, refl, ap, sym, ◌∙◌, option_map, subst, Option}
+use Rattle.std.proofs.Common.{Some, None}
 use Rattle.pp_tree.specs.declared.expr.Case.{Case}
 use Rattle.pp_tree.specs.declared.expr.ExprKind.TheViews.{out-Case, roll-out-Case}
-use Rattle.pp_tree.specs.Plain.{TypeTree, TypeTrees, no_types, PatternTree, no_patterns, Tree, no_trees, CaseTrees, no_cases}
+use Rattle.pp_tree.specs.Plain.{TypeTree, TypeTrees, no_types, PatternTree, no_patterns, Tree, no_trees, CaseTrees}
+use Rattle.pp_tree.specs.Plain.{no_cases}
 use Rattle.pp_tree.specs.Shown.{type_trees, pattern_trees, trees, case_trees, case_of, case_before, pattern_of, tree_of}
 use Rattle.pp_tree.proofs.Folded.{case_is}
 use Rattle.pp_grammar.specs.Frames.{CaseText}

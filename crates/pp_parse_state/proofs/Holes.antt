@@ -1,5 +1,6 @@
 -- Where the hole may stand, one frame at a time.
-use Rattle.std.proofs.Common.{◌≡◌, ℕ, ◌+◌, ◌-◌, ◌<◌, ◌≤◌, length, get_or, take, arith, List, [], ◌∷◌, refl, ap, sym, ◌∙◌, true, false}
+use Rattle.std.proofs.Common.{◌≡◌, ℕ, ◌+◌, ◌-◌, ◌<◌, ◌≤◌, length, get_or, take, arith, List, [], ◌∷◌, refl, ap, sym}
+use Rattle.std.proofs.Common.{◌∙◌, true, false}
 use Rattle.std.proofs.lemmas.List.{take_more}
 use Rattle.pp_grammar.specs.Frames.{Frame as plain_frame, prefixing, left, claiming_hole}
 use Rattle.pp_grammar.specs.Joining.{takes_hole}
@@ -22,9 +23,11 @@ hole_ends claiming_hole s h = refl
 hole_ends _ s h = refl
 
 -- the frame at depth d - 1 is the top of the first d
-pub top_of_first : (fs : List Frame) (d : ℕ) (f : Frame) → 0 < d → d ≤ length fs → f ≡ get_or fs (d - 1) f → takes_hole (stacked frame_of (take d fs) []) ≡ takes_hole (frame_of f ∷ stacked frame_of (take (d - 1) fs) [])
+pub top_of_first : (fs : List Frame) (d : ℕ) (f : Frame) → 0 < d → d ≤ length fs → f ≡ get_or fs (d - 1) f
+    → takes_hole (stacked frame_of (take d fs) []) ≡ takes_hole (frame_of f ∷ stacked frame_of (take (d - 1) fs) [])
 top_of_first fs d f some within is =
     let n : (d - 1) + 1 ≡ d = omega arith in
-    ap (λ k. takes_hole (stacked frame_of (take k fs) [])) (sym n) ∙ ap (λ l. takes_hole (stacked frame_of l [])) (take_more fs (d - 1) f (omega arith))
+    ap (λ k. takes_hole (stacked frame_of (take k fs) [])) (sym n)
+    ∙ ap (λ l. takes_hole (stacked frame_of l [])) (take_more fs (d - 1) f (omega arith))
     ∙ ap takes_hole (stacked_push frame_of (take (d - 1) fs) (get_or fs (d - 1) f) [])
     ∙ ap (λ g. takes_hole (frame_of g ∷ stacked frame_of (take (d - 1) fs) [])) (sym is)

@@ -111,7 +111,8 @@ abbrev pub mode_of : Mode → plain.Mode
 mode_of mode.Want = plain.want
 mode_of (mode.Have e h) = plain.have (tree_of e.tree) h
 mode_of (mode.AfterName at w) = plain.after_name at w.now
-mode_of (mode.AfterNameTypes at w ts) = plain.after_name_types at w.now (type_trees (map (λ t. type_of t.tree) ts.items))
+mode_of (mode.AfterNameTypes at w ts) =
+    plain.after_name_types at w.now (type_trees (map (λ t. type_of t.tree) ts.items))
 mode_of (mode.ArgsOpen at w ts) = plain.args_open at w.now (type_trees (map (λ t. type_of t.tree) ts.items))
 mode_of (mode.AfterInt at) = plain.after_int at
 mode_of (mode.AfterIntDot at) = plain.after_int_dot at

@@ -1,7 +1,8 @@
 -- The roles that the parser's values stand for.
 use Rattle.pp_grammar.specs.Words as plain
 use Rattle.pp_parse_state.specs.declared.words.Role.{Role}
-use Rattle.pp_parse_state.specs.declared.words.Role.TheVariants.{Plain, Require, Decreases, Ensuring, Holds, Assert, Int, Boolean}
+use Rattle.pp_parse_state.specs.declared.words.Role.TheVariants.{Plain, Require, Decreases, Ensuring, Holds, Assert}
+use Rattle.pp_parse_state.specs.declared.words.Role.TheVariants.{Int, Boolean}
 
 abbrev pub role_of : Role → plain.Role
 role_of Plain = plain.plain

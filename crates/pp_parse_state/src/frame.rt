@@ -31,8 +31,8 @@ pub struct Head<'a> {
     pub params: Vec<Built<Param<'a>>>,
 }
 
-/// The contracts at the head of a body: the requirements, the measure, the first contract's word, and where a `decreases`
-/// stands behind a `require`.
+/// The contracts at the head of a body: the requirements, the measure, the first contract's word, and where a
+/// `decreases` stands behind a `require`.
 #[derive(Drop)]
 pub struct Contracts<'a> {
     pub requirements: Vec<Built<Expr<'a>>>,

@@ -63,7 +63,8 @@ pub fn unwind<'a>(
     tree: Built<Expr<'a>>,
     holed: bool,
 ) -> Result<Operand<'a>, NoMemory>
-    ensures { IfOk result (λ o. unwind tight (frames stack.old) (tree_of tree.entry.tree) holed ≡ joined (frames stack.new) (operand_of o)) }
+    ensures { IfOk result (λ o. unwind tight (frames stack.old) (tree_of tree.entry.tree) holed ≡ joined
+        (frames stack.new) (operand_of o)) }
 {
     let mut operand = Operand { tree, holed };
     while stack.binds(tight) {
@@ -105,7 +106,8 @@ pub fn seal<'a>(
     stack: &mut Stack<'a>,
     last: Built<Expr<'a>>,
 ) -> Result<Built<Expr<'a>>, NoMemory>
-    ensures { IfOk result (λ e. seal (frames stack.old) (tree_of last.entry.tree) ≡ sealed (frames stack.new) (tree_of e.tree)) }
+    ensures { IfOk result (λ e. seal (frames stack.old) (tree_of last.entry.tree) ≡ sealed (frames stack.new)
+        (tree_of e.tree)) }
 {
     let mut sealed = last;
     while stack.ends_statement() {

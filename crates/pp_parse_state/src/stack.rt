@@ -39,7 +39,8 @@ impl<'a> Stack<'a> {
     /// The frame on top is taken off.
     #[tactic(auto, using(crate::proofs::Stacked::stacked_push))]
     pub fn pop(&mut self) -> Option<Frame<'a>>
-        ensures { MatchOption result ((frames self.old ≡ []) × (frames self.new ≡ [])) (λ f. frames self.old ≡ frame_of f ∷ frames self.new) }
+        ensures { MatchOption result ((frames self.old ≡ []) × (frames self.new ≡ []))
+            (λ f. frames self.old ≡ frame_of f ∷ frames self.new) }
     {
         self.items.pop()
     }

@@ -14,7 +14,8 @@ module _ (text : Word) (t : Token) where
   refused_more f at [] y ys s es = refl
   refused_more f at (x ∷ xs) y ys s es = refused_more f at xs (f x) (y ∷ ys) s es
 
-  pub tuple_refused : {B : Type 0} (f : B → Tree) (at : ℕ) (xs : List B) (s : List Frame) (es : List Tree) → 0 < length xs
+  pub tuple_refused : {B : Type 0} (f : B → Tree) (at : ℕ) (xs : List B) (s : List Frame) (es : List Tree)
+      → 0 < length xs
       → on_tuple_closed text t (measuring at (stacked f xs []) ∷ s) es ≡ refuse text t
   tuple_refused f at [] s es some = absurd (omega arith)
   tuple_refused f at (x ∷ xs) s es some = refused_more f at xs (f x) [] s es

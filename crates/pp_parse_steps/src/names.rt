@@ -5,7 +5,8 @@ ghost use Rattle.pp_tokens.specs.Spans.{IsSpan};
 ghost use Rattle.pp_tree.specs.Plain.{apply, no_trees};
 ghost use Rattle.pp_tree.specs.Shown.{type_of, type_trees};
 ghost use Rattle.pp_grammar.specs.Frames.{Frame as plain_frame, args};
-ghost use Rattle.pp_grammar.specs.StepExprs.{on_args_open, on_bound, on_have, on_int, on_int_dot, on_name, on_name_types};
+ghost use Rattle.pp_grammar.specs.StepExprs.{on_args_open, on_bound, on_have, on_int, on_int_dot, on_name};
+ghost use Rattle.pp_grammar.specs.StepExprs.{on_name_types};
 ghost use Rattle.pp_grammar.specs.StepExprs.{on_want};
 ghost use Rattle.pp_parse_state.specs.Shown.{frames, Moves};
 

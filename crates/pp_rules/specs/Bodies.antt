@@ -1,11 +1,13 @@
 -- The typing of a function: its contracts and its body. Source: Stainless documentation (`require`, `decreases`,
 -- `ensuring`, `holds`) for what they are; the rest is own.
-use Rattle.std.specs.Prelude.{◌≡◌, ℕ, Bool, true, false, if◌then◌else◌, List, [], ◌∷◌, ◌++◌, length, Option, Some, None, Ok}
+use Rattle.std.specs.Prelude.{◌≡◌, ℕ, Bool, true, false, if◌then◌else◌, List, [], ◌∷◌, ◌++◌, length, Option, Some, None}
+use Rattle.std.specs.Prelude.{Ok}
 use Rattle.pp_fault.specs.declared.Rule.TheVariants.{Duplicate, Mismatch}
 use Rattle.pp_fault.specs.Part.{Part, and_then}
 use Rattle.pp_generic.specs.declared.expected.Expected.TheVariants.{Open}
 use Rattle.pp_generic.specs.Equal.{equal}
 use Rattle.pp_generic.specs.Expected.{exact}
+use Rattle.pp_names.specs.Reserved.{is_reserved}
 use Rattle.pp_tree.specs.Plain.{Word, TypeTree, type_text, Tree, ParamTree, PostTree, DefTree}
 use Rattle.pp_typed.specs.declared.declared.Declared.{Declared}
 use Rattle.pp_typed.specs.declared.declared.Signature.{Signature}
@@ -16,7 +18,7 @@ use Rattle.pp_typed.specs.declared.typed.TypedDef.{TypedDef}
 use Rattle.pp_typed.specs.declared.typed.TypedParam.{TypedParam}
 use Rattle.pp_typed.specs.declared.typed.TypedPost.{TypedPost}
 use Rattle.pp_rules.specs.Elab.{condition, elab, flaw, name_at, unless}
-use Rattle.pp_rules.specs.Scope.{Env, Scope, is_reserved}
+use Rattle.pp_rules.specs.Scope.{Env, Scope}
 use Rattle.pp_rules.specs.Typing.{Types}
 use Rattle.pp_rules.specs.Written.{written, IsWritten}
 

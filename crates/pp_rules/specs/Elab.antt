@@ -1,6 +1,7 @@
--- The typing of an expression, or the fault that is found first. `Typing` has the rules of the language; `Elab` is how a
--- typing is found, and is the same by the laws above this crate. Source: own.
-use Rattle.std.specs.Prelude.{ℕ, zero, suc, nat_eq, ℤ, Bool, true, false, if◌then◌else◌, List, [], ◌∷◌, ◌++◌, map, length, Option, Some, None, is_some, unwrap_or, Ok, slice_get}
+-- The typing of an expression, or the fault that is found first. `Typing` has the rules of the language; `Elab` is how
+-- a typing is found, and is the same by the laws above this crate. Source: own.
+use Rattle.std.specs.Prelude.{ℕ, zero, suc, nat_eq, ℤ, Bool, true, false, if◌then◌else◌, List, [], ◌∷◌, ◌++◌, map}
+use Rattle.std.specs.Prelude.{length, Option, Some, None, is_some, unwrap_or, Ok, slice_get}
 use Rattle.pp_fault.specs.declared.Rule.{Rule}
 use Rattle.pp_fault.specs.declared.Rule.TheVariants.{Unknown, Duplicate, Mismatch, Arity, CannotInfer, NotABoolean}
 use Rattle.pp_fault.specs.Part.{Part, and_then, fault}
@@ -13,7 +14,10 @@ use Rattle.pp_typed.specs.Put.{put}
 use Rattle.pp_names.specs.Find.{find_ctor}
 use Rattle.pp_tree.specs.declared.operator.BinaryOp.{BinaryOp}
 use Rattle.pp_tree.specs.declared.operator.UnaryOp.{UnaryOp}
-use Rattle.pp_tree.specs.Plain.{Word, TypeTree, TypeTrees, no_types, more_types, PatternTree, any, int_pattern, bool_pattern, ctor_pattern, PatternTrees, no_patterns, more_patterns, Tree, int, bool, name, apply, field, unary, binary, choice, matching, val_in, assert_in, Trees, no_trees, more_trees, CaseTrees, no_cases, plain_case, guarded_case}
+use Rattle.pp_tree.specs.Plain.{Word, TypeTree, TypeTrees, no_types, more_types, PatternTree, any, int_pattern}
+use Rattle.pp_tree.specs.Plain.{bool_pattern, ctor_pattern, PatternTrees, no_patterns, more_patterns, Tree, int, bool}
+use Rattle.pp_tree.specs.Plain.{name, apply, field, unary, binary, choice, matching, val_in, assert_in, Trees, no_trees}
+use Rattle.pp_tree.specs.Plain.{more_trees, CaseTrees, no_cases, plain_case, guarded_case}
 use Rattle.pp_typed.specs.declared.expr.TypedCase.{TypedCase}
 use Rattle.pp_typed.specs.declared.expr.TypedExpr.{TypedExpr}
 use Rattle.pp_typed.specs.declared.expr.TypedKind.{TypedKind}

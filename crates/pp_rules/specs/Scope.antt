@@ -1,8 +1,8 @@
 -- The values in scope and the surroundings of an expression. Source: Scala Language Specification 2 (bindings nest: an
--- inner one hides an outer one of the same name); the words that can't be declared are own.
-use Rattle.std.specs.Prelude.{ℕ, ◌+◌, Bool, true, false, not, ◌||◌, if◌then◌else◌, List, [], ◌∷◌, ◌++◌, Option, Some, None, map, drop, codes}
+-- inner one hides an outer one of the same name).
+use Rattle.std.specs.Prelude.{ℕ, ◌+◌, Bool, true, false, ◌||◌, if◌then◌else◌, List, [], ◌∷◌, Option, Some, None, drop}
 use Rattle.std.specs.Str.{bytes_eq}
-use Rattle.std.specs.List.{list_any}
+use Rattle.pp_names.specs.Reserved.{is_reserved}
 use Rattle.pp_tree.specs.Plain.{Word}
 use Rattle.pp_typed.specs.declared.declared.Declared.{Declared}
 use Rattle.pp_typed.specs.declared.sort.GenericSort.{GenericSort}
@@ -36,15 +36,6 @@ place = place_from None 0
 abbrev pub has_name : Word → Scope → Bool
 has_name w [] = false
 has_name w (l ∷ ls) = if bytes_eq l.0 w then true else has_name w ls
-
--- the words that can't be declared
-abbrev pub reserved_words : List Word
-reserved_words =
-    codes "require" ∷ codes "ensuring" ∷ codes "holds" ∷ codes "decreases" ∷ codes "assert" ∷ codes "Int"
-    ∷ codes "Boolean" ∷ []
-
-abbrev pub is_reserved : Word → Bool
-is_reserved w = list_any (bytes_eq w) reserved_words
 
 -- whether a `val`, or a name of a pattern, can't have this name: the word can't be declared, or a value from place k on
 -- has it

@@ -1,5 +1,6 @@
 -- What is applied, and what is selected. Source: own.
-use Rattle.std.specs.Prelude.{ℕ, zero, suc, nat_lt, Bool, true, false, if◌then◌else◌, List, [], ◌∷◌, ◌++◌, length, Option, Some, None, option_map, slice_get}
+use Rattle.std.specs.Prelude.{ℕ, zero, suc, nat_lt, Bool, true, false, if◌then◌else◌, List, [], ◌∷◌, ◌++◌, length}
+use Rattle.std.specs.Prelude.{Option, Some, None, option_map, slice_get}
 use Rattle.pp_names.specs.Find.{ctors_of, find_ctor, find_function}
 use Rattle.pp_names.specs.Places.{place_of}
 use Rattle.pp_tree.specs.Plain.{Word}

@@ -1,7 +1,8 @@
--- Which expressions have which typing: one rule for each form. Source: Scala Language Specification 6 and 8 for what the
--- forms are; that a name, an application and a pattern stand for what they do, and that types are found from what is
--- expected and from left to right, is own.
-use Rattle.std.specs.Prelude.{◌≡◌, ℕ, suc, ℤ, Bool, true, false, List, [], ◌∷◌, ◌++◌, map, length, Option, Some, None, Ok, slice_get}
+-- Which expressions have which typing: one rule for each form. Source: Scala Language Specification 6 and 8 for what
+-- the forms are; that a name, an application and a pattern stand for what they do, and that types are found from what
+-- is expected and from left to right, is own.
+use Rattle.std.specs.Prelude.{◌≡◌, ℕ, suc, ℤ, Bool, true, false, List, [], ◌∷◌, ◌++◌, map, length, Option, Some, None}
+use Rattle.std.specs.Prelude.{Ok, slice_get}
 use Rattle.pp_generic.specs.declared.expected.Expected.{Expected}
 use Rattle.pp_generic.specs.declared.expected.Expected.TheVariants.{Open}
 use Rattle.pp_generic.specs.Expected.{Found, exact, expect, every, fits, known}
@@ -10,7 +11,10 @@ use Rattle.pp_typed.specs.Put.{put}
 use Rattle.pp_names.specs.Find.{find_ctor}
 use Rattle.pp_tree.specs.declared.operator.BinaryOp.{BinaryOp}
 use Rattle.pp_tree.specs.declared.operator.UnaryOp.{UnaryOp}
-use Rattle.pp_tree.specs.Plain.{Word, TypeTree, TypeTrees, no_types, more_types, PatternTree, any, int_pattern, bool_pattern, ctor_pattern, PatternTrees, no_patterns, more_patterns, Tree, int, bool, name, apply, field, unary, binary, choice, matching, val_in, assert_in, Trees, no_trees, more_trees, CaseTrees, no_cases, plain_case, guarded_case}
+use Rattle.pp_tree.specs.Plain.{Word, TypeTree, TypeTrees, no_types, more_types, PatternTree, any, int_pattern}
+use Rattle.pp_tree.specs.Plain.{bool_pattern, ctor_pattern, PatternTrees, no_patterns, more_patterns, Tree, int, bool}
+use Rattle.pp_tree.specs.Plain.{name, apply, field, unary, binary, choice, matching, val_in, assert_in, Trees, no_trees}
+use Rattle.pp_tree.specs.Plain.{more_trees, CaseTrees, no_cases, plain_case, guarded_case}
 use Rattle.pp_typed.specs.declared.expr.TypedCase.{TypedCase}
 use Rattle.pp_typed.specs.declared.expr.TypedExpr.{TypedExpr}
 use Rattle.pp_typed.specs.declared.expr.TypedKind.TheVariants as kind
@@ -31,8 +35,8 @@ use Rattle.pp_rules.specs.Written.{AreWritten, IsWritten}
 abbrev pub Suits : Expected → GenericSort → Type 0
 Suits x s = fits x s ≡ true
 
--- a pattern that binds a name adds a value to those in scope. Of these the ones from place k on are of the same pattern,
--- and their names differ
+-- a pattern that binds a name adds a value to those in scope. Of these the ones from place k on are of the same
+-- pattern, and their names differ
 pub data Binds : ℕ → Scope → GenericSort → Option Word → Scope → Type 0 where
   binds_nothing : {k : ℕ} {sc : Scope} {s : GenericSort} → Binds k sc s None sc
   binds_a_name : {k : ℕ} {sc : Scope} {s : GenericSort} (w : Word)

@@ -28,7 +28,8 @@ IsGiven {F} remaining bs = (old : F) × (new : F) × Consumes (remaining old) (r
 
 -- some reader gave these bytes, and then was at its end
 abbrev pub IsGivenWhole : {F : Type 0} → (F → Option (List ℕ)) → List ℕ → Type 0
-IsGivenWhole {F} remaining bs = (old : F) × (new : F) × Consumes (remaining old) (remaining new) bs × IsAtEnd (remaining new)
+IsGivenWhole {F} remaining bs = (old : F) × (new : F) × Consumes (remaining old) (remaining new) bs
+    × IsAtEnd (remaining new)
 
 -- some reader gave the bytes of TooLong
 abbrev pub IsOverlongGiven : {F : Type 0} → (F → Option (List ℕ)) → ReadFault → Type 0

@@ -1,5 +1,6 @@
 -- What shelves in memory are, and what a fetch from them answers. Source: own.
-use Rattle.std.specs.Prelude.{ℕ, ◌==◌, Bool, List, [], Option, None, Some, Result, Ok, Err, if◌then◌else◌, option_map, unwrap_or, find, slice_get, length, nat_lt, bytes_eq}
+use Rattle.std.specs.Prelude.{ℕ, ◌==◌, Bool, List, [], Option, None, Some, Result, Ok, Err, if◌then◌else◌, option_map}
+use Rattle.std.specs.Prelude.{unwrap_or, find, slice_get, length, nat_lt, bytes_eq}
 use Rattle.std.specs.List.{list_any}
 use Rattle.pp_seam.specs.Faults.{raised}
 use Rattle.pp_seam.specs.declared.faults.FetchFault.{FetchFault}

@@ -1,5 +1,6 @@
 -- What a sink in memory is, and what a put leaves. Source: own.
-use Rattle.std.specs.Prelude.{ℕ, ◌-◌, ◌==◌, ◌&&◌, ◌++◌, min, Bool, true, List, [], Option, None, Some, if◌then◌else◌, unwrap_or, is_none, take, length, nat_le}
+use Rattle.std.specs.Prelude.{ℕ, ◌-◌, ◌==◌, ◌&&◌, ◌++◌, min, Bool, true, List, [], Option, None, Some, if◌then◌else◌}
+use Rattle.std.specs.Prelude.{unwrap_or, is_none, take, length, nat_le}
 use Rattle.pp_seam.specs.Faults.{raised}
 
 -- the bytes that were taken, for how many there is room in all, how many pieces that aren't empty were put, the
@@ -34,7 +35,14 @@ fits s len = is_none (told_at s.told (raised s.calls)) && nat_le len (free s)
 
 -- what the next put leaves of a piece that isn't empty
 abbrev pub after_piece : Stored → List ℕ → Stored
-after_piece s piece = record { taken = s.taken ++ take (share s (length piece)) piece; room = s.room; calls = raised s.calls; told = s.told; faults = if fits s (length piece) then s.faults else raised s.faults }
+after_piece s piece = record {
+  taken = s.taken ++ take (share s (length piece)) piece;
+  room = s.room;
+  calls =
+      raised s.calls;
+  told = s.told;
+  faults = if fits s (length piece) then s.faults else raised s.faults;
+}
 
 -- what a put leaves; an empty piece changes nothing
 abbrev pub after_put : Stored → List ℕ → Stored

@@ -1,4 +1,5 @@
-// A sink in memory.
+//! A sink in memory.
+
 ghost use Rattle.std.specs.Prelude.{◌≡◌, ◌≤◌, [], option_map, Some, IfOk, IsOk, OnOk, OnErr, is_ok, length};
 ghost use Rattle.std.specs.Io.KnownBytes.{Appends};
 ghost use Rattle.pp_seam.specs.Faults.{Rose};
@@ -32,7 +33,14 @@ impl Model for Bytes {
 
     ghost Value = { Stored };
 
-    ghost view = { λ b. record { taken = b.held.items; room = b.room; calls = b.calls; told = option_map (λ t. (t.call, t.after)) b.told; faults = b.faults } };
+    ghost view = { λ b. record {
+      taken = b.held.items;
+      room = b.room;
+      calls = b.calls;
+      told =
+          option_map (λ t. (t.call, t.after)) b.told;
+      faults = b.faults;
+    } };
 
     ghost invariant = { λ b. (b.room ≤ vec_capacity b.held) × (vec_len b.held ≤ b.room) };
 }

@@ -1,5 +1,7 @@
-// What shelves in memory hold: a list of paths with their bytes, each path once.
-ghost use Rattle.std.specs.Prelude.{◌≡◌, ℕ, List, Some, None, false, OnOk, OnErr, IfSome, IfNone, position, bytes_eq, string_bytes};
+//! What shelves in memory hold: a list of paths with their bytes, each path once.
+
+ghost use Rattle.std.specs.Prelude.{◌≡◌, ℕ, List, Some, None, false, OnOk, OnErr, IfSome, IfNone, position, bytes_eq};
+ghost use Rattle.std.specs.Prelude.{string_bytes};
 ghost use Rattle.pp_seam.specs.Entries.{entries_of};
 ghost use Rattle.pp_seam.specs.Shelved.{held_in, bytes_at};
 

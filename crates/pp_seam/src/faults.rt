@@ -1,4 +1,5 @@
-// Why a fetch gave no bytes, and why a put took no more.
+//! Why a fetch gave no bytes, and why a put took no more.
+
 ghost use Rattle.std.specs.Prelude.{◌≡◌};
 ghost use Rattle.pp_seam.specs.declared.faults.FetchFault.TheVariants.{Memory};
 

@@ -1,5 +1,7 @@
-// Files as a shelf.
-ghost use Rattle.std.specs.Prelude.{◌≡◌, ◌≢◌, ◌≤◌, ◌<◌, ◌+◌, ℕ, List, [], length, take, map, string_bytes, bytes_eq, false, IfOk, IfErr, IfSome, IsErrOf};
+//! Files as a shelf.
+
+ghost use Rattle.std.specs.Prelude.{◌≡◌, ◌≢◌, ◌≤◌, ◌<◌, ◌+◌, ℕ, List, [], length, take, map, string_bytes, bytes_eq};
+ghost use Rattle.std.specs.Prelude.{false, IfOk, IfErr, IfSome, IsErrOf};
 ghost use Rattle.pp_seam.specs.Faults.{failed_after, times};
 ghost use Rattle.pp_seam.specs.Reads.{untold, IsOverlong, IsGiven, IsGivenWhole, IsOverlongGiven};
 
@@ -70,12 +72,15 @@ impl<R: Files + Drop> Shelf for FileShelf<R> {
         ensures bound { IfOk result (λ v. length v.items ≤ limit) }
         ensures bytes { IfOk result (λ v. IfSome (untold path.now) (λ bs. v.items ≡ bs)) }
         ensures long { IsErrOf result FetchFault.TooLong → length self.new.overlong.items ≡ limit + 1 }
-        ensures long_seen { IsErrOf result FetchFault.TooLong → IfSome (untold path.now) (λ bs. self.new.overlong.items ≡ take (limit + 1) bs) }
+        ensures long_seen { IsErrOf result FetchFault.TooLong
+            → IfSome (untold path.now) (λ bs. self.new.overlong.items ≡ take (limit + 1) bs) }
         ensures long_held { IsErrOf result FetchFault.TooLong → IfSome (untold path.now) (λ bs. limit < length bs) }
         ensures unseen { result ≢ Err FetchFault.TooLong → self.new.overlong.items ≡ [] }
-        ensures failed { map string_bytes self.new.failed.items ≡ failed_after (map string_bytes self.old.failed.items) path.now result }
+        ensures failed { map string_bytes self.new.failed.items ≡ failed_after (map string_bytes self.old.failed.items)
+            path.now result }
         ensures rose { IsErrOf result FetchFault.Failed
-            → times path.now (map string_bytes self.new.failed.items) ≡ times path.now (map string_bytes self.old.failed.items) + 1 }
+            → times path.now (map string_bytes self.new.failed.items) ≡ times path.now
+            (map string_bytes self.old.failed.items) + 1 }
         ensures others { (p : List ℕ) → bytes_eq p path.now ≡ false
             → times p (map string_bytes self.new.failed.items) ≡ times p (map string_bytes self.old.failed.items) }
         ensures kept { (p : List ℕ) → untold p ≡ untold p }

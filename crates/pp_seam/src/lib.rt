@@ -28,6 +28,3 @@ pub use sink::Sink;
 pub use std::alloc::AllocError as NoMemory;
 pub use stream::StdSink;
 pub use writes::write_whole;
-
-#[cfg(test)]
-mod tests;

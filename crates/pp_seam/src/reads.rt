@@ -1,4 +1,5 @@
-// Reading up to a limit, from any reader.
+//! Reading up to a limit, from any reader.
+
 ghost use Rattle.std.specs.Prelude.{◌≡◌, ◌≤◌, ◌<◌, ◌+◌, ℕ, List, take, length, IfOk, IfErr, OnErr, IfSome, IfNone};
 ghost use Rattle.std.specs.Io.KnownBytes.{Consumes, IsAtEnd, Keeps};
 ghost use Rattle.pp_seam.specs.Reads.{ConsumesAtMost, IsOverlong, GaveOverlong};

@@ -1,5 +1,7 @@
-// Sources by path, with their failed fetches listed.
-ghost use Rattle.std.specs.Prelude.{◌≡◌, ◌≢◌, ◌≤◌, ◌<◌, ◌+◌, ℕ, List, [], Option, Some, false, length, take, bytes_eq, IfOk, IfSome, IsErrOf};
+//! Sources by path, with their failed fetches listed.
+
+ghost use Rattle.std.specs.Prelude.{◌≡◌, ◌≢◌, ◌≤◌, ◌<◌, ◌+◌, ℕ, List, [], Option, Some, false, length, take, bytes_eq};
+ghost use Rattle.std.specs.Prelude.{IfOk, IfSome, IsErrOf};
 ghost use Rattle.pp_seam.specs.Faults.{failed_after, times};
 
 use crate::FetchFault;
@@ -32,12 +34,15 @@ pub trait Shelf {
         ensures long { IsErrOf result FetchFault.TooLong → length (seen self.new) ≡ limit + 1 }
         ensures long_seen { IsErrOf result FetchFault.TooLong
             → IfSome (held self.old path.now) (λ bs. seen self.new ≡ take (limit + 1) bs) }
-        ensures long_held { IsErrOf result FetchFault.TooLong → IfSome (held self.old path.now) (λ bs. limit < length bs) }
+        ensures long_held { IsErrOf result FetchFault.TooLong
+            → IfSome (held self.old path.now) (λ bs. limit < length bs) }
 
         ensures unseen { result ≢ Err FetchFault.TooLong → seen self.new ≡ [] }
 
         ensures failed { failed self.new ≡ failed_after (failed self.old) path.now result }
-        ensures rose { IsErrOf result FetchFault.Failed → times path.now (failed self.new) ≡ times path.now (failed self.old) + 1 }
-        ensures others { (p : List ℕ) → bytes_eq p path.now ≡ false → times p (failed self.new) ≡ times p (failed self.old) }
+        ensures rose { IsErrOf result FetchFault.Failed
+            → times path.now (failed self.new) ≡ times path.now (failed self.old) + 1 }
+        ensures others { (p : List ℕ) → bytes_eq p path.now ≡ false
+            → times p (failed self.new) ≡ times p (failed self.old) }
         ensures kept { (p : List ℕ) → held self.new p ≡ held self.old p };
 }

@@ -1,5 +1,7 @@
-// Shelves in memory.
-ghost use Rattle.std.specs.Prelude.{◌≡◌, ◌≢◌, ◌≤◌, ◌<◌, ◌+◌, ◌++◌, [], ◌∷◌, ℕ, List, Some, true, false, OnOk, OnErr, IfOk, IfErr, IfSome, IsErrOf, IsErr, length, take, bytes_eq};
+//! Shelves in memory.
+
+ghost use Rattle.std.specs.Prelude.{◌≡◌, ◌≢◌, ◌≤◌, ◌<◌, ◌+◌, ◌++◌, [], ◌∷◌, ℕ, List, Some, true, false, OnOk, OnErr};
+ghost use Rattle.std.specs.Prelude.{IfOk, IfErr, IfSome, IsErrOf, IsErr, length, take, bytes_eq};
 ghost use Rattle.pp_seam.specs.Faults.{raised, failed_after, times};
 ghost use Rattle.pp_seam.specs.Shelved.{no_shelves, held_in, is_told, due};
 
@@ -27,7 +29,14 @@ impl Model for Shelves {
 
     ghost Value = { Shelved };
 
-    ghost view = { λ s. record { held = entries_of s.entries.items; failed = map string_bytes s.failed.items; told = s.told.items; calls = s.calls; seen = take s.seen_len (bytes_at (entries_of s.entries.items) s.seen_at) } };
+    ghost view = { λ s. record {
+      held = entries_of s.entries.items;
+      failed = map string_bytes s.failed.items;
+      told =
+          s.told.items;
+      calls = s.calls;
+      seen = take s.seen_len (bytes_at (entries_of s.entries.items) s.seen_at);
+    } };
 }
 
 impl Shelves {
@@ -53,7 +62,8 @@ impl Shelves {
     /// There was no memory, and nothing has changed.
     pub fn add(&mut self, path: &str, bytes: &[u8]) -> Result<(), NoMemory>
         ensures path { OnOk result (held_in self.new.held path.now ≡ Some bytes.now) }
-        ensures others { OnOk result ((p : List ℕ) → bytes_eq path.now p ≡ false → held_in self.new.held p ≡ held_in self.old.held p) }
+        ensures others { OnOk result
+            ((p : List ℕ) → bytes_eq path.now p ≡ false → held_in self.new.held p ≡ held_in self.old.held p) }
         ensures failed { self.new.failed ≡ self.old.failed }
         ensures told { self.new.told ≡ self.old.told }
         ensures calls { self.new.calls ≡ self.old.calls }
@@ -114,8 +124,10 @@ impl Shelf for Shelves {
             → IfSome (held_in self.old.held path.now) (λ bs. limit < length bs) }
         ensures unseen { result ≢ Err FetchFault.TooLong → self.new.seen ≡ [] }
         ensures failed { self.new.failed ≡ failed_after self.old.failed path.now result }
-        ensures rose { IsErrOf result FetchFault.Failed → times path.now self.new.failed ≡ times path.now self.old.failed + 1 }
-        ensures others { (p : List ℕ) → bytes_eq p path.now ≡ false → times p self.new.failed ≡ times p self.old.failed }
+        ensures rose { IsErrOf result FetchFault.Failed
+            → times path.now self.new.failed ≡ times path.now self.old.failed + 1 }
+        ensures others { (p : List ℕ) → bytes_eq p path.now ≡ false
+            → times p self.new.failed ≡ times p self.old.failed }
         ensures kept { (p : List ℕ) → held_in self.new.held p ≡ held_in self.old.held p }
     {
         self.calls = self.calls.saturating_add(1);

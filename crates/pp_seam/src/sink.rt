@@ -1,4 +1,5 @@
-// What takes the text of the program, with its faults counted.
+//! What takes the text of the program, with its faults counted.
+
 ghost use Rattle.std.specs.Prelude.{◌≡◌, ◌≤◌, [], ℕ, List, Option, OnOk, OnErr, IsOk};
 ghost use Rattle.std.specs.Io.KnownBytes.{Appends};
 ghost use Rattle.pp_seam.specs.Faults.{Rose};
@@ -18,7 +19,8 @@ pub trait Sink {
     ///
     /// # Errors
     ///
-    /// `Failed` where the count of faults rose in this call, or stands at 2^64 - 1. Then a front of the piece was taken.
+    /// `Failed` where the count of faults rose in this call, or stands at 2^64 - 1. Then a front of the piece was
+    /// taken.
     fn put(&mut self, bytes: &[u8]) -> Result<(), PutFault>
         ensures whole { OnOk result (Appends (taken self.old) (taken self.new) bytes.now) }
         ensures front { OnErr result (AppendsFront (taken self.old) (taken self.new) bytes.now) }

@@ -1,4 +1,5 @@
-// Standard output or error, or any writer, as a sink.
+//! Standard output or error, or any writer, as a sink.
+
 ghost use Rattle.std.specs.Prelude.{◌≡◌};
 
 use crate::{PutFault, Sink, write_whole};

@@ -1,4 +1,5 @@
-// Writing a whole piece, to any writer.
+//! Writing a whole piece, to any writer.
+
 ghost use Rattle.std.specs.Prelude.{◌≡◌, ◌≤◌, [], take, length, IfSome, IfNone, IsTrue, IsFalse};
 ghost use Rattle.std.specs.Io.KnownBytes.{Appends, Keeps};
 ghost use Rattle.pp_seam.specs.Pieces.{AppendsFront};

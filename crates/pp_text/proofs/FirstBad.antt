@@ -7,10 +7,13 @@ use Rattle.std.proofs.Math.Seq.{take-add, take-append_seam}
 use Rattle.pp_text.specs.Fault.{IsFirstBad}
 
 -- where a character stood after a front that is UTF-8, a longer front would be
-longer : (bytes rest : List ℕ) (n c : ℕ) → IsUtf8 (take n bytes) → IsScalar c → drop n bytes ≡ encode_utf8 c ++ rest → IsUtf8 (take (n + length (encode_utf8 c)) bytes)
+longer : (bytes rest : List ℕ) (n c : ℕ) → IsUtf8 (take n bytes) → IsScalar c → drop n bytes ≡ encode_utf8 c ++ rest
+    → IsUtf8 (take (n + length (encode_utf8 c)) bytes)
 longer bytes rest n c front scalar here =
     subst IsUtf8
-    (ap (λ (l : List ℕ). take n bytes ++ l) (sym (take-append_seam (encode_utf8 c) rest) ∙ ap (take (length (encode_utf8 c))) (sym here)) ∙ sym (take-add n (length (encode_utf8 c)) bytes))
+    (ap (λ (l : List ℕ). take n bytes ++ l)
+    (sym (take-append_seam (encode_utf8 c) rest) ∙ ap (take (length (encode_utf8 c))) (sym here))
+    ∙ sym (take-add n (length (encode_utf8 c)) bytes))
     (IsUtf8-append (take n bytes) (encode_utf8 c) front (IsUtf8-encode c scalar))
 
 pub first_bad : (bytes : List ℕ) (n : ℕ) → IsValidUpTo bytes n → IsFirstBad bytes n

@@ -13,6 +13,3 @@ mod text;
 pub use name::Name;
 pub use std::alloc::AllocError as NoMemory;
 pub use text::{MOST_BYTES, Text, TextFault};
-
-#[cfg(test)]
-mod tests;

@@ -1,4 +1,4 @@
-// A name that owns its bytes.
+//! A name that owns its bytes.
 
 ghost use Rattle.std.specs.Prelude.{◌≡◌, IfOk};
 

@@ -1,5 +1,6 @@
 -- A block comment that has an end is one: its length counts the rest of each comment that is open.
-use Rattle.std.proofs.Common.{ℕ, zero, suc, ◌≡◌, ◌+◌, ◌-◌, ◌≤◌, ◌⊎◌, inl, inr, List, [], ◌∷◌, drop, length, refl, sym, ap, ◌∙◌, subst, arith, Bool, true, false, cond, Option, Some, None}
+use Rattle.std.proofs.Common.{ℕ, zero, suc, ◌≡◌, ◌+◌, ◌-◌, ◌≤◌, ◌⊎◌, inl, inr, List, [], ◌∷◌, drop, length, refl, sym}
+use Rattle.std.proofs.Common.{ap, ◌∙◌, subst, arith, Bool, true, false, cond, Option, Some, None}
 use Rattle.std.specs.Prelude.{◌==◌}
 use Rattle.std.proofs.lemmas.Bool.Decides.{nat_tests}
 use Rattle.pp_tokens.specs.Characters.{opens_block, closes_block}
@@ -22,18 +23,22 @@ more_some : (o : Option ℕ) (n : ℕ) → more_by 1 o ≡ Some n → (m : ℕ) 
 more_some None n h = cc
 more_some (Some m) n h = let e : 1 + m ≡ n = cc in (m, refl, omega arith)
 
-split_cond : (b : Bool) (x y : Option ℕ) (n : ℕ) → cond b x y ≡ Some n → ((b ≡ true) × (x ≡ Some n)) ⊎ ((b ≡ false) × (y ≡ Some n))
+split_cond : (b : Bool) (x y : Option ℕ) (n : ℕ) → cond b x y ≡ Some n → ((b ≡ true) × (x ≡ Some n))
+    ⊎ ((b ≡ false) × (y ≡ Some n))
 split_cond true x y n h = inl (refl, h)
 split_cond false x y n h = inr (refl, h)
 
 abbrev IsNest : ℕ → Bool → List ℕ → ℕ → Type 0
 IsNest d p cs n = Nest d (skipped p cs) (drop n cs) × (n ≤ length cs)
 
-moved : (c : ℕ) (cs ts : List ℕ) (d n m : ℕ) → n ≡ suc m → Nest d ts (drop m cs) → m ≤ length cs → Nest d ts (drop n (c ∷ cs)) × (n ≤ length (c ∷ cs))
+moved : (c : ℕ) (cs ts : List ℕ) (d n m : ℕ) → n ≡ suc m → Nest d ts (drop m cs) → m ≤ length cs
+    → Nest d ts (drop n (c ∷ cs)) × (n ≤ length (c ∷ cs))
 moved c cs ts d n m e h le = let P : ℕ → Type 0 = λ k. Nest d ts (drop k (c ∷ cs)) in (subst P (sym e) h, omega arith)
 
 -- after `/*`
-opened : (d c n : ℕ) (cs : List ℕ) → opens_block c cs ≡ true → ((m : ℕ) → block_len (suc d + 1) true cs ≡ Some m → IsNest (suc d + 1) true cs m) → more_by 1 (block_len (suc d + 1) true cs) ≡ Some n → IsNest (suc d) false (c ∷ cs) n
+opened : (d c n : ℕ) (cs : List ℕ) → opens_block c cs ≡ true
+    → ((m : ℕ) → block_len (suc d + 1) true cs ≡ Some m → IsNest (suc d + 1) true cs m)
+    → more_by 1 (block_len (suc d + 1) true cs) ≡ Some n → IsNest (suc d) false (c ∷ cs) n
 opened d c n cs h ih e =
     let m = more_some (block_len (suc d + 1) true cs) n e in
     let s = two_first 47 42 c cs h in
@@ -47,7 +52,8 @@ opened d c n cs h ih e =
     moved c cs (c ∷ cs) (suc d) n m.0 m.2 (g.2.0, subst R (sym s.1) (nested s.0 g.0 g.2.0 g.1 g.2.1), g.2.2) i.1
 
 -- after the outermost `*/`
-closed_last : (d c n : ℕ) (cs : List ℕ) → closes_block c cs ≡ true → (suc d == 1) ≡ true → Some 2 ≡ Some n → IsNest (suc d) false (c ∷ cs) n
+closed_last : (d c n : ℕ) (cs : List ℕ) → closes_block c cs ≡ true → (suc d == 1) ≡ true → Some 2 ≡ Some n
+    → IsNest (suc d) false (c ∷ cs) n
 closed_last (suc d) c n cs h one e = let f = same_number (suc (suc d)) 1 one in absurd (omega arith)
 closed_last zero c n cs h one e =
     let s = two_first 42 47 c cs h in
@@ -57,7 +63,9 @@ closed_last zero c n cs h one e =
     ((s.0, subst R (sym s.1) (closing s.0), ap (drop 2) (sym s.1) ∙ ap (λ (k : ℕ). drop k (c ∷ cs)) two), omega arith)
 
 -- after another `*/`
-closed : (d c n : ℕ) (cs : List ℕ) → closes_block c cs ≡ true → ((m : ℕ) → block_len (suc d - 1) true cs ≡ Some m → IsNest (suc d - 1) true cs m) → more_by 1 (block_len (suc d - 1) true cs) ≡ Some n → IsNest (suc d) false (c ∷ cs) n
+closed : (d c n : ℕ) (cs : List ℕ) → closes_block c cs ≡ true
+    → ((m : ℕ) → block_len (suc d - 1) true cs ≡ Some m → IsNest (suc d - 1) true cs m)
+    → more_by 1 (block_len (suc d - 1) true cs) ≡ Some n → IsNest (suc d) false (c ∷ cs) n
 closed d c n cs h ih e =
     let m = more_some (block_len (suc d - 1) true cs) n e in
     let s = two_first 42 47 c cs h in
@@ -70,7 +78,9 @@ closed d c n cs h ih e =
     moved c cs (c ∷ cs) (suc d) n m.0 m.2 (s.0, subst R (sym s.1) (closing s.0), subst Q tail (subst P less i.0)) i.1
 
 -- after another character
-plain : (d c n : ℕ) (cs : List ℕ) → opens_block c cs ≡ false → closes_block c cs ≡ false → ((m : ℕ) → block_len (suc d) false cs ≡ Some m → IsNest (suc d) false cs m) → more_by 1 (block_len (suc d) false cs) ≡ Some n → IsNest (suc d) false (c ∷ cs) n
+plain : (d c n : ℕ) (cs : List ℕ) → opens_block c cs ≡ false → closes_block c cs ≡ false
+    → ((m : ℕ) → block_len (suc d) false cs ≡ Some m → IsNest (suc d) false cs m)
+    → more_by 1 (block_len (suc d) false cs) ≡ Some n → IsNest (suc d) false (c ∷ cs) n
 plain d c n cs g h ih e =
     let m = more_some (block_len (suc d) false cs) n e in
     let i = ih m.0 m.1 in
@@ -95,7 +105,10 @@ nests (c ∷ cs) (suc d) false n some h =
                 let last = split_cond (suc d == 1) _ _ n k.1 in
                 elim last [
                   | inl l ↦ closed_last d c n cs k.0 l.0 l.1
-                  | inr l ↦ closed d c n cs k.0 (λ m e. nests cs (suc d - 1) true m (let ne : (suc d ≡ 1) → ⊥ = λ q. let t : (suc d == 1) ≡ true = grind (arith, nat_tests) in cc in omega arith) e) l.1
+                  | inr l ↦ closed d c n cs k.0
+                      (λ m e. nests cs (suc d - 1) true m
+                      (let ne : (suc d ≡ 1) → ⊥ = λ q. let t : (suc d == 1) ≡ true = grind (arith, nat_tests) in cc in
+                      omega arith) e) l.1
                 ])
             | inr k ↦ plain d c n cs b.0 k.0 (λ m e. nests cs (suc d) false m some e) k.1
           ])

@@ -1,5 +1,6 @@
 -- What tests say.
-use Rattle.std.proofs.Common.{ℕ, ◌≡◌, ◌≤◌, ◌⊎◌, inl, inr, refl, sym, ap, ◌∙◌, arith, Bool, true, false, cond, not, List, [], ◌∷◌, Option, Some}
+use Rattle.std.proofs.Common.{ℕ, ◌≡◌, ◌≤◌, ◌⊎◌, inl, inr, refl, sym, ap, ◌∙◌, arith, Bool, true, false, cond, not, List}
+use Rattle.std.proofs.Common.{[], ◌∷◌, Option, Some}
 use Rattle.std.specs.Prelude.{◌&&◌, ◌||◌, ◌==◌, nat_le, nat_lt, find}
 use Rattle.std.proofs.lemmas.Bool.Decides.{nat_tests}
 use Rattle.pp_tokens.specs.Characters.{begins}
@@ -35,7 +36,8 @@ same_text [] [] h = refl
 same_text [] (b ∷ bs) h = cc
 same_text (c ∷ cs) [] h = cc
 same_text (c ∷ cs) (b ∷ bs) h =
-    ap (λ (x : ℕ). x ∷ cs) (same_number c b (and_left (c == b) (spells cs bs) h)) ∙ ap (λ (l : List ℕ). b ∷ l) (same_text cs bs (and_right (c == b) (spells cs bs) h))
+    ap (λ (x : ℕ). x ∷ cs) (same_number c b (and_left (c == b) (spells cs bs) h))
+    ∙ ap (λ (l : List ℕ). b ∷ l) (same_text cs bs (and_right (c == b) (spells cs bs) h))
 
 pub equal_number : (c : ℕ) → (c == c) ≡ true
 equal_number c = grind (arith, nat_tests)
@@ -45,7 +47,8 @@ spells_itself [] = refl
 spells_itself (b ∷ bs) = and_both (b == b) (spells bs bs) (equal_number b) (spells_itself bs)
 
 -- what is found passes
-found_one : {X : Type 0} (p : X → Bool) (y x : X) (b : Bool) → p y ≡ b → (r : Option X) → (r ≡ Some x → p x ≡ true) → cond b (Some y) r ≡ Some x → p x ≡ true
+found_one : {X : Type 0} (p : X → Bool) (y x : X) (b : Bool) → p y ≡ b → (r : Option X) → (r ≡ Some x → p x ≡ true)
+    → cond b (Some y) r ≡ Some x → p x ≡ true
 found_one p y x true e r later h = let same : y ≡ x = cc in ap p (sym same) ∙ e
 found_one p y x false e r later h = later h
 
@@ -66,5 +69,8 @@ one_of false b h = inr h
 -- two characters begin the characters
 pub two_first : (a b c : ℕ) (cs : List ℕ) → begins a b c cs ≡ true → (r : List ℕ) × (c ∷ cs ≡ a ∷ b ∷ r)
 two_first a b c [] h = let e = and_right (c == a) false h in cc
-two_first a b c (d ∷ r) h =
-    (r, ap (λ (x : ℕ). x ∷ d ∷ r) (same_number c a (and_left (c == a) (d == b) h)) ∙ ap (λ (x : ℕ). a ∷ x ∷ r) (same_number d b (and_right (c == a) (d == b) h)))
+two_first a b c (d ∷ r) h = (
+  r,
+  ap (λ (x : ℕ). x ∷ d ∷ r) (same_number c a (and_left (c == a) (d == b) h))
+      ∙ ap (λ (x : ℕ). a ∷ x ∷ r) (same_number d b (and_right (c == a) (d == b) h)),
+)

@@ -1,5 +1,6 @@
 -- The longest front that passes a test.
-use Rattle.std.proofs.Common.{ℕ, suc, ◌≡◌, ◌+◌, ◌≤◌, List, [], ◌∷◌, take, drop, length, refl, ap, ◌∙◌, arith, Bool, true, false, cond}
+use Rattle.std.proofs.Common.{ℕ, suc, ◌≡◌, ◌+◌, ◌≤◌, List, [], ◌∷◌, take, drop, length, refl, ap, ◌∙◌, arith, Bool}
+use Rattle.std.proofs.Common.{true, false, cond}
 use Rattle.std.specs.List.{list_all, prefix_len}
 use Rattle.pp_tokens.specs.Characters.{goes_on_with}
 use Rattle.pp_tokens.proofs.Booleans.{and_both}
@@ -16,7 +17,8 @@ pub record IsFrontOf (p : ℕ → Bool) (xs : List ℕ) (n : ℕ) : Type 0 where
   pub stops : goes_on_with p (drop n xs) ≡ false
   pub within : n ≤ length xs
 
-one_more : (p : ℕ → Bool) (x : ℕ) (xs : List ℕ) (b : Bool) (n : ℕ) → p x ≡ b → IsFrontOf p xs n → IsFrontOf p (x ∷ xs) (cond b (1 + n) 0)
+one_more : (p : ℕ → Bool) (x : ℕ) (xs : List ℕ) (b : Bool) (n : ℕ) → p x ≡ b → IsFrontOf p xs n
+    → IsFrontOf p (x ∷ xs) (cond b (1 + n) 0)
 one_more p x xs true n e r = record {
   all = ap (list_all p) (take_one_more n x xs) ∙ and_both (p x) (list_all p (take n xs)) e r.all;
   stops = ap (goes_on_with p) (drop_one_more n x xs) ∙ r.stops;

@@ -1,5 +1,6 @@
 -- The next token that is no line feed.
-use Rattle.std.proofs.Common.{ℕ, ◌≡◌, ◌+◌, ◌<◌, ◌≤◌, List, ◌∷◌, get_or, drop, length, sym, ap, ◌∙◌, Bool, true, false, cond}
+use Rattle.std.proofs.Common.{ℕ, ◌≡◌, ◌+◌, ◌<◌, ◌≤◌, List, ◌∷◌, get_or, drop, length, sym, ap, ◌∙◌, Bool, true, false}
+use Rattle.std.proofs.Common.{cond}
 use Rattle.std.proofs.lemmas.List.{drop_more, at_drop_all}
 use Rattle.pp_tokens.specs.declared.token.Token.{Token}
 use Rattle.pp_tokens.specs.declared.token.TokenKind.TheVariants.{End}

@@ -14,6 +14,7 @@ abbrev pub IsRight : Front → List ℕ → Type 0
 IsRight (Takes kind n) cs = Takes_part kind n cs
 IsRight (Bad f) cs = Unit {0}
 
-pub by_test : (b : Bool) (x y : Front) (cs : List ℕ) → (b ≡ true → IsRight x cs) → (b ≡ false → IsRight y cs) → IsRight (cond b x y) cs
+pub by_test : (b : Bool) (x y : Front) (cs : List ℕ) → (b ≡ true → IsRight x cs) → (b ≡ false → IsRight y cs)
+    → IsRight (cond b x y) cs
 by_test true x y cs pass fail = pass refl
 by_test false x y cs pass fail = fail refl

@@ -1,5 +1,6 @@
 -- Comments are right.
-use Rattle.std.proofs.Common.{ℕ, suc, ◌≡◌, ◌+◌, inl, inr, List, ◌∷◌, take, drop, take-append-drop, refl, sym, ap, ◌∙◌, subst, arith, Bool, true, false, not, Option, Some, None}
+use Rattle.std.proofs.Common.{ℕ, suc, ◌≡◌, ◌+◌, inl, inr, List, ◌∷◌, take, drop, take-append-drop, refl, sym, ap, ◌∙◌}
+use Rattle.std.proofs.Common.{subst, arith, Bool, true, false, not, Option, Some, None}
 use Rattle.std.specs.List.{prefix_len}
 use Rattle.pp_tokens.specs.declared.front.Front.TheVariants.{Takes}
 use Rattle.pp_tokens.specs.Characters.{is_line_feed, opens_line, opens_block}
@@ -18,9 +19,11 @@ line_at : (r : List ℕ) → IsRight (Takes None (line_len (47 ∷ 47 ∷ r))) (
 line_at r =
     let n = prefix_len no_feed r in
     let f = longest_front no_feed (47 ∷ 47 ∷ r) in
-    let t : take (1 + (1 + n)) (47 ∷ 47 ∷ r) ≡ 47 ∷ 47 ∷ take n r = take_one_more (1 + n) 47 (47 ∷ r) ∙ ap (λ (l : List ℕ). 47 ∷ l) (take_one_more n 47 r) in
+    let t : take (1 + (1 + n)) (47 ∷ 47 ∷ r) ≡ 47 ∷ 47 ∷ take n r =
+    take_one_more (1 + n) 47 (47 ∷ r) ∙ ap (λ (l : List ℕ). 47 ∷ l) (take_one_more n 47 r) in
     record {
-      right = inr (inl (record { opening = t ∙ ap (λ (l : List ℕ). 47 ∷ 47 ∷ drop 2 l) (sym t); one_line = f.all; longest = f.stops }));
+      right = inr (inl (record
+          { opening = t ∙ ap (λ (l : List ℕ). 47 ∷ 47 ∷ drop 2 l) (sym t); one_line = f.all; longest = f.stops }));
       some = omega arith;
       within = f.within;
     }
@@ -40,7 +43,8 @@ ended_right r (Some n) e =
     let Q : List ℕ → Type 0 = λ l. IsBody l (drop n r) in
     let R : List ℕ → Type 0 = λ l. IsBody r l in
     record {
-      right = inr (inr (subst P two (record { opening = refl; body = subst Q (sym (take-append-drop n r)) (subst R b.0.2 b.0.1) })));
+      right = inr (inr (subst P two
+          (record { opening = refl; body = subst Q (sym (take-append-drop n r)) (subst R b.0.2 b.0.1) })));
       some = omega arith;
       within = omega (arith, b.1);
     }

@@ -13,10 +13,20 @@ use Rattle.pp_tokens.proofs.RightNumbers.{number_right}
 use Rattle.pp_tokens.proofs.RightOperators.{operator_right, mark_right}
 
 feed_right : (c : ℕ) (cs : List ℕ) → is_line_feed c ≡ true → IsRight (Takes (Some Newline) 1) (c ∷ cs)
-feed_right c cs h = record { right = ap (λ (x : ℕ). x ∷ []) (same_number c 10 h); some = omega arith; within = omega arith }
+feed_right c cs h = record {
+  right = ap (λ (x : ℕ). x ∷ []) (same_number c 10 h);
+  some = omega arith;
+  within =
+      omega arith;
+}
 
 blank_right : (c : ℕ) (cs : List ℕ) → is_blank c ≡ true → IsRight (Takes None 1) (c ∷ cs)
-blank_right c cs h = record { right = inl (record { character = c; whole = refl; blank = h }); some = omega arith; within = omega arith }
+blank_right c cs h = record {
+  right = inl (record { character = c; whole = refl; blank = h });
+  some =
+      omega arith;
+  within = omega arith;
+}
 
 pub front_right : (cs : List ℕ) → IsRight (front_of cs) cs
 front_right [] = tt

@@ -1,5 +1,6 @@
 -- Names are right.
-use Rattle.std.proofs.Common.{ℕ, ◌≡◌, ◌+◌, List, ◌∷◌, take, drop, refl, ap, ◌∙◌, arith, Bool, true, false, cond, Option, Some, None}
+use Rattle.std.proofs.Common.{ℕ, ◌≡◌, ◌+◌, List, ◌∷◌, take, drop, refl, ap, ◌∙◌, arith, Bool, true, false, cond, Option}
+use Rattle.std.proofs.Common.{Some, None}
 use Rattle.std.specs.Prelude.{codes}
 use Rattle.std.specs.List.{list_all, prefix_len}
 use Rattle.unicode_ident.specs.Ident.{is_xid_continue}
@@ -14,10 +15,15 @@ use Rattle.pp_tokens.proofs.Right.{IsRight}
 
 module _ (xs after : List ℕ) (name : IsLongestName xs after) where
   by_word : (o : Option Reserved) → word_of xs ≡ o → spells xs (codes "_") ≡ false → IsToken (word_or_name o) xs after
-  by_word (Some w) e h = (name, same_text xs (word_text w) (found_passes (λ (v : Reserved). spells xs (word_text v)) words w e))
+  by_word (Some w) e h = (
+    name,
+    same_text xs (word_text w) (found_passes (λ (v : Reserved). spells xs (word_text v)) words w e),
+  )
   by_word None e h = (name, e, λ is. let t : spells xs (codes "_") ≡ true = ap (λ (l : List ℕ). spells l (codes "_")) is in cc)
 
-  by_hole : (b : Bool) → spells xs (codes "_") ≡ b → IsToken (cond b Rattle.pp_tokens.specs.declared.token.TokenKind.TheVariants.Hole (word_or_name (word_of xs))) xs after
+  by_hole : (b : Bool) → spells xs (codes "_") ≡ b
+      → IsToken (cond b Rattle.pp_tokens.specs.declared.token.TokenKind.TheVariants.Hole (word_or_name (word_of xs))) xs
+      after
   by_hole true e = (name, same_text xs (codes "_") e)
   by_hole false e = by_word (word_of xs) refl e
 

@@ -1,5 +1,6 @@
 -- Numbers are right.
-use Rattle.std.proofs.Common.{ℕ, zero, suc, ◌≡◌, ◌+◌, ◌≤◌, ◌⊎◌, inl, inr, List, [], ◌∷◌, take, drop, length, length-take-le, refl, sym, ap, ◌∙◌, subst, arith, Bool, true, not, Some}
+use Rattle.std.proofs.Common.{ℕ, zero, suc, ◌≡◌, ◌+◌, ◌≤◌, ◌⊎◌, inl, inr, List, [], ◌∷◌, take, drop, length}
+use Rattle.std.proofs.Common.{length-take-le, refl, sym, ap, ◌∙◌, subst, arith, Bool, true, not, Some}
 use Rattle.std.specs.Prelude.{◌&&◌, ◌||◌, ◌==◌, nat_lt, nat_le}
 use Rattle.std.specs.List.{prefix_len}
 use Rattle.std.specs.Char.{is_ascii_digit, is_ascii_hexdigit}
@@ -36,7 +37,9 @@ decimal_right c cs digit =
         some = omega arith;
         digits = f.all;
         no_leading_zero = λ g.
-            let one : n ≤ 1 = not_above 1 n (not_both (goes_on 48 (c ∷ cs)) (nat_lt 1 n) none (sym (goes_on_taken (λ (x : ℕ). x == 48) c cs n some) ∙ g)) in
+            let one : n ≤ 1 = not_above 1 n
+            (not_both (goes_on 48 (c ∷ cs)) (nat_lt 1 n) none
+            (sym (goes_on_taken (λ (x : ℕ). x == 48) c cs n some) ∙ g)) in
             omega arith;
         value_is = refl;
         small = at_most v 2147483648 (and_right (not leading && ending) (nat_le v 2147483648) h);
@@ -50,7 +53,8 @@ decimal_right c cs digit =
 two_more : (n : ℕ) → 2 + n ≡ suc (suc n)
 two_more n = omega arith
 
-mark_right : (a b : ℕ) (ds : List ℕ) → (a == 48) ≡ true → ((b == 120) || (b == 88)) ≡ true → (a ∷ b ∷ ds ≡ 48 ∷ 120 ∷ ds) ⊎ (a ∷ b ∷ ds ≡ 48 ∷ 88 ∷ ds)
+mark_right : (a b : ℕ) (ds : List ℕ) → (a == 48) ≡ true → ((b == 120) || (b == 88)) ≡ true
+    → (a ∷ b ∷ ds ≡ 48 ∷ 120 ∷ ds) ⊎ (a ∷ b ∷ ds ≡ 48 ∷ 88 ∷ ds)
 mark_right a b ds h g =
     let e = ap (λ (x : ℕ). x ∷ b ∷ ds) (same_number a 48 h) in
     elim (one_of (b == 120) (b == 88) g) [
@@ -77,7 +81,8 @@ hexadecimal_right (a ∷ b ∷ d ∷ r) h =
     let P : ℕ → Type 0 = λ k. IsHexadecimal v (take k (a ∷ b ∷ d ∷ r)) (drop k (a ∷ b ∷ d ∷ r)) in
     record {
       right = subst P (sym (two_more n)) (record {
-        opening = mark_right a b (take n (d ∷ r)) (and_left (a == 48) ((b == 120) || (b == 88)) first) (and_right (a == 48) ((b == 120) || (b == 88)) first);
+        opening = mark_right a b (take n (d ∷ r)) (and_left (a == 48) ((b == 120) || (b == 88)) first)
+            (and_right (a == 48) ((b == 120) || (b == 88)) first);
         some = omega arith;
         digits = f.all;
         value_is = refl;
@@ -91,4 +96,5 @@ hexadecimal_right (a ∷ b ∷ d ∷ r) h =
 
 pub number_right : (c : ℕ) (cs : List ℕ) → is_ascii_digit c ≡ true → IsRight (number_front (c ∷ cs)) (c ∷ cs)
 number_right c cs digit =
-    by_test (is_hexadecimal (c ∷ cs)) (hexadecimal (c ∷ cs)) (decimal (c ∷ cs)) (c ∷ cs) (hexadecimal_right (c ∷ cs)) (λ h. decimal_right c cs digit)
+    by_test (is_hexadecimal (c ∷ cs)) (hexadecimal (c ∷ cs)) (decimal (c ∷ cs)) (c ∷ cs) (hexadecimal_right (c ∷ cs))
+    (λ h. decimal_right c cs digit)

@@ -1,5 +1,6 @@
 -- A text, one character at a time.
-use Rattle.std.proofs.Common.{ℕ, ◌≡◌, ◌+◌, ◌<◌, ◌≤◌, List, [], ◌∷◌, get_or, drop, length, sym, ap, ◌∙◌, refl, arith, Bool, true, false}
+use Rattle.std.proofs.Common.{ℕ, ◌≡◌, ◌+◌, ◌<◌, ◌≤◌, List, [], ◌∷◌, get_or, drop, length, sym, ap, ◌∙◌, refl, arith}
+use Rattle.std.proofs.Common.{Bool, true, false}
 use Rattle.std.specs.Prelude.{◌&&◌, ◌==◌}
 use Rattle.std.proofs.lemmas.List.{drop_more, drop_all}
 use Rattle.std.proofs.lemmas.Bool.Decides.{nat_tests}
@@ -13,15 +14,19 @@ pub unequal_lengths : (cs bs : List ℕ) → (length cs ≡ length bs → ⊥) �
 unequal_lengths [] [] ne = absurd (ne refl)
 unequal_lengths [] (b ∷ bs) ne = refl
 unequal_lengths (c ∷ cs) [] ne = refl
-unequal_lengths (c ∷ cs) (b ∷ bs) ne = ap (λ (r : Bool). (c == b) && r) (unequal_lengths cs bs (λ e. ne (omega arith))) ∙ and_false (c == b)
+unequal_lengths (c ∷ cs) (b ∷ bs) ne =
+    ap (λ (r : Bool). (c == b) && r) (unequal_lengths cs bs (λ e. ne (omega arith))) ∙ and_false (c == b)
 
 module _ (cs bs : List ℕ) (i : ℕ) (lt : i < length cs) (same : length cs ≡ length bs) where
-  here : spells (drop i cs) (drop i bs) ≡ ((get_or cs i 0 == get_or bs i 0) && spells (drop (i + 1) cs) (drop (i + 1) bs))
+  here : spells (drop i cs) (drop i bs) ≡
+      ((get_or cs i 0 == get_or bs i 0) && spells (drop (i + 1) cs) (drop (i + 1) bs))
   here =
       let lt' : i < length bs = omega arith in
-      ap (λ (l : List ℕ). spells l (drop i bs)) (drop_more cs i 0 lt) ∙ ap (spells (get_or cs i 0 ∷ drop (i + 1) cs)) (drop_more bs i 0 lt')
+      ap (λ (l : List ℕ). spells l (drop i bs)) (drop_more cs i 0 lt)
+      ∙ ap (spells (get_or cs i 0 ∷ drop (i + 1) cs)) (drop_more bs i 0 lt')
 
-  pub one_spelled : get_or cs i 0 ≡ get_or bs i 0 → spells (drop (i + 1) cs) (drop (i + 1) bs) ≡ spells (drop i cs) (drop i bs)
+  pub one_spelled : get_or cs i 0 ≡ get_or bs i 0
+      → spells (drop (i + 1) cs) (drop (i + 1) bs) ≡ spells (drop i cs) (drop i bs)
   one_spelled e =
       let t : (get_or cs i 0 == get_or bs i 0) ≡ true = grind (arith, nat_tests) in
       sym (here ∙ ap (λ (b : Bool). b && spells (drop (i + 1) cs) (drop (i + 1) bs)) t)

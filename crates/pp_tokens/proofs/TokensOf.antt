@@ -22,7 +22,8 @@ module _ (bs : List ℕ) (ts : List Token) (e : tokens_of bs ≡ spelled ts) whe
   are_spans utf8 =
       let l = is_layout in
       let P : List Token → Type 0 = λ k. Every (IsSpan bs) k in
-      all_of (IsSpan bs) ts (subst P (sym l.tokens) (all_kept (IsSpan bs) (raw_tokens l.parts) [] false None (raw_spans bs l.parts utf8 l.laid_out) tt))
+      all_of (IsSpan bs) ts (subst P (sym l.tokens)
+      (all_kept (IsSpan bs) (raw_tokens l.parts) [] false None (raw_spans bs l.parts utf8 l.laid_out) tt))
 
   pub are_in_order : AreInOrder 0 ts
   are_in_order =
@@ -36,8 +37,10 @@ module _ (bs : List ℕ) (ts : List Token) (e : tokens_of bs ≡ spelled ts) whe
       let n = width (written l.parts) in
       let P : List Token → Type 0 = λ k. HasEnd n k in
       let Q : ℕ → Type 0 = λ k. HasEnd k ts in
-      let w : width (written l.parts) ≡ length bs = ap width (sym (append-nil (written l.parts)) ∙ l.laid_out.whole) ∙ width-chars bs utf8 in
-      subst Q w (subst P (sym l.tokens) (end_of_kept n (laid 0 l.parts) [] false None (no_ends l.parts [] 0 l.laid_out.right) tt))
+      let w : width (written l.parts) ≡ length bs =
+      ap width (sym (append-nil (written l.parts)) ∙ l.laid_out.whole) ∙ width-chars bs utf8 in
+      subst Q w (subst P (sym l.tokens)
+      (end_of_kept n (laid 0 l.parts) [] false None (no_ends l.parts [] 0 l.laid_out.right) tt))
 
 pub is_behind : (bs : List ℕ) (f : LexFault) → IsCause f (tokens_of bs) → IsBehind (chars bs) f
 is_behind bs Memory e = tt

@@ -9,7 +9,8 @@ use Rattle.pp_tokens.specs.Characters.{width}
 
 pub width-encodes : (cs : List ℕ) → length (encodes cs) ≡ width cs
 width-encodes [] = refl
-width-encodes (c ∷ cs) = omega (arith, length-append (encode c) (encodes cs), length-encode c, width-encodes cs, sum_by-cons len_utf8 c cs)
+width-encodes (c ∷ cs) =
+    omega (arith, length-append (encode c) (encodes cs), length-encode c, width-encodes cs, sum_by-cons len_utf8 c cs)
 
 pub width-chars : (bs : List ℕ) → IsUtf8 bs → width (chars bs) ≡ length bs
 width-chars bs utf8 = sym (width-encodes (chars bs)) ∙ ap length (encodes-chars bs utf8)

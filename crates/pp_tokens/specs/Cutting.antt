@@ -1,12 +1,14 @@
 -- A text cut into parts: white space, comments and tokens.
-use Rattle.std.specs.Prelude.{ℕ, zero, suc, ◌+◌, ◌-◌, ◌≡◌, List, [], ◌∷◌, ◌++◌, take, Option, Some, None, Result, MatchResult}
+use Rattle.std.specs.Prelude.{ℕ, zero, suc, ◌+◌, ◌-◌, ◌≡◌, List, [], ◌∷◌, ◌++◌, take, Option, Some, None, Result}
+use Rattle.std.specs.Prelude.{MatchResult}
 use Rattle.pp_tokens.specs.declared.token.TokenKind.{TokenKind}
 use Rattle.pp_tokens.specs.declared.token.TokenKind.TheVariants.{End}
 use Rattle.pp_tokens.specs.declared.token.Token.{Token}
 use Rattle.pp_tokens.specs.declared.token.LexFault.{LexFault}
 use Rattle.pp_tokens.specs.declared.token.LexFault.TheVariants.{BadChar, BadNumber, OpenComment, Memory}
 use Rattle.pp_tokens.specs.declared.front.Fault.{Fault}
-use Rattle.pp_tokens.specs.declared.front.Fault.TheVariants.{BadChar as IsBadChar, BadNumber as IsBadNumber, OpenComment as IsOpenComment}
+use Rattle.pp_tokens.specs.declared.front.Fault.TheVariants.{BadChar as IsBadChar, BadNumber as IsBadNumber}
+use Rattle.pp_tokens.specs.declared.front.Fault.TheVariants.{OpenComment as IsOpenComment}
 use Rattle.pp_tokens.specs.declared.front.Front.{Front}
 use Rattle.pp_tokens.specs.declared.front.Front.TheVariants.{Takes, Bad}
 use Rattle.pp_tokens.specs.Characters.{width}
@@ -24,7 +26,12 @@ pub record Parts : Type 0 where
 
 -- what follows what stands at the front: further gives it, where so many characters are passed over
 abbrev pub follow : List ℕ → Front → (ℕ → Parts) → Parts
-follow cs (Takes kind n) further = record { parts = record { kind = kind; text = take n cs } ∷ (further (n - 1)).parts; fault = (further (n - 1)).fault }
+follow cs (Takes kind n) further =
+    record {
+      parts = record { kind = kind; text = take n cs } ∷ (further (n - 1)).parts;
+      fault =
+          (further (n - 1)).fault;
+    }
 follow cs (Bad f) further = record { parts = []; fault = Some f }
 
 -- The parts of characters, the first so many of which belong to the part before: at each place the part that stands at
@@ -68,4 +75,5 @@ IsFirstFault f ps = (g : Fault) × (ps.fault ≡ Some g) × (f ≡ fault_at g (w
 
 abbrev pub IsCutResult : {V : Type 0} → (V → List Token) → Result V LexFault → List ℕ → Type 0
 IsCutResult items r cs =
-    MatchResult r (λ v. ((parts_of 0 cs).fault ≡ None) × (items v ≡ raw_tokens (parts_of 0 cs).parts)) (λ f. IsFirstFault f (parts_of 0 cs))
+    MatchResult r (λ v. ((parts_of 0 cs).fault ≡ None) × (items v ≡ raw_tokens (parts_of 0 cs).parts))
+    (λ f. IsFirstFault f (parts_of 0 cs))

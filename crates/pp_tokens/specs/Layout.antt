@@ -1,12 +1,14 @@
 -- The law above the definition: the parts of a text, put together in order, give the text, and each part is right where
 -- it stands, with regard to what follows it.
-use Rattle.std.specs.Prelude.{ℕ, ◌≡◌, ◌≢◌, ◌≤◌, ◌⊎◌, Bool, true, false, not, List, [], ◌∷◌, ◌++◌, length, drop, Option, Some, None, codes}
+use Rattle.std.specs.Prelude.{ℕ, ◌≡◌, ◌≢◌, ◌≤◌, ◌⊎◌, Bool, true, false, not, List, [], ◌∷◌, ◌++◌, length, drop, Option}
+use Rattle.std.specs.Prelude.{Some, None, codes}
 use Rattle.std.specs.List.{list_all}
 use Rattle.std.specs.Char.{is_ascii_digit, is_ascii_hexdigit}
 use Rattle.unicode_ident.specs.Ident.{is_xid_continue}
 use Rattle.pp_tokens.specs.declared.token.TokenKind.{TokenKind}
 use Rattle.pp_tokens.specs.declared.token.TokenKind.TheVariants.{Name, Word, Number, Hex, Op, Mark, Hole, Newline, End}
-use Rattle.pp_tokens.specs.Characters.{is_line_feed, is_blank, starts_name, goes_on_with, goes_on, goes_on_name, opens_block, closes_block}
+use Rattle.pp_tokens.specs.Characters.{is_line_feed, is_blank, starts_name, goes_on_with, goes_on, goes_on_name}
+use Rattle.pp_tokens.specs.Characters.{opens_block, closes_block}
 use Rattle.pp_tokens.specs.Cutting.{Part, written}
 use Rattle.pp_tokens.specs.Numbers.{value, is_end}
 use Rattle.pp_tokens.specs.Operators.{operator_text, runs_on, mark_text}
@@ -29,7 +31,8 @@ pub record IsLineComment (xs after : List ℕ) : Type 0 where
 pub data IsBody : List ℕ → List ℕ → Type 0 where
   closing : (us : List ℕ) → IsBody (42 ∷ 47 ∷ us) us
   nested : (ts vs us : List ℕ) → IsBody ts vs → IsBody vs us → IsBody (47 ∷ 42 ∷ ts) us
-  other : (c : ℕ) (ts us : List ℕ) → opens_block c ts ≡ false → closes_block c ts ≡ false → IsBody ts us → IsBody (c ∷ ts) us
+  other : (c : ℕ) (ts us : List ℕ) → opens_block c ts ≡ false → closes_block c ts ≡ false → IsBody ts us
+      → IsBody (c ∷ ts) us
 
 -- a block comment
 pub record IsBlockComment (xs after : List ℕ) : Type 0 where

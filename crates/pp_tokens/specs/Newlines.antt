@@ -4,9 +4,12 @@ use Rattle.std.specs.Prelude.{Bool, true, false, cond, ◌&&◌, List, [], ◌�
 use Rattle.pp_tokens.specs.declared.token.TokenKind.{TokenKind}
 use Rattle.pp_tokens.specs.declared.token.TokenKind.TheVariants.{Name, Word, Number, Hex, Op, Mark, Hole, Newline, End}
 use Rattle.pp_tokens.specs.declared.token.Token.{Token}
-use Rattle.pp_tokens.specs.declared.token.Reserved.TheVariants.{Case, Catch, Class, Else, Extends, False, Finally, ForSome, Match, Null, Object, Return, This, True, «Type», With, Yield}
+use Rattle.pp_tokens.specs.declared.token.Reserved.TheVariants.{Case, Catch, Class, Else, Extends, False, Finally}
+use Rattle.pp_tokens.specs.declared.token.Reserved.TheVariants.{ForSome, Match, Null, Object, Return, This, True}
+use Rattle.pp_tokens.specs.declared.token.Reserved.TheVariants.{«Type», With, Yield}
 use Rattle.pp_tokens.specs.declared.token.Operator.TheVariants.{Assign, Arrow, Colon}
-use Rattle.pp_tokens.specs.declared.token.Bracket.TheVariants.{OpenRound, CloseRound, OpenSquare, CloseSquare, OpenBrace, CloseBrace, Comma, Dot, Semicolon}
+use Rattle.pp_tokens.specs.declared.token.Bracket.TheVariants.{OpenRound, CloseRound, OpenSquare, CloseSquare}
+use Rattle.pp_tokens.specs.declared.token.Bracket.TheVariants.{OpenBrace, CloseBrace, Comma, Dot, Semicolon}
 use Rattle.pp_tokens.specs.declared.newlines.Region.{Region}
 use Rattle.pp_tokens.specs.declared.newlines.Region.TheVariants.{Round, Square, Brace, Case as CaseHead}
 
@@ -37,8 +40,8 @@ declares (Word Class) = true
 declares (Word Object) = true
 declares _ = false
 
--- A statement can begin with every token except `catch else extends finally forSome match with yield , . : ; = => [ ) ] }`
--- and the end of the source; with `case` only before `class` or `object`.
+-- A statement can begin with every token except `catch else extends finally forSome match with yield , . : ; = => [ ) ]
+-- }` and the end of the source; with `case` only before `class` or `object`.
 abbrev pub can_begin : TokenKind → TokenKind → Bool
 can_begin (Word Case) next = declares next
 can_begin (Word Catch) next = false
@@ -125,4 +128,5 @@ abbrev pub newlines : List Region → Bool → Option Token → List Token → L
 newlines rs ended waiting [] = []
 newlines rs ended waiting (t ∷ ts) =
     cond (is_newline t.kind) (newlines rs ended (first_feed waiting t) ts)
-    (kept (ended && can_begin t.kind (next_kind ts) && enabled rs) waiting t ++ newlines (inside t.kind (next_kind ts) rs) (can_end t.kind) None ts)
+    (kept (ended && can_begin t.kind (next_kind ts) && enabled rs) waiting t
+    ++ newlines (inside t.kind (next_kind ts) rs) (can_end t.kind) None ts)

@@ -1,5 +1,6 @@
 -- Numbers (Scala Language Specification 2.13, 1.3.1; own: the limit of decimal numbers, and what can't follow one).
-use Rattle.std.specs.Prelude.{ℕ, Bool, true, false, not, cond, ◌&&◌, ◌||◌, ◌==◌, nat_lt, nat_le, ◌+◌, ◌-◌, ◌*◌, List, [], ◌∷◌, take, drop, fold, Some}
+use Rattle.std.specs.Prelude.{ℕ, Bool, true, false, not, cond, ◌&&◌, ◌||◌, ◌==◌, nat_lt, nat_le, ◌+◌, ◌-◌, ◌*◌, List}
+use Rattle.std.specs.Prelude.{[], ◌∷◌, take, drop, fold, Some}
 use Rattle.std.specs.List.{prefix_len}
 use Rattle.std.specs.Char.{is_ascii_digit, is_ascii_hexdigit}
 use Rattle.unicode_ident.specs.Ident.{is_xid_continue}
@@ -33,7 +34,8 @@ abbrev pub decimal : List ℕ → Front
 decimal cs =
     let n = prefix_len is_ascii_digit cs in
     let v = value 10 (take n cs) in
-    cond ((not (goes_on 48 cs && nat_lt 1 n) && is_end (drop n cs)) && nat_le v 2147483648) (Takes (Some (Number v)) n) (Bad BadNumber)
+    cond ((not (goes_on 48 cs && nat_lt 1 n) && is_end (drop n cs)) && nat_le v 2147483648) (Takes (Some (Number v)) n)
+    (Bad BadNumber)
 
 -- a hexadecimal number has all hexadecimal digits that follow its `0x`, and is at most 0xFFFFFFFF
 abbrev pub hexadecimal : List ℕ → Front

@@ -1,9 +1,12 @@
 -- The operators and the marks.
 use Rattle.std.specs.Prelude.{ℕ, Bool, not, cond, ◌&&◌, ◌||◌, ◌+◌, List, [], ◌∷◌, take, Option, Some, None, find, codes}
 use Rattle.pp_tokens.specs.declared.token.Operator.{Operator}
-use Rattle.pp_tokens.specs.declared.token.Operator.TheVariants.{Plus, Minus, Times, Over, Percent, Equal, Differs, Less, AtMost, More, AtLeast, AndAlso, OrElse, Not, And, Or, Xor, Flip, Shl, Shr, Ushr, Assign, Arrow, Colon, At}
+use Rattle.pp_tokens.specs.declared.token.Operator.TheVariants.{Plus, Minus, Times, Over, Percent, Equal, Differs, Less}
+use Rattle.pp_tokens.specs.declared.token.Operator.TheVariants.{AtMost, More, AtLeast, AndAlso, OrElse, Not, And, Or}
+use Rattle.pp_tokens.specs.declared.token.Operator.TheVariants.{Xor, Flip, Shl, Shr, Ushr, Assign, Arrow, Colon, At}
 use Rattle.pp_tokens.specs.declared.token.Bracket.{Bracket}
-use Rattle.pp_tokens.specs.declared.token.Bracket.TheVariants.{OpenRound, CloseRound, OpenSquare, CloseSquare, OpenBrace, CloseBrace, Comma, Dot, Semicolon}
+use Rattle.pp_tokens.specs.declared.token.Bracket.TheVariants.{OpenRound, CloseRound, OpenSquare, CloseSquare}
+use Rattle.pp_tokens.specs.declared.token.Bracket.TheVariants.{OpenBrace, CloseBrace, Comma, Dot, Semicolon}
 use Rattle.pp_tokens.specs.declared.token.TokenKind.TheVariants.{Op, Mark}
 use Rattle.pp_tokens.specs.declared.front.Fault.TheVariants.{BadChar}
 use Rattle.pp_tokens.specs.declared.front.Front.{Front}
@@ -39,7 +42,8 @@ operator_text Colon = codes ":"
 operator_text At = codes "@"
 
 abbrev pub operators : List Operator
-operators = Plus ∷ Minus ∷ Times ∷ Over ∷ Percent ∷ Equal ∷ Differs ∷ Less ∷ AtMost ∷ More ∷ AtLeast ∷ AndAlso ∷ OrElse ∷ Not ∷ And ∷ Or ∷ Xor ∷ Flip ∷ Shl ∷ Shr ∷ Ushr ∷ Assign ∷ Arrow ∷ Colon ∷ At ∷ []
+operators = Plus ∷ Minus ∷ Times ∷ Over ∷ Percent ∷ Equal ∷ Differs ∷ Less ∷ AtMost ∷ More ∷ AtLeast ∷ AndAlso ∷ OrElse
+    ∷ Not ∷ And ∷ Or ∷ Xor ∷ Flip ∷ Shl ∷ Shr ∷ Ushr ∷ Assign ∷ Arrow ∷ Colon ∷ At ∷ []
 
 -- the operator with these characters, if there is one
 abbrev pub operator_of : List ℕ → Option Operator

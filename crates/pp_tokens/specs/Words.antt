@@ -1,7 +1,12 @@
 -- The reserved words (Scala Language Specification 2.13, 1.1).
 use Rattle.std.specs.Prelude.{ℕ, Bool, true, false, ◌&&◌, ◌==◌, List, [], ◌∷◌, Option, find, codes}
 use Rattle.pp_tokens.specs.declared.token.Reserved.{Reserved}
-use Rattle.pp_tokens.specs.declared.token.Reserved.TheVariants.{Abstract, Case, Catch, Class, Def, Do, Else, Extends, False, Final, Finally, For, ForSome, If, Implicit, Import, Lazy, Macro, Match, New, Null, Object, Override, Package, Private, Protected, Return, Sealed, Super, This, Throw, Trait, Try, True, «Type», Val, Var, While, With, Yield}
+use Rattle.pp_tokens.specs.declared.token.Reserved.TheVariants.{Abstract, Case, Catch, Class, Def, Do, Else, Extends}
+use Rattle.pp_tokens.specs.declared.token.Reserved.TheVariants.{False, Final, Finally, For, ForSome, If, Implicit}
+use Rattle.pp_tokens.specs.declared.token.Reserved.TheVariants.{Import, Lazy, Macro, Match, New, Null, Object, Override}
+use Rattle.pp_tokens.specs.declared.token.Reserved.TheVariants.{Package, Private, Protected, Return, Sealed, Super}
+use Rattle.pp_tokens.specs.declared.token.Reserved.TheVariants.{This, Throw, Trait, Try, True, «Type», Val, Var, While}
+use Rattle.pp_tokens.specs.declared.token.Reserved.TheVariants.{With, Yield}
 
 -- the characters are those of the text, which is ASCII
 abbrev pub spells : List ℕ → List ℕ → Bool
@@ -53,7 +58,9 @@ word_text With = codes "with"
 word_text Yield = codes "yield"
 
 abbrev pub words : List Reserved
-words = Abstract ∷ Case ∷ Catch ∷ Class ∷ Def ∷ Do ∷ Else ∷ Extends ∷ False ∷ Final ∷ Finally ∷ For ∷ ForSome ∷ If ∷ Implicit ∷ Import ∷ Lazy ∷ Macro ∷ Match ∷ New ∷ Null ∷ Object ∷ Override ∷ Package ∷ Private ∷ Protected ∷ Return ∷ Sealed ∷ Super ∷ This ∷ Throw ∷ Trait ∷ Try ∷ True ∷ «Type» ∷ Val ∷ Var ∷ While ∷ With ∷ Yield ∷ []
+words = Abstract ∷ Case ∷ Catch ∷ Class ∷ Def ∷ Do ∷ Else ∷ Extends ∷ False ∷ Final ∷ Finally ∷ For ∷ ForSome ∷ If
+    ∷ Implicit ∷ Import ∷ Lazy ∷ Macro ∷ Match ∷ New ∷ Null ∷ Object ∷ Override ∷ Package ∷ Private ∷ Protected ∷ Return
+    ∷ Sealed ∷ Super ∷ This ∷ Throw ∷ Trait ∷ Try ∷ True ∷ «Type» ∷ Val ∷ Var ∷ While ∷ With ∷ Yield ∷ []
 
 -- the reserved word with these characters, if there is one
 abbrev pub word_of : List ℕ → Option Reserved

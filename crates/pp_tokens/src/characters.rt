@@ -1,7 +1,8 @@
-// Kinds of characters.
+//! Kinds of characters.
 
 ghost use Rattle.std.specs.Prelude.{◌≡◌, ◌+◌, ◌<◌, ◌^◌};
-ghost use Rattle.pp_tokens.specs.Characters.{is_line_feed, is_blank, is_operator_char, starts_name, goes_on, goes_on_name, goes_on_digit, begins, width};
+ghost use Rattle.pp_tokens.specs.Characters.{is_line_feed, is_blank, is_operator_char, starts_name, goes_on};
+ghost use Rattle.pp_tokens.specs.Characters.{goes_on_name, goes_on_digit, begins, width};
 
 use unicode_ident::{is_xid_continue, is_xid_start};
 

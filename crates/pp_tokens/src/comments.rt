@@ -1,4 +1,4 @@
-// How long a comment is.
+//! How long a comment is.
 
 ghost use Rattle.std.specs.Prelude.{◌≡◌, ◌≤◌, length, false, IfSome};
 ghost use Rattle.pp_tokens.specs.Comments.{line_len, block_len};

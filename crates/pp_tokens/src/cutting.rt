@@ -1,4 +1,4 @@
-// The first pass: characters cut into parts.
+//! The first pass: characters cut into parts.
 
 ghost use Rattle.std.specs.Prelude.{◌≡◌, ◌++◌, ◌<◌, ◌^◌, MatchResult, OnOk};
 ghost use Rattle.pp_tokens.specs.Characters.{width};

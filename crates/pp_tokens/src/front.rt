@@ -1,4 +1,4 @@
-// What stands at the front of characters.
+//! What stands at the front of characters.
 
 ghost use Rattle.std.specs.Prelude.{◌≡◌, ◌≤◌, ◌<◌, ◌∷◌, length};
 ghost use Rattle.std.specs.List.{prefix_len};

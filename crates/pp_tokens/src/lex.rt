@@ -1,4 +1,4 @@
-// The tokens of a text.
+//! The tokens of a text.
 
 ghost use Rattle.std.specs.Prelude.{◌≡◌, ◌+◌, ◌≤◌, All, length, IfOk, IfErr};
 ghost use Rattle.std.specs.Str.{chars};

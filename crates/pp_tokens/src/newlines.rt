@@ -1,7 +1,8 @@
-// The second pass: the line feeds that end a statement.
+//! The second pass: the line feeds that end a statement.
 
 ghost use Rattle.std.specs.Prelude.{◌≡◌, ◌++◌, IfOk, OnOk, [], false, reverse, None};
-ghost use Rattle.pp_tokens.specs.Newlines.{is_newline, can_end, declares, can_begin, next_kind, enabled, opened_by, is_closed_by, inside, first_feed, kept, newlines};
+ghost use Rattle.pp_tokens.specs.Newlines.{is_newline, can_end, declares, can_begin, next_kind, enabled, opened_by};
+ghost use Rattle.pp_tokens.specs.Newlines.{is_closed_by, inside, first_feed, kept, newlines};
 
 use crate::token::{Bracket, Operator, Reserved, Token, TokenKind};
 use std::alloc::{AllocError, Global};

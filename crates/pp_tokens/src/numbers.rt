@@ -1,4 +1,4 @@
-// Numbers.
+//! Numbers.
 
 ghost use Rattle.std.specs.Prelude.{◌≡◌, ◌≤◌, length, min};
 ghost use Rattle.std.specs.List.{prefix_len};

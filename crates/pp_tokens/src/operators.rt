@@ -1,7 +1,8 @@
-// Operators and marks.
+//! Operators and marks.
 
 ghost use Rattle.std.specs.Prelude.{◌≡◌, ◌≤◌, length};
-ghost use Rattle.pp_tokens.specs.Operators.{operator_text, operator_of, runs_on, run_len, operator_front, mark_text, mark_of, mark_front};
+ghost use Rattle.pp_tokens.specs.Operators.{operator_text, operator_of, runs_on, run_len, operator_front, mark_text};
+ghost use Rattle.pp_tokens.specs.Operators.{mark_of, mark_front};
 
 use crate::characters::{begins, is_operator_char};
 use crate::front::{Fault, Front};

@@ -1,4 +1,4 @@
-// The texts of reserved words, operators and marks.
+//! The texts of reserved words, operators and marks.
 
 ghost use Rattle.std.specs.Prelude.{◌≡◌};
 ghost use Rattle.pp_tokens.specs.Words.{spells, word_text, word_of};

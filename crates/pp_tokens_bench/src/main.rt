@@ -1,5 +1,5 @@
-//! How fast a source is cut into tokens: `pp_tokens_bench PATH` reads the file and prints how many tokens it has, or where
-//! its first fault is.
+//! How fast a source is cut into tokens: `pp_tokens_bench PATH` reads the file and prints how many tokens it has, or
+//! where its first fault is.
 #![tactic(auto)]
 
 use pp_seam::{FileShelf, Shelf};

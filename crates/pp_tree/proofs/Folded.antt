@@ -6,19 +6,24 @@ use Rattle.pp_tree.specs.declared.expr.ExprKind.{ExprKind}
 use Rattle.pp_tree.specs.declared.expr.ExprKind.TheViews as views
 use Rattle.pp_tree.specs.declared.expr.ExprKind.TheVariants as variants
 use Rattle.pp_tree.specs.declared.expr.ExprKind.TheOpen as layer
-use Rattle.pp_tree.specs.declared.expr.ExprKind.TheFolds.{fold-roll-Expr, fold-roll-ExprKind, fold-ExprKind, fold-roll-Case}
+use Rattle.pp_tree.specs.declared.expr.ExprKind.TheFolds.{fold-roll-Expr, fold-roll-ExprKind, fold-ExprKind}
+use Rattle.pp_tree.specs.declared.expr.ExprKind.TheFolds.{fold-roll-Case}
 use Rattle.pp_tree.specs.declared.operator.BinaryOp.{BinaryOp}
 use Rattle.pp_tree.specs.declared.operator.UnaryOp.{UnaryOp}
 use Rattle.pp_tree.specs.declared.pattern.Pattern.{Pattern}
 use Rattle.pp_tree.specs.declared.pattern.PatternKind.{PatternKind}
 use Rattle.pp_tree.specs.declared.pattern.PatternKind.TheViews as pattern_views
 use Rattle.pp_tree.specs.declared.pattern.PatternKind.TheOpen as pattern_layer
-use Rattle.pp_tree.specs.declared.pattern.PatternKind.TheFolds.{fold-roll-Pattern, fold-roll-PatternKind, fold-PatternKind}
+use Rattle.pp_tree.specs.declared.pattern.PatternKind.TheFolds.{fold-roll-Pattern, fold-roll-PatternKind}
+use Rattle.pp_tree.specs.declared.pattern.PatternKind.TheFolds.{fold-PatternKind}
 use Rattle.pp_tree.specs.declared.type_text.TypeText.{TypeText}
 use Rattle.pp_tree.specs.declared.type_text.TypeText.TheViews as type_views
 use Rattle.pp_tree.specs.declared.type_text.TypeText.TheFolds.{fold-roll-TypeText}
-use Rattle.pp_tree.specs.Plain.{Word, Tree, CaseTrees, int, bool, name, apply, field, unary, binary, choice, matching, val_in, assert_in, PatternTree, any, int_pattern, bool_pattern, ctor_pattern, TypeTree, type_text}
-use Rattle.pp_tree.specs.Shown.{tree_of, trees, kind_step, case_step, expr_step, case_of, case_trees, case_before, type_of, type_trees, type_step, pattern_of, pattern_trees, pattern_kind, pattern_step}
+use Rattle.pp_tree.specs.Plain.{Word, Tree, CaseTrees, int, bool, name, apply, field, unary, binary, choice, matching}
+use Rattle.pp_tree.specs.Plain.{val_in, assert_in, PatternTree, any, int_pattern, bool_pattern, ctor_pattern, TypeTree}
+use Rattle.pp_tree.specs.Plain.{type_text}
+use Rattle.pp_tree.specs.Shown.{tree_of, trees, kind_step, case_step, expr_step, case_of, case_trees, case_before}
+use Rattle.pp_tree.specs.Shown.{type_of, type_trees, type_step, pattern_of, pattern_trees, pattern_kind, pattern_step}
 
 -- the tree of a kind, but for its place
 abbrev kind_of : ExprKind → ℕ → Tree

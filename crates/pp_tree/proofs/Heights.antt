@@ -1,13 +1,17 @@
 -- Heights of nodes above lists, from the greatest heights of these.
-use Rattle.std.proofs.Common.{◌≡◌, ℕ, ◌+◌, min, max, map, arith, List, [], ◌∷◌, refl, ap, sym, ◌∙◌, Option, Some, None, option_map, subst}
+use Rattle.std.proofs.Common.{◌≡◌, ℕ, ◌+◌, min, max, map, arith, List, [], ◌∷◌, refl, ap, sym, ◌∙◌, Option, Some, None}
+use Rattle.std.proofs.Common.{option_map, subst}
 use Rattle.pp_tree.specs.declared.expr.Case.{Case}
 use Rattle.pp_tree.specs.declared.expr.Expr.{Expr}
 use Rattle.pp_tree.specs.declared.expr.ExprKind.TheViews.{roll-Case, out-Case, roll-out-Case}
 use Rattle.pp_tree.specs.declared.pattern.Pattern.{Pattern}
 use Rattle.pp_tree.specs.declared.type_text.TypeText.{TypeText}
-use Rattle.pp_tree.specs.Height.{highest, height, heights, type_height, type_heights, pattern_height, pattern_heights, case_heights, written_height}
-use Rattle.pp_tree.specs.Plain.{Word, Tree, apply, matching, PatternTree, ctor_pattern, TypeTree, type_text, CaseTrees, no_cases}
-use Rattle.pp_tree.specs.Shown.{tree_of, trees, case_of, case_trees, case_before, type_of, type_trees, pattern_of, pattern_trees}
+use Rattle.pp_tree.specs.Height.{highest, height, heights, type_height, type_heights, pattern_height, pattern_heights}
+use Rattle.pp_tree.specs.Height.{case_heights, written_height}
+use Rattle.pp_tree.specs.Plain.{Word, Tree, apply, matching, PatternTree, ctor_pattern, TypeTree, type_text, CaseTrees}
+use Rattle.pp_tree.specs.Plain.{no_cases}
+use Rattle.pp_tree.specs.Shown.{tree_of, trees, case_of, case_trees, case_before, type_of, type_trees, pattern_of}
+use Rattle.pp_tree.specs.Shown.{pattern_trees}
 use Rattle.pp_tree.proofs.Folded.{case_is}
 
 pub map_map : {A B C : Type 0} (f : B → C) (g : A → B) (xs : List A) (ys : List B) → ys ≡ map g xs

@@ -1,5 +1,6 @@
 -- The greatest height of a list.
-use Rattle.std.proofs.Common.{◌≡◌, ℕ, ◌+◌, ◌<◌, min, max, length, map, take, get_or, arith, List, [], ◌∷◌, ◌++◌, refl, ap, sym, ◌∙◌}
+use Rattle.std.proofs.Common.{◌≡◌, ℕ, ◌+◌, ◌<◌, min, max, length, map, take, get_or, arith, List, [], ◌∷◌, ◌++◌, refl}
+use Rattle.std.proofs.Common.{ap, sym, ◌∙◌}
 use Rattle.std.proofs.lemmas.List.{take_more, map-append}
 use Rattle.pp_tree.specs.Height.{highest}
 

@@ -1,7 +1,11 @@
--- How high trees are: the nodes on the longest path, where expressions, patterns and written types are nodes, and a leaf
--- has height 1. Source: own.
+-- How high trees are: the nodes on the longest path, where expressions, patterns and written types are nodes, and a
+-- leaf has height 1. Source: own.
 use Rattle.std.specs.Prelude.{ℕ, ◌+◌, max, List, [], ◌∷◌, Option, Some, None}
-use Rattle.pp_tree.specs.Plain.{TypeTree, type_text, TypeTrees, no_types, more_types, PatternTree, any, int_pattern, bool_pattern, ctor_pattern, PatternTrees, no_patterns, more_patterns, Tree, int, bool, name, apply, field, unary, binary, choice, matching, val_in, assert_in, Trees, no_trees, more_trees, CaseTrees, no_cases, plain_case, guarded_case, ParamTree, ClassTree, PostTree, DefTree, DeclTree, root, ctor, other, def, UnitTree}
+use Rattle.pp_tree.specs.Plain.{TypeTree, type_text, TypeTrees, no_types, more_types, PatternTree, any, int_pattern}
+use Rattle.pp_tree.specs.Plain.{bool_pattern, ctor_pattern, PatternTrees, no_patterns, more_patterns, Tree, int, bool}
+use Rattle.pp_tree.specs.Plain.{name, apply, field, unary, binary, choice, matching, val_in, assert_in, Trees, no_trees}
+use Rattle.pp_tree.specs.Plain.{more_trees, CaseTrees, no_cases, plain_case, guarded_case, ParamTree, ClassTree}
+use Rattle.pp_tree.specs.Plain.{PostTree, DefTree, DeclTree, root, ctor, other, def, UnitTree}
 
 abbrev mutual
   pub type_height : TypeTree → ℕ

@@ -1,6 +1,10 @@
 -- What holds of each offset of a tree. Source: own.
 use Rattle.std.specs.Prelude.{ℕ, List, [], ◌∷◌, Option, Some, None}
-use Rattle.pp_tree.specs.Plain.{TypeTree, type_text, TypeTrees, no_types, more_types, PatternTree, any, int_pattern, bool_pattern, ctor_pattern, PatternTrees, no_patterns, more_patterns, Tree, int, bool, name, apply, field, unary, binary, choice, matching, val_in, assert_in, Trees, no_trees, more_trees, CaseTrees, no_cases, plain_case, guarded_case, ParamTree, ClassTree, PostTree, DefTree, DeclTree, root, ctor, other, def, ImportTree, UnitTree}
+use Rattle.pp_tree.specs.Plain.{TypeTree, type_text, TypeTrees, no_types, more_types, PatternTree, any, int_pattern}
+use Rattle.pp_tree.specs.Plain.{bool_pattern, ctor_pattern, PatternTrees, no_patterns, more_patterns, Tree, int, bool}
+use Rattle.pp_tree.specs.Plain.{name, apply, field, unary, binary, choice, matching, val_in, assert_in, Trees, no_trees}
+use Rattle.pp_tree.specs.Plain.{more_trees, CaseTrees, no_cases, plain_case, guarded_case, ParamTree, ClassTree}
+use Rattle.pp_tree.specs.Plain.{PostTree, DefTree, DeclTree, root, ctor, other, def, ImportTree, UnitTree}
 
 module _ (P : ℕ → Type 0) where
   abbrev mutual

@@ -1,5 +1,5 @@
--- Trees as plain values, without pointers. A name is the list of its bytes, and `at` an offset in bytes. Each form stands
--- beside the form of the arena that has its name. Source: own.
+-- Trees as plain values, without pointers. A name is the list of its bytes, and `at` an offset in bytes. Each form
+-- stands beside the form of the arena that has its name. Source: own.
 use Rattle.std.specs.Prelude.{ℕ, ℤ, Bool, List, Option}
 use Rattle.pp_tree.specs.declared.operator.BinaryOp.{BinaryOp}
 use Rattle.pp_tree.specs.declared.operator.UnaryOp.{UnaryOp}

@@ -1,7 +1,10 @@
--- The roots of a unit: the trees of expressions and written types that stand in no other, with their places and heights.
+-- The roots of a unit: the trees of expressions and written types that stand in no other, with their places and
+-- heights.
 -- Source: own.
 use Rattle.std.specs.Prelude.{ℕ, nat_lt, cond, List, [], ◌∷◌, ◌++◌, map, flat_map, Option, Some, None}
-use Rattle.pp_tree.specs.Plain.{TypeTree, type_text, Tree, int, bool, name, apply, field, unary, binary, choice, matching, val_in, assert_in, ParamTree, ClassTree, PostTree, DefTree, DeclTree, root, ctor, other, def, UnitTree}
+use Rattle.pp_tree.specs.Plain.{TypeTree, type_text, Tree, int, bool, name, apply, field, unary, binary, choice}
+use Rattle.pp_tree.specs.Plain.{matching, val_in, assert_in, ParamTree, ClassTree, PostTree, DefTree, DeclTree, root}
+use Rattle.pp_tree.specs.Plain.{ctor, other, def, UnitTree}
 use Rattle.pp_tree.specs.Height.{height, type_height}
 
 -- the place of a tree

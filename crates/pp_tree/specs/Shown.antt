@@ -18,7 +18,11 @@ use Rattle.pp_tree.specs.declared.unit.DefDecl.{DefDecl}
 use Rattle.pp_tree.specs.declared.unit.Import.{Import}
 use Rattle.pp_tree.specs.declared.unit.Post.{Post}
 use Rattle.pp_tree.specs.declared.unit.Unit as unit_type
-use Rattle.pp_tree.specs.Plain.{Word, TypeTree, type_text, TypeTrees, no_types, more_types, PatternTree, any, int_pattern, bool_pattern, ctor_pattern, PatternTrees, no_patterns, more_patterns, Tree, int, bool, name, apply, field, unary, binary, choice, matching, val_in, assert_in, Trees, no_trees, more_trees, CaseTrees, no_cases, plain_case, guarded_case, ParamTree, ClassTree, PostTree, DefTree, DeclTree, root, ctor, other, def, ImportTree, UnitTree}
+use Rattle.pp_tree.specs.Plain.{Word, TypeTree, type_text, TypeTrees, no_types, more_types, PatternTree, any}
+use Rattle.pp_tree.specs.Plain.{int_pattern, bool_pattern, ctor_pattern, PatternTrees, no_patterns, more_patterns, Tree}
+use Rattle.pp_tree.specs.Plain.{int, bool, name, apply, field, unary, binary, choice, matching, val_in, assert_in}
+use Rattle.pp_tree.specs.Plain.{Trees, no_trees, more_trees, CaseTrees, no_cases, plain_case, guarded_case, ParamTree}
+use Rattle.pp_tree.specs.Plain.{ClassTree, PostTree, DefTree, DeclTree, root, ctor, other, def, ImportTree, UnitTree}
 
 -- a list of types, of patterns, of expressions, of cases
 abbrev pub type_trees : List TypeTree → TypeTrees

@@ -9,7 +9,8 @@ pub struct Pattern<'a> {
     pub kind: PatternKind<'a>,
 }
 
-/// What a pattern is, but for the name that it binds. A constructor's name without parentheses is `Ctor` without fields.
+/// What a pattern is, but for the name that it binds. A constructor's name without parentheses is `Ctor` without
+/// fields.
 #[cycle(pattern)]
 #[derive(Clone, Copy)]
 pub enum PatternKind<'a> {

@@ -2,7 +2,8 @@
 
 use crate::{ClassDecl, Expr, Param, TypeText};
 
-/// A postcondition: the offset of its word, the name of the result, the type that is written for it, and what it claims.
+/// A postcondition: the offset of its word, the name of the result, the type that is written for it, and what it
+/// claims.
 /// `holds` claims the result itself, under the name `res`.
 #[derive(Clone, Copy)]
 pub struct Post<'a> {
@@ -28,8 +29,8 @@ pub struct DefDecl<'a> {
     pub post: Option<Post<'a>>,
 }
 
-/// A declaration. A root is sealed, without the word `case`, without fields and without a parent; a constructor is a case
-/// class or a case object; any other class or trait is `Other`.
+/// A declaration. A root is sealed, without the word `case`, without fields and without a parent; a constructor is a
+/// case class or a case object; any other class or trait is `Other`.
 #[derive(Clone, Copy)]
 pub enum Decl<'a> {
     Root(ClassDecl<'a>),

@@ -1,6 +1,7 @@
 -- Which typed expressions and patterns have the sorts that they carry. Source: Scala Language Specification 6, 8.1 and
 -- 12.2; the rest is own.
-use Rattle.std.specs.Prelude.{◌≡◌, ◌^◌, ℕ, ℤ, pos, neg_ℤ, int_le, int_lt, nat_eq, Bool, true, false, ◌&&◌, List, [], ◌∷◌, ◌++◌, Option, Some, None, map, filter, length, slice_get, IsTrue}
+use Rattle.std.specs.Prelude.{◌≡◌, ◌^◌, ℕ, ℤ, pos, neg_ℤ, int_le, int_lt, nat_eq, Bool, true, false, ◌&&◌, List, []}
+use Rattle.std.specs.Prelude.{◌∷◌, ◌++◌, Option, Some, None, map, filter, length, slice_get, IsTrue}
 use Rattle.pp_tree.specs.declared.operator.BinaryOp.{BinaryOp}
 use Rattle.pp_tree.specs.declared.operator.UnaryOp.{UnaryOp}
 use Rattle.pp_typed.specs.InRange.{AreInRange}
@@ -45,20 +46,23 @@ module _ (typed : Typed) where
     -- a pattern of values of a sort binds values of these sorts: the outer before the inner, from left to right
     pub data Binds : GenericSort → TypedPattern → List GenericSort → Type 0 where
       binds_any : {s : GenericSort} {p : TypedPattern} → p.kind ≡ pattern.Any → Binds s p (own_value p.binds s)
-      binds_int : {s : GenericSort} {p : TypedPattern} (n : ℤ) → p.kind ≡ pattern.Int n → s ≡ sort.Int → IsTrue (is_int n)
+      binds_int : {s : GenericSort} {p : TypedPattern} (n : ℤ) → p.kind ≡ pattern.Int n → s ≡ sort.Int
+          → IsTrue (is_int n)
           → Binds s p (own_value p.binds s)
       binds_bool : {s : GenericSort} {p : TypedPattern} (b : Bool) → p.kind ≡ pattern.Bool b → s ≡ sort.Bool
           → Binds s p (own_value p.binds s)
       binds_ctor : {s : GenericSort} {p : TypedPattern} {inner : List GenericSort} (c : ℕ) (k : TypedCtor)
           (args : List GenericSort) (parts : List TypedPattern) → p.kind ≡ pattern.Ctor c parts
-          → slice_get typed.ctors c ≡ Some k → s ≡ sort.Root k.root args → BindEach (map (put args) k.fields) parts inner
+          → slice_get typed.ctors c ≡ Some k → s ≡ sort.Root k.root args
+          → BindEach (map (put args) k.fields) parts inner
           → Binds s p (own_value p.binds s ++ inner)
 
     -- a pattern for each sort, and none is left over
     pub data BindEach : List GenericSort → List TypedPattern → List GenericSort → Type 0 where
       bind_none : BindEach [] [] []
       bind_more : {s : GenericSort} {ss : List GenericSort} {p : TypedPattern} {ps : List TypedPattern}
-          {here more : List GenericSort} → Binds s p here → BindEach ss ps more → BindEach (s ∷ ss) (p ∷ ps) (here ++ more)
+          {here more : List GenericSort} → Binds s p here → BindEach ss ps more
+          → BindEach (s ∷ ss) (p ∷ ps) (here ++ more)
 
   -- in a declaration with so many type parameters
   module _ (params : ℕ) where
@@ -74,15 +78,18 @@ module _ (typed : Typed) where
         sorted_call : {scope : List GenericSort} {e : TypedExpr} (f : ℕ) (d : TypedDef) (sorts : List GenericSort)
             (args : List TypedExpr) → e.kind ≡ kind.Call f sorts args → slice_get typed.defs f ≡ Some d
             → length sorts ≡ d.type_params → AreInRange typed.roots params sorts
-            → AreSorted scope (map (put sorts) (param_sorts d.params)) args → e.of ≡ put sorts d.result → IsSorted scope e
+            → AreSorted scope (map (put sorts) (param_sorts d.params)) args → e.of ≡ put sorts d.result
+            → IsSorted scope e
         sorted_construct : {scope : List GenericSort} {e : TypedExpr} (c : ℕ) (k : TypedCtor) (root : TypedRoot)
             (sorts : List GenericSort) (args : List TypedExpr) → e.kind ≡ kind.Construct c sorts args
             → slice_get typed.ctors c ≡ Some k → slice_get typed.roots k.root ≡ Some root
             → length sorts ≡ root.type_params → AreInRange typed.roots params sorts
             → AreSorted scope (map (put sorts) k.fields) args → e.of ≡ sort.Root k.root sorts → IsSorted scope e
-        sorted_field : {scope : List GenericSort} {e base : TypedExpr} (j : ℕ) (k : TypedCtor) (sorts : List GenericSort)
+        sorted_field : {scope : List GenericSort} {e base : TypedExpr} (j : ℕ) (k : TypedCtor)
+            (sorts : List GenericSort)
             (s : GenericSort) → e.kind ≡ kind.Field base j → IsSorted scope base → base.of ≡ sort.Root k.root sorts
-            → ctors_of typed.ctors k.root ≡ k ∷ [] → slice_get k.fields j ≡ Some s → e.of ≡ put sorts s → IsSorted scope e
+            → ctors_of typed.ctors k.root ≡ k ∷ [] → slice_get k.fields j ≡ Some s → e.of ≡ put sorts s
+            → IsSorted scope e
         sorted_unary : {scope : List GenericSort} {e a : TypedExpr} (op : UnaryOp) → e.kind ≡ kind.Unary op a
             → IsSorted scope a → a.of ≡ unary_sort op → e.of ≡ unary_sort op → IsSorted scope e
         sorted_binary : {scope : List GenericSort} {e a b : TypedExpr} (op : BinaryOp) → e.kind ≡ kind.Binary op a b
@@ -102,7 +109,8 @@ module _ (typed : Typed) where
       pub data AreSorted : List GenericSort → List GenericSort → List TypedExpr → Type 0 where
         none_sorted : {scope : List GenericSort} → AreSorted scope [] []
         more_sorted : {scope : List GenericSort} {s : GenericSort} {ss : List GenericSort} {e : TypedExpr}
-            {es : List TypedExpr} → IsSorted scope e → e.of ≡ s → AreSorted scope ss es → AreSorted scope (s ∷ ss) (e ∷ es)
+            {es : List TypedExpr} → IsSorted scope e → e.of ≡ s → AreSorted scope ss es
+            → AreSorted scope (s ∷ ss) (e ∷ es)
 
       -- a guard, where one is written, is Boolean
       pub data IsSortedGuard : List GenericSort → Option TypedExpr → Type 0 where

@@ -13,7 +13,8 @@ module _ (roots : List TypedRoot) (ctors : List TypedCtor) where
       an_int : {s : GenericSort} → s ≡ sort.Int → HasValue s
       a_truth : {s : GenericSort} → s ≡ sort.Bool → HasValue s
       a_param : {s : GenericSort} (i : ℕ) → s ≡ sort.Param i → HasValue s
-      a_tree : {s : GenericSort} (c : TypedCtor) (root : TypedRoot) (args : List GenericSort) → s ≡ sort.Root c.root args
+      a_tree : {s : GenericSort} (c : TypedCtor) (root : TypedRoot) (args : List GenericSort)
+          → s ≡ sort.Root c.root args
           → Contains ctors c → slice_get roots c.root ≡ Some root → length args ≡ root.type_params
           → HaveValues (map (put args) c.fields) → HasValue s
 

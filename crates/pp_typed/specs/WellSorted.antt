@@ -1,6 +1,7 @@
 -- Which typed units are well sorted: each number is in range, each expression and each pattern has the sort that it
 -- carries, each root has a value, and names tell roots and functions apart. Source: own.
-use Rattle.std.specs.Prelude.{◌≡◌, ◌≢◌, ◌<◌, ◌≤◌, ℕ, List, [], ◌∷◌, ◌++◌, Option, Some, None, All, Contains, length, slice_get}
+use Rattle.std.specs.Prelude.{◌≡◌, ◌≢◌, ◌<◌, ◌≤◌, ℕ, List, [], ◌∷◌, ◌++◌, Option, Some, None, All, Contains, length}
+use Rattle.std.specs.Prelude.{slice_get}
 use Rattle.pp_typed.specs.InRange.{IsInRange, AreInRange}
 use Rattle.pp_typed.specs.Sorted.{IsSorted, ctors_of, param_sorts}
 use Rattle.pp_typed.specs.Value.{IsInhabited}
@@ -35,8 +36,8 @@ abbrev pub boolean_name : List ℕ
 boolean_name = 66 ∷ 111 ∷ 111 ∷ 108 ∷ 101 ∷ 97 ∷ 110 ∷ []
 
 module _ (typed : Typed) where
-  -- the root at a place has from 1 to 64 constructors, at most four type parameters, a value, and a name that isn't that of
-  -- another type
+  -- the root at a place has from 1 to 64 constructors, at most four type parameters, a value, and a name that isn't
+  -- that of another type
   pub record IsRoot (r : ℕ) (root : TypedRoot) : Type 0 where
     pub few_ctors : length (ctors_of typed.ctors r) ≤ most_ctors
     pub few_params : root.type_params ≤ most_type_params
@@ -76,10 +77,12 @@ module _ (typed : Typed) where
 
 -- no two roots have one name, and no two functions have
 abbrev pub RootsDiffer : List TypedRoot → Type 0
-RootsDiffer roots = (i j : ℕ) (a b : TypedRoot) → slice_get roots i ≡ Some a → slice_get roots j ≡ Some b → a.name ≡ b.name → i ≡ j
+RootsDiffer roots = (i j : ℕ) (a b : TypedRoot) → slice_get roots i ≡ Some a → slice_get roots j ≡ Some b
+    → a.name ≡ b.name → i ≡ j
 
 abbrev pub DefsDiffer : List TypedDef → Type 0
-DefsDiffer defs = (i j : ℕ) (a b : TypedDef) → slice_get defs i ≡ Some a → slice_get defs j ≡ Some b → a.name ≡ b.name → i ≡ j
+DefsDiffer defs = (i j : ℕ) (a b : TypedDef) → slice_get defs i ≡ Some a → slice_get defs j ≡ Some b → a.name ≡ b.name
+    → i ≡ j
 
 -- the typed units are well sorted
 pub record IsWellSorted (typed : Typed) : Type 0 where

@@ -4,8 +4,8 @@ use crate::{GenericSort, GenericSorts, TypedCtors, TypedRoots};
 use pp_list::Items;
 use pp_text::Name;
 
-/// A function as its callers see it: its name, the number of its type parameters, the sorts of its parameters, whether a
-/// parameter list is written, and the sort of its result.
+/// A function as its callers see it: its name, the number of its type parameters, the sorts of its parameters, whether
+/// a parameter list is written, and the sort of its result.
 #[derive(Drop)]
 pub struct Signature {
     pub name: Name,

@@ -25,7 +25,8 @@ abbrev pub Layer : Type 0
 Layer = layer.TypedKind-F TypedKind TypedCase TypedExpr
 
 module _ (typed : Typed) (params : ℕ) where
-  pub record IsCall (scope : List GenericSort) (of : GenericSort) (f : ℕ) (sorts : List GenericSort) (args : List TypedExpr) : Type 0 where
+  pub record IsCall (scope : List GenericSort) (of : GenericSort) (f : ℕ) (sorts : List GenericSort)
+      (args : List TypedExpr) : Type 0 where
     pub d : TypedDef
     pub declared : slice_get typed.defs f ≡ Some d
     pub all : length sorts ≡ d.type_params
@@ -33,7 +34,8 @@ module _ (typed : Typed) (params : ℕ) where
     pub args_sorted : AreSorted typed params scope (map (put sorts) (param_sorts d.params)) args
     pub result : of ≡ put sorts d.result
 
-  pub record IsConstruct (scope : List GenericSort) (of : GenericSort) (c : ℕ) (sorts : List GenericSort) (args : List TypedExpr) : Type 0 where
+  pub record IsConstruct (scope : List GenericSort) (of : GenericSort) (c : ℕ) (sorts : List GenericSort)
+      (args : List TypedExpr) : Type 0 where
     pub k : TypedCtor
     pub root : TypedRoot
     pub declared : slice_get typed.ctors c ≡ Some k
@@ -67,12 +69,13 @@ module _ (typed : Typed) (params : ℕ) where
     pub right : IsSorted typed params scope b
     pub right_is : b.of ≡ of
 
-  pub record IsMatch (scope : List GenericSort) (of : GenericSort) (m : TypedExpr) (cases : List TypedCase) : Type 0 where
-    pub first : TypedCase
-    pub rest : List TypedCase
-    pub some : cases ≡ first ∷ rest
-    pub matched : IsSorted typed params scope m
-    pub cases_sorted : AreSortedCases typed params scope m.of of cases
+  pub record IsMatch (scope : List GenericSort) (of : GenericSort) (m : TypedExpr) (cases : List TypedCase) : Type 0
+    where
+      pub first : TypedCase
+      pub rest : List TypedCase
+      pub some : cases ≡ first ∷ rest
+      pub matched : IsSorted typed params scope m
+      pub cases_sorted : AreSortedCases typed params scope m.of of cases
 
   pub record IsVal (scope : List GenericSort) (of : GenericSort) (bound rest : TypedExpr) : Type 0 where
     pub bound_sorted : IsSorted typed params scope bound

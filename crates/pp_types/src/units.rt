@@ -17,9 +17,9 @@ use pp_typed::{Declared, Typed};
 use pp_well_sorted::WellSorted;
 use std::alloc::Global;
 
-/// Types the units of all sources, which are numbered from 1, and answers their typing, which is well sorted. It refuses
-/// units that have none, with a fault that stands in them; where there are several, any of them may be told. The answer
-/// owns all that it holds.
+/// Types the units of all sources, which are numbered from 1, and answers their typing, which is well sorted. It
+/// refuses units that have none, with a fault that stands in them; where there are several, any of them may be told.
+/// The answer owns all that it holds.
 pub fn check(alloc: Global, units: &[Unit]) -> Result<WellSorted, TypeFault>
     requires { length units.now < 2 ^ 32 }
     ensures typing { IfOk result (HasTyping (units_of units.now)) }

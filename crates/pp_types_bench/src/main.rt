@@ -1,5 +1,5 @@
-//! How fast sources are typed: `pp_types_bench parse|check PATH..` reads the files, parses them, and types their units where
-//! that is asked. It prints how many functions they have, or why not.
+//! How fast sources are typed: `pp_types_bench parse|check PATH..` reads the files, parses them, and types their units
+//! where that is asked. It prints how many functions they have, or why not.
 #![tactic(auto)]
 
 use bumpalo::Bump;

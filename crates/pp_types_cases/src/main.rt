@@ -1,8 +1,8 @@
-//! Tries the typing of sources, a case a line of standard input, and prints an answer a line. What the answers must be was
-//! worked out apart from the program: `stdout` has it.
+//! Tries the typing of sources, a case a line of standard input, and prints an answer a line. What the answers must be
+//! was worked out apart from the program: `stdout` has it.
 //!
-//! In a line `\n` stands for a line feed, and `\s` stands between sources. The answer is `typed`, or the fault with its name,
-//! the number of its source and its offset; `no unit` where a source spells none.
+//! In a line `\n` stands for a line feed, and `\s` stands between sources. The answer is `typed`, or the fault with its
+//! name, the number of its source and its offset; `no unit` where a source spells none.
 #![tactic(auto)]
 
 use anyhow::Result;

@@ -8,8 +8,9 @@ use Rattle.std.proofs.lemmas.Option.{slice_get-get_or}
 use Rattle.std.proofs.lemmas.Slice.Eq.{bytes_eq-Decides}
 use Rattle.std.specs.List.{list_any}
 use Rattle.std.specs.Str.{bytes_eq}
-use Rattle.pp_declared.specs.WellFormed.{AreNewAfter, is_barred, is_mark, is_taken, reserved}
+use Rattle.pp_declared.specs.WellFormed.{AreNewAfter, is_barred, is_mark, is_taken}
 use Rattle.pp_names.specs.Places.{Word, has, place_of}
+use Rattle.pp_names.specs.Reserved.{is_reserved}
 use Rattle.pp_typed.specs.WellSorted.{IsPlain}
 use Rattle.pp_types_laws.proofs.Ranges.{same_some}
 
@@ -70,11 +71,11 @@ can_be_declared ws h i w e = (either_false (is_barred w) (has w []) (name_is_new
 
 -- none of them is a word that can't be declared
 pub not_reserved : (ws : List Word) → AreNewAfter [] ws → (i : ℕ) (w v : Word) → slice_get ws i ≡ Some w
-    → has v reserved ≡ true
+    → is_reserved v ≡ true
     → w ≡ v → ⊥
 not_reserved ws h i w v e r is =
-    let p = either_false (has w reserved) (list_any is_mark w) (can_be_declared ws h i w e) in
-    let q : true ≡ false = sym (ap (λ x. has x reserved) is ∙ r) ∙ p.0 in cc
+    let p = either_false (is_reserved w) (list_any is_mark w) (can_be_declared ws h i w e) in
+    let q : true ≡ false = sym (ap is_reserved is ∙ r) ∙ p.0 in cc
 
 differs_from : (b n : ℕ) → nat_eq b n ≡ false → b ≢ n
 differs_from b n h = eqb-false b n h
@@ -98,7 +99,7 @@ none_marks w h b has = by (is_mark b) refl
 -- each of them is plain
 pub names_plain : (ws : List Word) → AreNewAfter [] ws → (i : ℕ) (w : Word) → slice_get ws i ≡ Some w → IsPlain w
 names_plain ws h i w e b here =
-    let p = either_false (has w reserved) (list_any is_mark w) (can_be_declared ws h i w e) in
+    let p = either_false (is_reserved w) (list_any is_mark w) (can_be_declared ws h i w e) in
     no_mark b (none_marks w p.1 b here)
 
 -- the name at the place that was found

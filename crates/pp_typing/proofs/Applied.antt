@@ -1,5 +1,6 @@
 -- The application of a name that is found, and its arguments one at a time.
-use Rattle.std.proofs.Common.{◌≡◌, ◌∙◌, ℕ, List, [], ◌∷◌, ◌++◌, ◌+◌, ◌<◌, drop, get_or, length, map, Ok, Err, Result, Option, Some, None, option_map, refl, sym, ap, subst, nat_eq, eq-eqb}
+use Rattle.std.proofs.Common.{◌≡◌, ◌∙◌, ℕ, List, [], ◌∷◌, ◌++◌, ◌+◌, ◌<◌, drop, get_or, length, map, Ok, Err, Result}
+use Rattle.std.proofs.Common.{Option, Some, None, option_map, refl, sym, ap, subst, nat_eq, eq-eqb}
 use Rattle.std.proofs.lemmas.List.{get_or_default}
 use Rattle.pp_fault.specs.declared.Halt.{Halt}
 use Rattle.pp_fault.specs.declared.Halt.TheVariants.{Memory, Broken}

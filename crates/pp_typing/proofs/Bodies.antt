@@ -1,5 +1,6 @@
 -- The conditions and the measure of a function, one at a time.
-use Rattle.std.proofs.Common.{◌≡◌, ◌∙◌, ℕ, ◌+◌, ◌<◌, List, [], ◌∷◌, ◌++◌, length, map, drop, get_or, Ok, Err, Result, refl, sym, ap, subst}
+use Rattle.std.proofs.Common.{◌≡◌, ◌∙◌, ℕ, ◌+◌, ◌<◌, List, [], ◌∷◌, ◌++◌, length, map, drop, get_or, Ok, Err, Result}
+use Rattle.std.proofs.Common.{refl, sym, ap, subst}
 use Rattle.std.proofs.lemmas.List.{get_or_default}
 use Rattle.pp_fault.specs.declared.Halt.{Halt}
 use Rattle.pp_fault.specs.Part.{Part, Tells, and_then}

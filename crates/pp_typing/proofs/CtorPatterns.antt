@@ -1,5 +1,6 @@
 -- The pattern of a constructor that is found, at type arguments that are known.
-use Rattle.std.proofs.Common.{◌≡◌, ◌∙◌, ℕ, List, [], length, map, Ok, Err, Result, Option, Some, Bool, true, false, refl, sym, ap, subst, nat_eq, eq-eqb}
+use Rattle.std.proofs.Common.{◌≡◌, ◌∙◌, ℕ, List, [], length, map, Ok, Err, Result, Option, Some, Bool, true, false}
+use Rattle.std.proofs.Common.{refl, sym, ap, subst, nat_eq, eq-eqb}
 use Rattle.std.specs.Prelude.{slice_get}
 use Rattle.pp_fault.specs.declared.Fault.{Fault}
 use Rattle.pp_fault.specs.declared.Halt.{Halt}
@@ -10,7 +11,8 @@ use Rattle.pp_fault.specs.Part.{Part, Tells, and_then}
 use Rattle.pp_typed.specs.Put.{put}
 use Rattle.pp_names.specs.Find.{find_ctor}
 use Rattle.pp_names.specs.Places.{Word}
-use Rattle.pp_rules.specs.Elab.{AllBound, Bound, arguments, bind, count_patterns, ctor_bound, ctor_found, elab_pattern, elab_patterns, flaw, unless, with_ctor}
+use Rattle.pp_rules.specs.Elab.{AllBound, Bound, arguments, bind, count_patterns, ctor_bound, ctor_found, elab_pattern}
+use Rattle.pp_rules.specs.Elab.{elab_patterns, flaw, unless, with_ctor}
 use Rattle.pp_rules.specs.Scope.{Env, Scope}
 use Rattle.pp_tree.specs.declared.pattern.Pattern.{Pattern}
 use Rattle.pp_tree.specs.Plain.{ctor_pattern}

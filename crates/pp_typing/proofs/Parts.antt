@@ -1,9 +1,11 @@
 -- Lists of arguments and of patterns, one element at a time.
-use Rattle.std.proofs.Common.{◌≡◌, ◌∙◌, ℕ, suc, ◌+◌, ◌<◌, ◌≤◌, List, [], ◌∷◌, ◌++◌, length, map, drop, get_or, Ok, Err, Result, refl, sym, ap, arith}
+use Rattle.std.proofs.Common.{◌≡◌, ◌∙◌, ℕ, suc, ◌+◌, ◌<◌, ◌≤◌, List, [], ◌∷◌, ◌++◌, length, map, drop, get_or, Ok, Err}
+use Rattle.std.proofs.Common.{Result, refl, sym, ap, arith}
 use Rattle.pp_fault.specs.declared.Halt.{Halt}
 use Rattle.pp_fault.specs.Part.{Part, and_then}
 use Rattle.pp_generic.specs.Expected.{Found, expect}
-use Rattle.pp_rules.specs.Elab.{AllBound, Bound, Taken, count, count_patterns, name_at, taken, elab_pattern, elab_patterns}
+use Rattle.pp_rules.specs.Elab.{AllBound, Bound, Taken, count, count_patterns, name_at, taken, elab_pattern}
+use Rattle.pp_rules.specs.Elab.{elab_patterns}
 use Rattle.pp_rules.specs.Scope.{Env, Scope}
 use Rattle.pp_tree.specs.declared.expr.Expr.{Expr, size-Expr}
 use Rattle.pp_tree.specs.declared.pattern.Pattern.{Pattern, size-Pattern}

@@ -1,5 +1,6 @@
 -- What calls that may be out of memory tell, along equations.
-use Rattle.std.proofs.Common.{◌≡◌, ◌∙◌, ℕ, suc, List, [], ◌∷◌, length, map, Ok, Err, Result, Option, Some, None, Bool, true, false, refl, sym, ap, subst, nat_eq, eq-eqb, ◌==◌}
+use Rattle.std.proofs.Common.{◌≡◌, ◌∙◌, ℕ, suc, List, [], ◌∷◌, length, map, Ok, Err, Result, Option, Some, None, Bool}
+use Rattle.std.proofs.Common.{true, false, refl, sym, ap, subst, nat_eq, eq-eqb, ◌==◌}
 use Rattle.std.proofs.lemmas.Bool.{eqb-true}
 use Rattle.pp_fault.specs.declared.Halt.{Halt}
 use Rattle.pp_fault.specs.declared.Halt.TheVariants.{Memory, Broken}
@@ -10,7 +11,8 @@ use Rattle.pp_generic.specs.Expected.{Found, every}
 use Rattle.pp_typed.specs.Put.{put}
 use Rattle.pp_names.specs.Places.{Word}
 use Rattle.pp_rules.specs.declared.callee.Callee.{Callee}
-use Rattle.pp_rules.specs.Elab.{agreed, field_of_ctor, field_placed, field_typed, finished, flaw, inferred, selected, started, typed, unless}
+use Rattle.pp_rules.specs.Elab.{agreed, field_of_ctor, field_placed, field_typed, finished, flaw, inferred, selected}
+use Rattle.pp_rules.specs.Elab.{started, typed, unless}
 use Rattle.pp_rules.specs.Scope.{Env}
 use Rattle.pp_rules.specs.Shapes.{application, field_place, field_sort, only_ctor}
 use Rattle.pp_rules.specs.Written.{written_from}

@@ -10,12 +10,12 @@ ghost use Rattle.pp_typing.specs.Views.{body_typing, def_typing, env_of, part_ty
 use crate::checks::{flaw, written};
 use crate::expr::{condition, expr, part};
 use crate::params::{locals, typed_def};
-use crate::scope::{depth, is_reserved};
+use crate::scope::depth;
 use crate::{Context, Local};
 use pp_fault::{Halt, Rule};
 use pp_generic::{are_same, copy, exact};
 use pp_list::Items;
-use pp_names::Names;
+use pp_names::{Names, is_reserved};
 use pp_tree::{DefDecl, Expr, Post, TypeText};
 use pp_typed::{GenericSort, Signature, TypedDef, TypedExpr, TypedExprs, TypedPost};
 use std::alloc::Global;

@@ -6,7 +6,8 @@ ghost use Rattle.pp_generic.specs.declared.expected.Expected.TheVariants as expe
 ghost use Rattle.pp_tree.specs.Plain.{apply, binary, choice, matching, val_in};
 ghost use Rattle.pp_tree.specs.Shown.{case_of, case_trees, pattern_of, tree_of, trees, type_of, type_trees};
 ghost use Rattle.pp_rules.specs.Elab.{condition, elab_arm, name_at};
-ghost use Rattle.pp_typing.specs.Views.{TellsBoth, arg_typing, args_typing, arm_typing, cases_typing, env_of, part_typing, scope_of, typing};
+ghost use Rattle.pp_typing.specs.Views.{TellsBoth, arg_typing, args_typing, arm_typing, cases_typing, env_of};
+ghost use Rattle.pp_typing.specs.Views.{part_typing, scope_of, typing};
 
 use crate::apply::{finished, started, taken};
 use crate::arms::{alike, matched, truncate};

@@ -2,7 +2,9 @@
 
 ghost use Rattle.std.specs.Prelude.{◌≡◌, IfOk, option_copied};
 ghost use Rattle.pp_names.specs.Places.{place_of};
-ghost use Rattle.pp_rules.specs.Shapes.{application, applied_by, bare_function, case_object, ctor_at, field_place, field_sort, function_at, is_bare_function, is_object, named_by, only_ctor, own_params, the_only};
+ghost use Rattle.pp_rules.specs.Shapes.{application, applied_by, bare_function, case_object, ctor_at, field_place};
+ghost use Rattle.pp_rules.specs.Shapes.{field_sort, function_at, is_bare_function, is_object, named_by, only_ctor};
+ghost use Rattle.pp_rules.specs.Shapes.{own_params, the_only};
 
 use pp_generic::{NoMemory, copies, copy};
 use pp_list::{Items, at};

@@ -2,9 +2,10 @@
 
 ghost use Rattle.std.specs.Prelude.{◌≡◌, ◌≤◌, length, drop};
 ghost use Rattle.std.specs.Str.{bytes_eq};
-ghost use Rattle.pp_rules.specs.Scope.{clashes, has_name, is_reserved, place};
+ghost use Rattle.pp_rules.specs.Scope.{clashes, has_name, place};
 ghost use Rattle.pp_typing.specs.Views.{scope_of};
 
+use pp_names::is_reserved;
 use pp_typed::GenericSort;
 
 /// A value in scope: its name and its sort.
@@ -62,19 +63,6 @@ pub(crate) fn clashes(scope: &[Local], from: usize, name: &str) -> bool
     ensures { result ≡ clashes name.now from (scope_of scope.now) }
 {
     is_reserved(name) || reaches(scope, from, name)
-}
-
-/// Whether the word can't be declared.
-pub(crate) fn is_reserved(name: &str) -> bool
-    ensures { result ≡ is_reserved name.now }
-{
-    same_text(name, "require")
-        || same_text(name, "ensuring")
-        || same_text(name, "holds")
-        || same_text(name, "decreases")
-        || same_text(name, "assert")
-        || same_text(name, "Int")
-        || same_text(name, "Boolean")
 }
 
 fn same_text(a: &str, b: &str) -> bool

@@ -1,5 +1,6 @@
 -- What it tells that a step of the computation gives a fault.
-use Rattle.std.proofs.Common.{◌≡◌, ◌∙◌, ℕ, List, Ok, Err, Option, Some, None, Bool, true, false, refl, sym, ap, nat_eq, eq-eqb}
+use Rattle.std.proofs.Common.{◌≡◌, ◌∙◌, ℕ, List, Ok, Err, Option, Some, None, Bool, true, false, refl, sym, ap, nat_eq}
+use Rattle.std.proofs.Common.{eq-eqb}
 use Rattle.std.specs.Prelude.{◌≢◌, if◌then◌else◌}
 use Rattle.pp_fault.specs.declared.Fault.{Fault}
 use Rattle.pp_fault.specs.declared.Rule.{Rule}

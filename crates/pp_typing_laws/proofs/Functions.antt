@@ -1,5 +1,6 @@
 -- A function is given a typing exactly where the rules give it that one.
-use Rattle.std.proofs.Common.{◌≡◌, ◌∙◌, ℕ, List, [], ◌∷◌, ◌++◌, Ok, Option, Some, None, Bool, true, false, refl, sym, ap, subst, length, append_assoc}
+use Rattle.std.proofs.Common.{◌≡◌, ◌∙◌, ℕ, List, [], ◌∷◌, ◌++◌, Ok, Option, Some, None, Bool, true, false, refl, sym}
+use Rattle.std.proofs.Common.{ap, subst, length, append_assoc}
 use Rattle.std.proofs.lemmas.List.{append-nil}
 use Rattle.pp_fault.specs.declared.Rule.TheVariants.{Mismatch}
 use Rattle.pp_fault.specs.Part.{Part, and_then}
@@ -7,9 +8,13 @@ use Rattle.pp_generic.proofs.Equal.{equal_same}
 use Rattle.pp_generic.specs.declared.expected.Expected.TheVariants.{Open}
 use Rattle.pp_generic.specs.Equal.{equal}
 use Rattle.pp_generic.specs.Expected.{exact}
-use Rattle.pp_rules.specs.Bodies.{TypesConditions, no_condition, one_condition, TypesDef, a_def, TypesMeasure, no_component, one_component, TypesPost, no_post, a_post, WritesResult, writes_nothing, writes_it, claimed, def_scope, elab_conditions, elab_def, elab_measure, elab_post, env_of_def, post_written, same_written, typed_def}
+use Rattle.pp_names.specs.Reserved.{is_reserved}
+use Rattle.pp_rules.specs.Bodies.{TypesConditions, no_condition, one_condition, TypesDef, a_def, TypesMeasure}
+use Rattle.pp_rules.specs.Bodies.{no_component, one_component, TypesPost, no_post, a_post, WritesResult, writes_nothing}
+use Rattle.pp_rules.specs.Bodies.{writes_it, claimed, def_scope, elab_conditions, elab_def, elab_measure, elab_post}
+use Rattle.pp_rules.specs.Bodies.{env_of_def, post_written, same_written, typed_def}
 use Rattle.pp_rules.specs.Elab.{condition, elab, name_at}
-use Rattle.pp_rules.specs.Scope.{Env, Scope, is_reserved}
+use Rattle.pp_rules.specs.Scope.{Env, Scope}
 use Rattle.pp_rules.specs.Typing.{Types}
 use Rattle.pp_rules.specs.Written.{written}
 use Rattle.pp_tree.specs.Plain.{TypeTree, type_text, Tree, PostTree, DefTree}
@@ -22,7 +27,8 @@ use Rattle.pp_typed.specs.declared.typed.TypedDef.{TypedDef}
 use Rattle.pp_typed.specs.declared.typed.TypedPost.{TypedPost}
 use Rattle.pp_typing_laws.proofs.Complete.{complete}
 use Rattle.pp_typing_laws.proofs.Sound.{sound}
-use Rattle.pp_typing_laws.proofs.Steps.{same_ok, then_ok, goes, unless_ok, unless_true, fresh_ok, fresh_false, condition_ok, condition_is, equal_of}
+use Rattle.pp_typing_laws.proofs.Steps.{same_ok, then_ok, goes, unless_ok, unless_true, fresh_ok, fresh_false}
+use Rattle.pp_typing_laws.proofs.Steps.{condition_ok, condition_is, equal_of}
 use Rattle.pp_typing_laws.proofs.WrittenSorts.{sound_written, complete_written}
 
 module _ (env : Env) where

@@ -1,5 +1,6 @@
 -- A pattern is given a typing exactly where the rules give it that one.
-use Rattle.std.proofs.Common.{◌≡◌, ◌∙◌, ℕ, suc, List, [], ◌∷◌, ◌++◌, Ok, Err, Option, Some, None, Bool, true, false, refl, sym, ap, subst, nat_eq, length, map, eq-eqb, append_assoc, ℤ}
+use Rattle.std.proofs.Common.{◌≡◌, ◌∙◌, ℕ, suc, List, [], ◌∷◌, ◌++◌, Ok, Err, Option, Some, None, Bool, true, false}
+use Rattle.std.proofs.Common.{refl, sym, ap, subst, nat_eq, length, map, eq-eqb, append_assoc, ℤ}
 use Rattle.std.specs.Prelude.{slice_get}
 use Rattle.std.proofs.lemmas.Bool.{eqb-true}
 use Rattle.std.proofs.lemmas.List.{append-nil, length-map}
@@ -9,10 +10,13 @@ use Rattle.pp_generic.proofs.Equal.{equal_same}
 use Rattle.pp_generic.specs.Equal.{equal}
 use Rattle.pp_typed.specs.Put.{put}
 use Rattle.pp_names.specs.Find.{find_ctor}
-use Rattle.pp_rules.specs.Elab.{AllBound, Bound, arguments, bind, count_patterns, ctor_bound, ctor_found, elab_pattern, elab_patterns, leaf, pattern, with_ctor}
+use Rattle.pp_rules.specs.Elab.{AllBound, Bound, arguments, bind, count_patterns, ctor_bound, ctor_found, elab_pattern}
+use Rattle.pp_rules.specs.Elab.{elab_patterns, leaf, pattern, with_ctor}
 use Rattle.pp_rules.specs.Scope.{Env, Scope, clashes}
-use Rattle.pp_rules.specs.Typing.{Binds, binds_nothing, binds_a_name, TypesPattern, a_wildcard, a_number, a_truth, a_ctor, TypesPatterns, no_pattern, one_pattern}
-use Rattle.pp_tree.specs.Plain.{Word, PatternTree, any, int_pattern, bool_pattern, ctor_pattern, PatternTrees, no_patterns, more_patterns}
+use Rattle.pp_rules.specs.Typing.{Binds, binds_nothing, binds_a_name, TypesPattern, a_wildcard, a_number, a_truth}
+use Rattle.pp_rules.specs.Typing.{a_ctor, TypesPatterns, no_pattern, one_pattern}
+use Rattle.pp_tree.specs.Plain.{Word, PatternTree, any, int_pattern, bool_pattern, ctor_pattern, PatternTrees}
+use Rattle.pp_tree.specs.Plain.{no_patterns, more_patterns}
 use Rattle.pp_typed.specs.declared.pattern.TypedPattern.{TypedPattern}
 use Rattle.pp_typed.specs.declared.pattern.TypedPatternKind.{TypedPatternKind}
 use Rattle.pp_typed.specs.declared.pattern.TypedPatternKind.TheVariants as pattern_kind

@@ -1,5 +1,6 @@
 -- What gets a typing has it by the rules.
-use Rattle.std.proofs.Common.{◌≡◌, ◌∙◌, ℕ, suc, List, [], ◌∷◌, ◌++◌, Ok, Err, Option, Some, None, Bool, true, false, refl, sym, ap, subst, nat_eq, length, map, append_assoc}
+use Rattle.std.proofs.Common.{◌≡◌, ◌∙◌, ℕ, suc, List, [], ◌∷◌, ◌++◌, Ok, Err, Option, Some, None, Bool, true, false}
+use Rattle.std.proofs.Common.{refl, sym, ap, subst, nat_eq, length, map, append_assoc}
 use Rattle.std.specs.Prelude.{slice_get}
 use Rattle.std.proofs.lemmas.Bool.{eqb-true}
 use Rattle.std.proofs.lemmas.List.{append-nil}
@@ -13,14 +14,23 @@ use Rattle.pp_generic.specs.Expected.{Found, exact, expect, every, known}
 use Rattle.pp_generic.specs.Found.{learn, none_found}
 use Rattle.pp_typed.specs.Put.{put}
 use Rattle.pp_rules.specs.declared.callee.Callee.{Callee}
-use Rattle.pp_rules.specs.Elab.{Bound, Taken, alike, applied, arm, asserted, body_sort, chosen, condition, count, elab, elab_args, elab_cases, elab_pattern, field_of_ctor, field_placed, field_typed, finished, fitted, guarded_arm, inferred, is_sort, local_at, matched, name_at, named, negated, no_args, of_sort, operated, plain_arm, selected, started, taken, typed, val_expected, valued}
+use Rattle.pp_rules.specs.Elab.{Bound, Taken, alike, applied, arm, asserted, body_sort, chosen, condition, count, elab}
+use Rattle.pp_rules.specs.Elab.{elab_args, elab_cases, elab_pattern, field_of_ctor, field_placed, field_typed, finished}
+use Rattle.pp_rules.specs.Elab.{fitted, guarded_arm, inferred, is_sort, local_at, matched, name_at, named, negated}
+use Rattle.pp_rules.specs.Elab.{no_args, of_sort, operated, plain_arm, selected, started, taken, typed, val_expected}
+use Rattle.pp_rules.specs.Elab.{valued}
 use Rattle.pp_rules.specs.Operators.{admits, gives, is_equality, right_expected, unary_sort}
 use Rattle.pp_rules.specs.Scope.{Env, Scope, clashes, place}
 use Rattle.pp_rules.specs.Shapes.{application, applied_by, field_place, field_sort, named_by, only_ctor}
-use Rattle.pp_rules.specs.Typing.{Suits, Starts, starts_expected, starts_written, Wants, wants_nothing, wants_written, TypesPattern, Types, an_int, a_bool, a_local, a_name, an_application, a_field, a_prefix, an_operation, a_choice, a_match, a_val, an_assert, Applies, applies, TypesArgs, no_arg, one_arg, TypesCases, no_case, one_case, one_guarded}
+use Rattle.pp_rules.specs.Typing.{Suits, Starts, starts_expected, starts_written, Wants, wants_nothing, wants_written}
+use Rattle.pp_rules.specs.Typing.{TypesPattern, Types, an_int, a_bool, a_local, a_name, an_application, a_field}
+use Rattle.pp_rules.specs.Typing.{a_prefix, an_operation, a_choice, a_match, a_val, an_assert, Applies, applies}
+use Rattle.pp_rules.specs.Typing.{TypesArgs, no_arg, one_arg, TypesCases, no_case, one_case, one_guarded}
 use Rattle.pp_rules.specs.Written.{IsWritten, AreWritten, written, written_from}
 use Rattle.pp_sorts.specs.IsSort.{count as count_types}
-use Rattle.pp_tree.specs.Plain.{Word, TypeTree, TypeTrees, no_types, more_types, PatternTree, Tree, int, bool, name, apply, field, unary, binary, choice, matching, val_in, assert_in, Trees, no_trees, more_trees, CaseTrees, no_cases, plain_case, guarded_case}
+use Rattle.pp_tree.specs.Plain.{Word, TypeTree, TypeTrees, no_types, more_types, PatternTree, Tree, int, bool, name}
+use Rattle.pp_tree.specs.Plain.{apply, field, unary, binary, choice, matching, val_in, assert_in, Trees, no_trees}
+use Rattle.pp_tree.specs.Plain.{more_trees, CaseTrees, no_cases, plain_case, guarded_case}
 use Rattle.pp_typed.specs.declared.expr.TypedCase.{TypedCase}
 use Rattle.pp_typed.specs.declared.expr.TypedExpr.{TypedExpr}
 use Rattle.pp_typed.specs.declared.expr.TypedKind.TheVariants as kind
@@ -31,7 +41,8 @@ use Rattle.pp_typed.specs.declared.sort.GenericSort.TheOpen as layer
 use Rattle.pp_typed.specs.declared.sort.GenericSort.TheVariants as sort
 use Rattle.pp_typed.specs.declared.sort.GenericSort.TheViews.{out-GenericSort}
 use Rattle.pp_typing_laws.proofs.Patterns.{root_of, sound_pattern}
-use Rattle.pp_typing_laws.proofs.Steps.{same_ok, then_ok, unless_ok, fresh_ok, agreed_ok, of_sort_ok, condition_ok, is_sort_some, nothing_left}
+use Rattle.pp_typing_laws.proofs.Steps.{same_ok, then_ok, unless_ok, fresh_ok, agreed_ok, of_sort_ok, condition_ok}
+use Rattle.pp_typing_laws.proofs.Steps.{is_sort_some, nothing_left}
 use Rattle.pp_typing_laws.proofs.WrittenSorts.{sound_written, sound_all_written}
 
 module _ (env : Env) where

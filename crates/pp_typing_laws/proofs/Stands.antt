@@ -1,5 +1,6 @@
 -- A fault that is computed stands there.
-use Rattle.std.proofs.Common.{◌≡◌, ◌∙◌, ℕ, suc, List, [], ◌∷◌, ◌++◌, Ok, Err, Option, Some, None, Bool, true, false, refl, sym, ap, subst, nat_eq, length, map, eq-eqb}
+use Rattle.std.proofs.Common.{◌≡◌, ◌∙◌, ℕ, suc, List, [], ◌∷◌, ◌++◌, Ok, Err, Option, Some, None, Bool, true, false}
+use Rattle.std.proofs.Common.{refl, sym, ap, subst, nat_eq, length, map, eq-eqb}
 use Rattle.std.specs.Prelude.{◌≢◌, slice_get, ℤ}
 use Rattle.std.proofs.lemmas.Bool.{eqb-true}
 use Rattle.pp_fault.specs.declared.Fault.{Fault}
@@ -13,17 +14,27 @@ use Rattle.pp_generic.specs.Found.{learn}
 use Rattle.pp_typed.specs.Put.{put}
 use Rattle.pp_names.specs.Find.{find_ctor}
 use Rattle.pp_rules.specs.declared.callee.Callee.{Callee}
-use Rattle.pp_rules.specs.Elab.{AllBound, Bound, Taken, alike, applied, arguments, arm, asserted, bind, body_sort, chosen, condition, count, count_patterns, ctor_bound, ctor_found, elab, elab_args, elab_cases, elab_pattern, elab_patterns, field_of_ctor, field_placed, field_typed, finished, guarded_arm, inferred, is_sort, leaf, local_at, matched, name_at, named, negated, no_args, of_sort, operated, pattern_name, plain_arm, selected, started, taken, typed, val_expected, valued, with_ctor}
+use Rattle.pp_rules.specs.Elab.{AllBound, Bound, Taken, alike, applied, arguments, arm, asserted, bind, body_sort}
+use Rattle.pp_rules.specs.Elab.{chosen, condition, count, count_patterns, ctor_bound, ctor_found, elab, elab_args}
+use Rattle.pp_rules.specs.Elab.{elab_cases, elab_pattern, elab_patterns, field_of_ctor, field_placed, field_typed}
+use Rattle.pp_rules.specs.Elab.{finished, guarded_arm, inferred, is_sort, leaf, local_at, matched, name_at, named}
+use Rattle.pp_rules.specs.Elab.{negated, no_args, of_sort, operated, pattern_name, plain_arm, selected, started, taken}
+use Rattle.pp_rules.specs.Elab.{typed, val_expected, valued, with_ctor}
 use Rattle.pp_rules.specs.Operators.{admits, gives, is_equality, right_expected, unary_sort}
 use Rattle.pp_rules.specs.Scope.{Env, Scope, clashes, place}
 use Rattle.pp_rules.specs.Shapes.{applied_by, field_place, field_sort, named_by, only_ctor}
-use Rattle.pp_rules.specs.Typing.{Types, an_int, a_bool, a_local, a_name, an_application, a_field, a_prefix, an_operation, a_choice, a_match, a_val, an_assert, Applies, applies, Starts, TypesArgs, no_arg, TypesCases, TypesPattern}
+use Rattle.pp_rules.specs.Typing.{Types, an_int, a_bool, a_local, a_name, an_application, a_field, a_prefix}
+use Rattle.pp_rules.specs.Typing.{an_operation, a_choice, a_match, a_val, an_assert, Applies, applies, Starts}
+use Rattle.pp_rules.specs.Typing.{TypesArgs, no_arg, TypesCases, TypesPattern}
 use Rattle.pp_rules.specs.Written.{written, written_from}
 use Rattle.pp_sorts.proofs.Broken.{stands, one_stands}
 use Rattle.pp_sorts.specs.IsSort.{count as count_types}
 use Rattle.pp_tree.specs.declared.operator.BinaryOp.{BinaryOp}
 use Rattle.pp_tree.specs.declared.operator.UnaryOp.{UnaryOp}
-use Rattle.pp_tree.specs.Plain.{Word, TypeTree, TypeTrees, no_types, more_types, PatternTree, any, int_pattern, bool_pattern, ctor_pattern, PatternTrees, no_patterns, more_patterns, Tree, int, bool, name, apply, field, unary, binary, choice, matching, val_in, assert_in, Trees, no_trees, more_trees, CaseTrees, no_cases, plain_case, guarded_case}
+use Rattle.pp_tree.specs.Plain.{Word, TypeTree, TypeTrees, no_types, more_types, PatternTree, any, int_pattern}
+use Rattle.pp_tree.specs.Plain.{bool_pattern, ctor_pattern, PatternTrees, no_patterns, more_patterns, Tree, int, bool}
+use Rattle.pp_tree.specs.Plain.{name, apply, field, unary, binary, choice, matching, val_in, assert_in, Trees, no_trees}
+use Rattle.pp_tree.specs.Plain.{more_trees, CaseTrees, no_cases, plain_case, guarded_case}
 use Rattle.pp_typed.specs.declared.expr.TypedCase.{TypedCase}
 use Rattle.pp_typed.specs.declared.expr.TypedExpr.{TypedExpr}
 use Rattle.pp_typed.specs.declared.pattern.TypedPattern.{TypedPattern}
@@ -34,11 +45,25 @@ use Rattle.pp_typed.specs.declared.sort.GenericSort.TheOpen as layer
 use Rattle.pp_typed.specs.declared.sort.GenericSort.TheVariants as sort
 use Rattle.pp_typed.specs.declared.sort.GenericSort.TheViews.{out-GenericSort}
 use Rattle.pp_typed.specs.declared.typed.TypedCtor.{TypedCtor}
-use Rattle.pp_typing_laws.proofs.Faulty.{same_err, then_err, uneven, differs, unless_err, fresh_err, agreed_err, of_sort_err}
+use Rattle.pp_typing_laws.proofs.Faulty.{same_err, then_err, uneven, differs, unless_err, fresh_err, agreed_err}
+use Rattle.pp_typing_laws.proofs.Faulty.{of_sort_err}
 use Rattle.pp_typing_laws.proofs.Patterns.{root_of, shows_root, bind_ok, arguments_ok, sound_pattern}
 use Rattle.pp_typing_laws.proofs.Sound.{sound, sound_args, sound_cases, started_ok, wanted_ok, taken_ok, arm_sort}
 use Rattle.pp_typing_laws.proofs.Steps.{then_ok, of_sort_ok, condition_ok, is_sort_is, nothing_left, same_ok}
-use Rattle.pp_typing_laws.specs.Faults.{at_of, flawed, Misfits, BreaksBinding, bound_again, BreaksPattern, any_bound, int_bound, int_unfit, bool_bound, bool_unfit, ctor_unknown, ctor_absent, ctor_of_other, ctor_arity, ctor_bound as binder_of_ctor, ctor_parts, BreaksPatterns, this_pattern, later_pattern, BreaksWritten, in_type, Breaks, unfit_int, unfit_bool, absent_local, unfit_local, unknown_name, in_name, unknown_applied, in_application, in_base, no_one_ctor, unknown_field, unfit_field, in_operand, unfit_operand, unfit_unary, in_left, unfit_left, in_right, unfit_right, unfit_binary, in_test, in_first, in_second, unlike_second, in_matched, without_case, in_case, clashing_val, in_val_type, in_value, after_val, in_asserted, after_assert, BreaksCondition, in_condition, no_boolean, BreaksApplied, args_arity, types_arity, in_types, in_args, open_param, unfit_result, BreaksArgs, this_arg, unfit_arg, later_arg, BreaksCases, in_plain, in_guarded, in_guard, plain_body, guarded_body, after_plain, after_guarded, BreaksBody, in_body, unlike_body}
+use Rattle.pp_typing_laws.specs.Faults.{at_of, flawed, Misfits, BreaksBinding, bound_again, BreaksPattern, any_bound}
+use Rattle.pp_typing_laws.specs.Faults.{int_bound, int_unfit, bool_bound, bool_unfit, ctor_unknown, ctor_absent}
+use Rattle.pp_typing_laws.specs.Faults.{ctor_of_other, ctor_arity, ctor_bound as binder_of_ctor, ctor_parts}
+use Rattle.pp_typing_laws.specs.Faults.{BreaksPatterns, this_pattern, later_pattern, BreaksWritten, in_type, Breaks}
+use Rattle.pp_typing_laws.specs.Faults.{unfit_int, unfit_bool, absent_local, unfit_local, unknown_name, in_name}
+use Rattle.pp_typing_laws.specs.Faults.{unknown_applied, in_application, in_base, no_one_ctor, unknown_field}
+use Rattle.pp_typing_laws.specs.Faults.{unfit_field, in_operand, unfit_operand, unfit_unary, in_left, unfit_left}
+use Rattle.pp_typing_laws.specs.Faults.{in_right, unfit_right, unfit_binary, in_test, in_first, in_second}
+use Rattle.pp_typing_laws.specs.Faults.{unlike_second, in_matched, without_case, in_case, clashing_val, in_val_type}
+use Rattle.pp_typing_laws.specs.Faults.{in_value, after_val, in_asserted, after_assert, BreaksCondition, in_condition}
+use Rattle.pp_typing_laws.specs.Faults.{no_boolean, BreaksApplied, args_arity, types_arity, in_types, in_args}
+use Rattle.pp_typing_laws.specs.Faults.{open_param, unfit_result, BreaksArgs, this_arg, unfit_arg, later_arg}
+use Rattle.pp_typing_laws.specs.Faults.{BreaksCases, in_plain, in_guarded, in_guard, plain_body, guarded_body}
+use Rattle.pp_typing_laws.specs.Faults.{after_plain, after_guarded, BreaksBody, in_body, unlike_body}
 
 module _ (env : Env) where
   at_applied : {sc : Scope} {at : ℕ} {x : Expected} {ts : TypeTrees} {c : Callee} {es : Trees} {e : TypedExpr}

@@ -1,5 +1,6 @@
 -- What it tells that a step of the computation gives a typing.
-use Rattle.std.proofs.Common.{◌≡◌, ◌∙◌, ℕ, List, [], ◌∷◌, Ok, Err, Option, Some, None, Bool, true, false, refl, sym, ap, subst, nat_eq, length, map, arith}
+use Rattle.std.proofs.Common.{◌≡◌, ◌∙◌, ℕ, List, [], ◌∷◌, Ok, Err, Option, Some, None, Bool, true, false, refl, sym, ap}
+use Rattle.std.proofs.Common.{subst, nat_eq, length, map, arith}
 use Rattle.std.specs.Prelude.{if◌then◌else◌}
 use Rattle.pp_fault.specs.declared.Rule.{Rule}
 use Rattle.pp_fault.specs.declared.Rule.TheVariants.{NotABoolean}

@@ -4,8 +4,9 @@ use Rattle.pp_fault.specs.declared.Fault.{Fault}
 use Rattle.pp_fault.specs.declared.Rule.TheVariants.{Duplicate, Mismatch}
 use Rattle.pp_generic.specs.declared.expected.Expected.TheVariants.{Open}
 use Rattle.pp_generic.specs.Expected.{exact}
+use Rattle.pp_names.specs.Reserved.{is_reserved}
 use Rattle.pp_rules.specs.Bodies.{def_scope, env_of_def}
-use Rattle.pp_rules.specs.Scope.{Env, Scope, is_reserved}
+use Rattle.pp_rules.specs.Scope.{Env, Scope}
 use Rattle.pp_rules.specs.Written.{IsWritten}
 use Rattle.pp_tree.specs.Plain.{Word, TypeTree, TypeTrees, type_text, Tree, PostTree, DefTree}
 use Rattle.pp_typed.specs.declared.declared.Declared.{Declared}

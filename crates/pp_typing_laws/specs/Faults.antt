@@ -1,7 +1,7 @@
 -- Which rules are broken where. A fault stands at the smallest expression, pattern or written type whose rule it
--- breaks,
--- with the name that is written there; what stands before it has a typing. Source: own.
-use Rattle.std.specs.Prelude.{◌≡◌, ◌≢◌, ℕ, suc, ℤ, Bool, true, false, List, [], ◌∷◌, ◌++◌, map, length, Option, Some, None, slice_get}
+-- breaks, with the name that is written there; what stands before it has a typing. Source: own.
+use Rattle.std.specs.Prelude.{◌≡◌, ◌≢◌, ℕ, suc, ℤ, Bool, true, false, List, [], ◌∷◌, ◌++◌, map, length, Option, Some}
+use Rattle.std.specs.Prelude.{None, slice_get}
 use Rattle.pp_fault.specs.declared.Fault.{Fault}
 use Rattle.pp_fault.specs.declared.Rule.{Rule}
 use Rattle.pp_fault.specs.declared.Rule.TheVariants.{Unknown, Duplicate, Mismatch, Arity, CannotInfer, NotABoolean}
@@ -21,7 +21,10 @@ use Rattle.pp_sorts.specs.IsSort.{OneBreaks, count as count_types}
 use Rattle.pp_sorts.specs.IsSort as written
 use Rattle.pp_tree.specs.declared.operator.BinaryOp.{BinaryOp}
 use Rattle.pp_tree.specs.declared.operator.UnaryOp.{UnaryOp}
-use Rattle.pp_tree.specs.Plain.{Word, TypeTree, TypeTrees, no_types, more_types, PatternTree, any, int_pattern, bool_pattern, ctor_pattern, PatternTrees, no_patterns, more_patterns, Tree, int, bool, name, apply, field, unary, binary, choice, matching, val_in, assert_in, Trees, no_trees, more_trees, CaseTrees, no_cases, plain_case, guarded_case}
+use Rattle.pp_tree.specs.Plain.{Word, TypeTree, TypeTrees, no_types, more_types, PatternTree, any, int_pattern}
+use Rattle.pp_tree.specs.Plain.{bool_pattern, ctor_pattern, PatternTrees, no_patterns, more_patterns, Tree, int, bool}
+use Rattle.pp_tree.specs.Plain.{name, apply, field, unary, binary, choice, matching, val_in, assert_in, Trees, no_trees}
+use Rattle.pp_tree.specs.Plain.{more_trees, CaseTrees, no_cases, plain_case, guarded_case}
 use Rattle.pp_typed.specs.declared.expr.TypedExpr.{TypedExpr}
 use Rattle.pp_typed.specs.declared.pattern.TypedPattern.{TypedPattern}
 use Rattle.pp_typed.specs.declared.sort.GenericSort.{GenericSort}
@@ -92,7 +95,8 @@ module _ (env : Env) where
     -- a fault of one of several patterns
     pub data BreaksPatterns : ℕ → Scope → List GenericSort → PatternTrees → Fault → Type 0 where
       this_pattern : {k : ℕ} {sc : Scope} {s : GenericSort} {ss : List GenericSort} {p : PatternTree}
-          {ps : PatternTrees} {f : Fault} → BreaksPattern k sc s p f → BreaksPatterns k sc (s ∷ ss) (more_patterns p ps) f
+          {ps : PatternTrees} {f : Fault} → BreaksPattern k sc s p f
+          → BreaksPatterns k sc (s ∷ ss) (more_patterns p ps) f
       later_pattern : {k : ℕ} {sc mid : Scope} {s : GenericSort} {ss : List GenericSort} {p : PatternTree}
           {ps : PatternTrees} {t : TypedPattern} {f : Fault} → TypesPattern env k sc s p t mid
           → BreaksPatterns k mid ss ps f → BreaksPatterns k sc (s ∷ ss) (more_patterns p ps) f

@@ -6,8 +6,8 @@ ghost use Rattle.pp_typed.specs.WellSorted.{IsWellSorted};
 use pp_typed::Typed;
 use std::marker::Model;
 
-/// Typed units that are well sorted: each number is in range, each expression has its sort, each root has a value at all
-/// its arguments, and names tell declarations apart. Contracts see them as the typed units.
+/// Typed units that are well sorted: each number is in range, each expression has its sort, each root has a value at
+/// all its arguments, and names tell declarations apart. Contracts see them as the typed units.
 #[derive(Drop)]
 pub struct WellSorted {
     typed: Typed,

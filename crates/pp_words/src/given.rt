@@ -23,7 +23,8 @@ pub(crate) struct Given<'a> {
 }
 
 fn files<'a>(alloc: Global, matches: &ArgMatches<'a>) -> Result<Vec<&'a str>, NoMemory>
-    ensures { IfOk result (λ files. texts files.items ≡ unwrap_or (all_of (codes "file") (rows_of (found_of matches.now))) []) }
+    ensures { IfOk result (λ files. texts files.items ≡ unwrap_or
+        (all_of (codes "file") (rows_of (found_of matches.now))) []) }
 {
     match matches.get_raw("file") {
         Some(files) => Vec::from_slice(alloc, files),

@@ -11,7 +11,7 @@ use crate::number::number_or;
 /// What is asked of the program.
 #[derive(Clone, Copy, Debug, PartialEq, Eq)]
 pub enum Task<'a> {
-    /// Search and prove each check.
+    /// Search each check.
     Verify {
         /// The greatest round, 0 to 12.
         rounds: u32,

@@ -1,7 +1,8 @@
-//! Tries lines of words, one a line of standard input, and prints what each asks. What the answers must be was worked out
-//! apart from the program: `stdout` has it.
+//! Tries lines of words, one a line of standard input, and prints what each asks. What the answers must be was worked
+//! out apart from the program: `stdout` has it.
 //!
-//! Words stand apart by blanks; `''` is the empty word. The answer is `refused`, or the task with its numbers, and the paths.
+//! Words stand apart by blanks; `''` is the empty word. The answer is `refused`, or the task with its numbers, and the
+//! paths.
 #![tactic(auto)]
 
 use anyhow::Result;

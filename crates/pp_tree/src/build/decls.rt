@@ -166,7 +166,13 @@ pub fn unit<'a>(
     objects: &[&'a str],
     decls: &[Checked<Decl<'a>>],
 ) -> Result<Checked<Unit<'a>>, NoMemory>
-    ensures { IfOk result (λ u. unit_of u.tree ≡ record { imports = map import_of imports.now; objects = map (λ o. o.now) objects.now; decls = map (λ d. decl_of d.tree) decls.now }) }
+    ensures { IfOk result (λ u. unit_of u.tree ≡
+        record {
+          imports = map import_of imports.now;
+          objects = map (λ o. o.now) objects.now;
+          decls =
+              map (λ d. decl_of d.tree) decls.now;
+        }) }
 {
     let deep = first_deep(decls);
     let imports = arena.try_alloc_slice_copy(imports)?;

@@ -50,7 +50,8 @@ pub fn apply<'a>(
     types: &[Built<TypeText<'a>>],
     args: &[Built<Expr<'a>>],
 ) -> Result<Built<Expr<'a>>, NoMemory>
-    ensures { IfOk result (λ b. tree_of b.tree ≡ apply at name.now (type_trees (map (λ t. type_of t.tree) types.now)) (trees (map (λ a. tree_of a.tree) args.now))) }
+    ensures { IfOk result (λ b. tree_of b.tree ≡ apply at name.now (type_trees (map (λ t. type_of t.tree) types.now))
+        (trees (map (λ a. tree_of a.tree) args.now))) }
 {
     let levels = above(highest(types).max(highest(args)));
     let types = row(arena, types)?;
@@ -126,7 +127,8 @@ pub fn choice<'a>(
     yes: Built<Expr<'a>>,
     no: Built<Expr<'a>>,
 ) -> Result<Built<Expr<'a>>, NoMemory>
-    ensures { IfOk result (λ b. tree_of b.tree ≡ choice at (tree_of test.entry.tree) (tree_of yes.entry.tree) (tree_of no.entry.tree)) }
+    ensures { IfOk result (λ b. tree_of b.tree ≡ choice at (tree_of test.entry.tree) (tree_of yes.entry.tree)
+        (tree_of no.entry.tree)) }
 {
     let levels = above(test.levels.max(yes.levels.max(no.levels)));
     let test = arena.try_alloc(test.tree)?;
@@ -146,7 +148,8 @@ pub fn matching<'a>(
     matched: Built<Expr<'a>>,
     cases: &[Built<Case<'a>>],
 ) -> Result<Built<Expr<'a>>, NoMemory>
-    ensures { IfOk result (λ b. tree_of b.tree ≡ matching at (tree_of matched.entry.tree) (case_trees (map (λ c. case_of c.tree) cases.now))) }
+    ensures { IfOk result (λ b. tree_of b.tree ≡ matching at (tree_of matched.entry.tree)
+        (case_trees (map (λ c. case_of c.tree) cases.now))) }
 {
     let levels = above(matched.levels.max(highest(cases)));
     let matched = arena.try_alloc(matched.tree)?;
@@ -164,7 +167,8 @@ pub fn case<'a>(
     guard: Option<Built<Expr<'a>>>,
     body: Built<Expr<'a>>,
 ) -> Built<Case<'a>>
-    ensures { case_of result.tree ≡ case_before (pattern_of pattern.entry.tree) (option_map (λ g. tree_of g.tree) guard.entry) (tree_of body.entry.tree) }
+    ensures { case_of result.tree ≡ case_before (pattern_of pattern.entry.tree)
+        (option_map (λ g. tree_of g.tree) guard.entry) (tree_of body.entry.tree) }
 {
     let (guard, levels) = match guard {
         None => (None, body.levels),
@@ -190,7 +194,8 @@ pub fn val_in<'a>(
     value: Built<Expr<'a>>,
     rest: Built<Expr<'a>>,
 ) -> Result<Built<Expr<'a>>, NoMemory>
-    ensures { IfOk result (λ b. tree_of b.tree ≡ val_in at name.now (option_map (λ t. type_of t.tree) of.entry) (tree_of value.entry.tree) (tree_of rest.entry.tree)) }
+    ensures { IfOk result (λ b. tree_of b.tree ≡ val_in at name.now (option_map (λ t. type_of t.tree) of.entry)
+        (tree_of value.entry.tree) (tree_of rest.entry.tree)) }
 {
     let levels = above(written_levels(of).max(value.levels.max(rest.levels)));
     let value = arena.try_alloc(value.tree)?;

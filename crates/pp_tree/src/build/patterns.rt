@@ -52,7 +52,8 @@ pub fn ctor_pattern<'a>(
     ctor: &'a str,
     fields: &[Built<Pattern<'a>>],
 ) -> Result<Built<Pattern<'a>>, NoMemory>
-    ensures { IfOk result (λ b. pattern_of b.tree ≡ ctor_pattern at (option_map (λ n. n.now) name.entry) ctor.now (pattern_trees (map (λ p. pattern_of p.tree) fields.now))) }
+    ensures { IfOk result (λ b. pattern_of b.tree ≡ ctor_pattern at (option_map (λ n. n.now) name.entry) ctor.now
+        (pattern_trees (map (λ p. pattern_of p.tree) fields.now))) }
 {
     let levels = above(highest(fields));
     let fields = row(arena, fields)?;

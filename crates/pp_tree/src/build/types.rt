@@ -16,7 +16,8 @@ pub fn type_text<'a>(
     name: &'a str,
     args: &[Built<TypeText<'a>>],
 ) -> Result<Built<TypeText<'a>>, NoMemory>
-    ensures { IfOk result (λ b. type_of b.tree ≡ type_text at name.now (type_trees (map (λ t. type_of t.tree) args.now))) }
+    ensures { IfOk result (λ b. type_of b.tree ≡ type_text at name.now
+        (type_trees (map (λ t. type_of t.tree) args.now))) }
 {
     let levels = above(highest(args));
     let args = row(arena, args)?;

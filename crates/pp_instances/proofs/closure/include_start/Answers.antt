@@ -11,7 +11,8 @@ returns-in-Err-clause-gains c =
     let defs = c.as_slice-defs.result.now in
     why_not
     (λ b. subst (λ l. Bursts 512 [] (start_from 0 l)) c.as_slice-defs.ensures
-    (start_over defs c.loop-f.f c.index-defs-f.result c.loop-f.members c.without_args.result c.loop-f-test.true c.index-defs-f.is c.if-defs-f-eq0.true c.without_args.ensures c.loop-f.invariant.gains b))
+    (start_over defs c.loop-f.f c.index-defs-f.result c.loop-f.members c.without_args.result c.loop-f-test.true
+    c.index-defs-f.is c.if-defs-f-eq0.true c.without_args.ensures c.loop-f.invariant.gains b))
     c.in-Err.e c.in-Err.ensures.gains
 
 pub loop-f-preserved : goal.loop-f-preserved
@@ -21,12 +22,15 @@ loop-f-preserved c =
     elim c.if-defs-f-eq0.branch [
       | then-defs-f-eq0+in-Ok w ↦ record {
         gains = subst (λ l. Gains [] (start_from 0 (take (f + 1) defs)) l) (sym w.members-is)
-            (start_gains defs f c.index-defs-f.result c.loop-f.members w.include.new.members w.without_args.result c.loop-f-test.true c.index-defs-f.is w.if-defs-f-eq0.true w.without_args.ensures c.loop-f.invariant.gains w.in-Ok.ensures.gains);
+            (start_gains defs f c.index-defs-f.result c.loop-f.members w.include.new.members w.without_args.result
+            c.loop-f-test.true c.index-defs-f.is w.if-defs-f-eq0.true w.without_args.ensures
+            c.loop-f.invariant.gains w.in-Ok.ensures.gains);
         few = subst (λ l. length l ≤ 512) (sym w.members-is) w.in-Ok.ensures.few;
       }
       | else-defs-f-eq0 w ↦ record {
         gains = subst (λ l. Gains [] (start_from 0 (take (f + 1) defs)) l) (sym w.members-is)
-            (start_keeps defs f c.index-defs-f.result c.loop-f.members c.loop-f-test.true c.index-defs-f.is w.if-defs-f-eq0.false c.loop-f.invariant.gains);
+            (start_keeps defs f c.index-defs-f.result c.loop-f.members c.loop-f-test.true c.index-defs-f.is
+            w.if-defs-f-eq0.false c.loop-f.invariant.gains);
         few = subst (λ l. length l ≤ 512) (sym w.members-is) c.loop-f.invariant.few;
       }
     ]
@@ -34,4 +38,6 @@ loop-f-preserved c =
 pub returns-clause-gains : goal.returns-clause-gains
 returns-clause-gains c =
     let defs = c.as_slice-defs.result.now in
-    subst (λ l. Gains [] (start_from 0 l) c.loop-f.members) (take_all c.loop-f.f defs (omega (arith, c.loop-f-test.false)) ∙ c.as_slice-defs.ensures) c.loop-f.invariant.gains
+    subst (λ l. Gains [] (start_from 0 l) c.loop-f.members)
+    (take_all c.loop-f.f defs (omega (arith, c.loop-f-test.false)) ∙ c.as_slice-defs.ensures)
+    c.loop-f.invariant.gains

@@ -4,4 +4,5 @@ use Rattle.pp_instances.specs.Same.{joined, fed_sort}
 use Rattle.pp_instances.proofs.member.+hash_sort.Given as goal
 
 abbrev pub invariant-loop-part : goal.invariant-loop-part
-invariant-loop-part g l = l.state ≡ fold g.H.Hasher.write l.initial.state (joined (map fed_sort (take l.part-index l.part-items)))
+invariant-loop-part g l =
+    l.state ≡ fold g.H.Hasher.write l.initial.state (joined (map fed_sort (take l.part-index l.part-items)))

@@ -5,7 +5,8 @@ use Rattle.pp_tree.specs.Plain.{Word}
 use Rattle.pp_tree.specs.Shown.{unit_of}
 use Rattle.pp_parse.specs.Answers.{IsAnswer, IsRefusal}
 use Rattle.pp_parse.proofs.Runs.{some_tokens}
-use Rattle.pp_parse.proofs.Spelled.{is_spelled, is_low, is_why, stands_at_token, answers_unit, refuses_word, offsets_at_tokens, has_few_nodes, has_few_cases}
+use Rattle.pp_parse.proofs.Spelled.{is_spelled, is_low, is_why, stands_at_token, answers_unit, refuses_word}
+use Rattle.pp_parse.proofs.Spelled.{offsets_at_tokens, has_few_nodes, has_few_cases}
 use Rattle.pp_parse.proofs.reading.parse.Goals as goal
 
 pub answer-requires-clause-whole_characters : goal.answer-requires-clause-whole_characters

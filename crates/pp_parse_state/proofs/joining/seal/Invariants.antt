@@ -5,7 +5,8 @@ use Rattle.pp_parse_state.specs.Shown.{frames}
 use Rattle.pp_parse_state.proofs.joining.seal.Given as goal
 
 abbrev pub invariant-loop-stack : goal.invariant-loop-stack
-invariant-loop-stack l = seal (frames l.stack) (tree_of l.sealed.tree) ≡ seal (frames l.fn.stack) (tree_of l.fn.last.tree)
+invariant-loop-stack l =
+    seal (frames l.stack) (tree_of l.sealed.tree) ≡ seal (frames l.fn.stack) (tree_of l.fn.last.tree)
 
 abbrev pub decreases-loop-stack : goal.decreases-loop-stack
 decreases-loop-stack l = length (frames l.stack)

@@ -8,4 +8,5 @@ pub returns : goal.returns
 returns c =
     to_z-of_z w32 c.wrapping_neg.result (record { sfits = c.wrapping_neg.type_inv }) ∙ c.wrapping_neg.ensures
     ∙ ap (int_wrapping_neg w32) (to_z-of_z w32 c.cast_signed.result (record { sfits = c.cast_signed.type_inv }))
-    ∙ wrapping_neg_is w32 c.cast_signed.result (record { sfits = c.cast_signed.type_inv }) ∙ ap (λ z. int_wrap w32 (neg_ℤ z)) c.cast_signed.ensures
+    ∙ wrapping_neg_is w32 c.cast_signed.result (record { sfits = c.cast_signed.type_inv })
+    ∙ ap (λ z. int_wrap w32 (neg_ℤ z)) c.cast_signed.ensures

@@ -15,4 +15,5 @@ returns c =
     let P : Tree → Type 0 = λ e. Moves r (frames c.on_have.new.stack) (on_have text t s e false t.kind) in
     let v = c.deref.ensures.value in
     let e = c.in_ok-tree.ensures in
-    subst P (e ∙ ap (λ ts. apply c.args.at c.args.name.now (type_trees (map (λ b. type_of b.tree) ts)) no_trees) v) c.on_have.ensures
+    subst P (e ∙ ap (λ ts. apply c.args.at c.args.name.now (type_trees (map (λ b. type_of b.tree) ts)) no_trees) v)
+    c.on_have.ensures

@@ -14,4 +14,5 @@ pub loop-rest-preserved : goal.loop-rest-preserved
 loop-rest-preserved c =
     next_part c.args.cs.now c.loop-rest.rest.now c.loop-rest.at c.loop-rest.out.items c.loop-rest.invariant
     c.in-Takes.kind c.in-Takes.n c.width.result c.split_at.result.0.now c.split_at.result.1.now c.put.new.out.items
-    (sym c.in-Takes.ensures) c.split_at.ensures.front c.split_at.ensures.back c.width.ensures c.in_ok-put-in-Takes.ensures
+    (sym c.in-Takes.ensures) c.split_at.ensures.front c.split_at.ensures.back c.width.ensures
+    c.in_ok-put-in-Takes.ensures

@@ -6,15 +6,18 @@ use Rattle.pp_tokens.proofs.lex.tokens.Goals as goal
 
 pub returns-in-Ok-clause-whole_characters : goal.returns-in-Ok-clause-whole_characters
 returns-in-Ok-clause-whole_characters c =
-    are_spans c.args.text.now c.in-Ok.found.items (ap tokens_of (sym c.as_str.ensures.same) ∙ c.in-Ok.ensures.spelled) (subst IsUtf8 c.as_str.ensures.same c.as_str.ensures.utf8)
+    are_spans c.args.text.now c.in-Ok.found.items (ap tokens_of (sym c.as_str.ensures.same) ∙ c.in-Ok.ensures.spelled)
+    (subst IsUtf8 c.as_str.ensures.same c.as_str.ensures.utf8)
 
 pub returns-in-Ok-clause-in_order : goal.returns-in-Ok-clause-in_order
 returns-in-Ok-clause-in_order c =
-    are_in_order c.args.text.now c.in-Ok.found.items (ap tokens_of (sym c.as_str.ensures.same) ∙ c.in-Ok.ensures.spelled)
+    are_in_order c.args.text.now c.in-Ok.found.items
+    (ap tokens_of (sym c.as_str.ensures.same) ∙ c.in-Ok.ensures.spelled)
 
 pub returns-in-Ok-clause-ended : goal.returns-in-Ok-clause-ended
 returns-in-Ok-clause-ended c =
-    has_end c.args.text.now c.in-Ok.found.items (ap tokens_of (sym c.as_str.ensures.same) ∙ c.in-Ok.ensures.spelled) (subst IsUtf8 c.as_str.ensures.same c.as_str.ensures.utf8)
+    has_end c.args.text.now c.in-Ok.found.items (ap tokens_of (sym c.as_str.ensures.same) ∙ c.in-Ok.ensures.spelled)
+    (subst IsUtf8 c.as_str.ensures.same c.as_str.ensures.utf8)
 
 pub returns-in-Ok-clause-laid_out : goal.returns-in-Ok-clause-laid_out
 returns-in-Ok-clause-laid_out c =
@@ -26,8 +29,11 @@ returns-in-Err-clause-laid_out_before c =
 
 pub returns-in-Ok-clause-few : goal.returns-in-Ok-clause-few
 returns-in-Ok-clause-few c =
-    few_tokens c.args.text.now c.in-Ok.found.items (subst IsUtf8 c.as_str.ensures.same c.as_str.ensures.utf8) (is_layout c.args.text.now c.in-Ok.found.items (ap tokens_of (sym c.as_str.ensures.same) ∙ c.in-Ok.ensures.spelled))
+    few_tokens c.args.text.now c.in-Ok.found.items (subst IsUtf8 c.as_str.ensures.same c.as_str.ensures.utf8)
+    (is_layout c.args.text.now c.in-Ok.found.items
+    (ap tokens_of (sym c.as_str.ensures.same) ∙ c.in-Ok.ensures.spelled))
 
 pub returns-in-Err-clause-fault_begins : goal.returns-in-Err-clause-fault_begins
 returns-in-Err-clause-fault_begins c =
-    fault_begins c.args.text.now c.in-Err.fault (subst IsUtf8 c.as_str.ensures.same c.as_str.ensures.utf8) (rw c.as_str.ensures.same at c.in-Err.ensures.refused)
+    fault_begins c.args.text.now c.in-Err.fault (subst IsUtf8 c.as_str.ensures.same c.as_str.ensures.utf8)
+    (rw c.as_str.ensures.same at c.in-Err.ensures.refused)

@@ -19,4 +19,5 @@ returns-in-Err-clause-refused c refused =
     let app = app_of c.in_ok-command.command in
     let words = texts c.args.words.now in
     with_faults app words c.in_ok-command.ensures
-    (λ free. some_kind (fault_of app words) c.in-Err.error (c.in-Err.ensures.kinds free) (c.fault.ensures (search rules)))
+    (λ free. some_kind (fault_of app words) c.in-Err.error (c.in-Err.ensures.kinds free)
+    (c.fault.ensures (search rules)))

@@ -4,4 +4,5 @@ use Rattle.pp_instances.specs.Same.{joined, fed_sort}
 use Rattle.pp_instances.proofs.member.MemberHash.hash.Given as goal
 
 abbrev pub invariant-loop-sort : goal.invariant-loop-sort
-invariant-loop-sort g l = l.state ≡ fold g.H.Hasher.write l.initial.state (joined (map fed_sort (take l.sort-index l.sort-items)))
+invariant-loop-sort g l =
+    l.state ≡ fold g.H.Hasher.write l.initial.state (joined (map fed_sort (take l.sort-index l.sort-items)))
