@@ -5,6 +5,9 @@
 # - 400 functions with 2,000 nodes of expression each, in four sources
 # - 512 functions with measures, each calling itself and the one before
 # - 100 functions in a chain, two calls each, in mode `list` at round 12 and depth 6
+# - 60 datatypes of five constructors each, and 60 functions with 80 choices between trees each, in mode `list` at
+#   round 12 and depth 6
+# - a run of a function of one line
 # Where only instances and the plan are meant, the words ask for a run of a function that isn't there: it is looked up
 # last, so that no estimate and no run is in the time. The time of parsing and typing alone is shown beside it. It wants
 # crates/pureproof/out/pureproof and crates/pp_types_bench/out/pp_types_bench, which `rt run` in these crates' folders
@@ -118,6 +121,23 @@ open("chain", "w").write("""object A {
   case class Nil() extends L
   def f0(l: L, x: Int): Int = { if (l == Nil()) x else x + 1 } ensuring (res => res >= x)
 """ + "".join(chain) + "}\n")
+
+data = []
+for n in range(60):
+    data.append("  sealed trait T%d\n  case class E%d() extends T%d\n" % (n, n, n))
+    for k in range(4):
+        parts = (n, k, (n + k) % 60, (n + 7 * k + 1) % 60, n)
+        data.append("  case class C%d_%d(x: Int, y: T%d, z: T%d) extends T%d\n" % parts)
+PICK = """  def pick%d(x: Int, a: T%d, b: T%d): T%d = {
+    val c = %s b
+    %s c
+  } ensuring (res => res == a || res == b)
+"""
+first = " ".join("if (x == %d) %s else" % (i, "ab"[i % 2]) for i in range(40))
+second = " ".join("if (x == %d) %s else" % (i, "abc"[i % 3]) for i in range(40, 80))
+picks = [PICK % (n, n, n, n, first, second) for n in range(60)]
+open("edge", "w").write("object A {\n  def edge(): Int = Int.MinValue / -1 + -7 % 3\n}\n")
+open("choices", "w").write("object A {\n" + "".join(data + picks) + "}\n")
 PY
 
 # run NAME WORDS FILE..: how long the program takes
@@ -130,7 +150,7 @@ run() {
     printf '%s: %s lines, the first %s\n' "$name" "$(wc -l < answer)" "$(head -n 1 answer)"
     for _ in 1 2 3; do
         bash -c "TIMEFORMAT='$name, parsed and typed: %R s'; time '$typing' check $* > /dev/null"
-        bash -c "TIMEFORMAT='$name: %R s'; time '$program' $words $* > /dev/null 2>&1"
+        bash -c "TIMEFORMAT='$name: %R s'; time '$program' $words $* > /dev/null 2>&1" || true
     done
 }
 none='--mode run --function none'
@@ -139,3 +159,5 @@ run 'closure of 512 members' "$none" closure
 run '400 functions of 2,000 nodes' "$none" large0 large1 large2 large3
 run 'plan of 512 functions' "$none" plan
 run 'chain of 100 functions, listed' '--mode list --rounds 12 --depth 6' chain
+run 'choices between trees of 60 datatypes, listed' '--mode list --rounds 12 --depth 6' choices
+run 'a small run' '--mode run --function edge' edge

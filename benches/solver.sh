@@ -1,18 +1,21 @@
 #!/usr/bin/env bash
-# Times the solver beside minisat, by conflict: random clauses of three literals, pigeons in holes, and circuits of words
-# (products, their order, sums, order). For each it solves until 1,000, 5,000 and 10,000 lemmas, and prints how many
+# Times the solver beside minisat, by conflict: random clauses of three literals, pigeons in holes, and the program's circuits
+# of words (products, their order, sums, order), which circuit.py makes. For each it solves until 1,000, 5,000 and 10,000 lemmas, and prints how many
 # microseconds a lemma took, the processor time of solving alone: what a run with one lemma takes, which is reading, is
 # taken off. Of minisat (-no-pre, at most 20 s) it prints the same of a whole run, without its parsing, and at the end how
 # many times longer our conflicts took at the last number.
 # It wants minisat (apt-get install minisat), python3, and crates/pp_cdcl_bench/out/pp_cdcl_bench, which `rt run` in that
-# crate's folder leaves.
+# crate's folder leaves; another program in its place is named by CDCL_BENCH.
 set -eu
 root=$(cd "$(dirname "${BASH_SOURCE[0]}")/.." && pwd)
 here=$(mktemp -d)
 trap 'rm -rf "$here"' EXIT
 cd "$here"
-python3 - "$root/crates/pp_cdcl_bench/out/pp_cdcl_bench" <<'PY'
+python3 -B - "${CDCL_BENCH:-$root/crates/pp_cdcl_bench/out/pp_cdcl_bench}" "$root/benches" <<'PY'
 import random, re, resource, subprocess, sys
+
+sys.path.insert(0, sys.argv[2])
+from circuit import Circuit
 
 PROGRAM = sys.argv[1]
 LEMMAS = (1_000, 5_000, 10_000)
@@ -38,111 +41,39 @@ def three(seed, variables):
     return clauses
 
 
-class Circuit:
-    """Gates as clauses."""
-
-    def __init__(self):
-        self.last = 0
-        self.clauses = []
-
-    def input(self):
-        self.last += 1
-        return self.last
-
-    def both(self, a, b):
-        out = self.input()
-        self.clauses += [[-out, a], [-out, b], [out, -a, -b]]
-        return out
-
-    def either(self, a, b):
-        return -self.both(-a, -b)
-
-    def odd(self, a, b):
-        out = self.input()
-        self.clauses += [[-out, a, b], [-out, -a, -b], [out, -a, b], [out, a, -b]]
-        return out
-
-    def sum(self, a, b, c):
-        half = self.odd(a, b)
-        return self.odd(half, c), self.either(self.both(a, b), self.both(half, c))
-
-
-def multiply(circuit, left, right):
-    """The product, lowest bit first, a column of bits at a time."""
-    columns = [[] for _ in range(len(left) + len(right) + 1)]
-    for i, a in enumerate(left):
-        for j, b in enumerate(right):
-            columns[i + j].append(circuit.both(a, b))
-    for place, column in enumerate(columns[:-1]):
-        while len(column) > 1:
-            if len(column) > 2:
-                low, high = circuit.sum(column.pop(0), column.pop(0), column.pop(0))
-            else:
-                a, b = column.pop(0), column.pop(0)
-                low, high = circuit.odd(a, b), circuit.both(a, b)
-            column.append(low)
-            columns[place + 1].append(high)
-    return [column[0] for column in columns[:-1] if column]
-
-
-def words(bits):
-    circuit = Circuit()
-    return circuit, [circuit.input() for _ in range(bits)], [circuit.input() for _ in range(bits)]
-
-
-def add(circuit, left, right):
-    """The sum, lowest bit first, as long as the words."""
-    total, carry = [], None
-    for a, b in zip(left, right):
-        if carry is None:
-            low, carry = circuit.odd(a, b), circuit.both(a, b)
-        else:
-            low, carry = circuit.sum(a, b, carry)
-        total.append(low)
-    return total
-
-
-def less(circuit, left, right):
-    """Whether the left word is below the right one."""
-    below = circuit.both(-left[0], right[0])
-    for a, b in zip(left[1:], right[1:]):
-        below = circuit.either(circuit.both(-a, b), circuit.both(-circuit.odd(a, b), below))
-    return below
+def asked(circuit, clauses):
+    """The clauses of a circuit, and these besides."""
+    return circuit.clauses() + clauses
 
 
 def sums(bits):
     """Three words whose sum depends on the order."""
-    circuit = Circuit()
-    a, b, c = ([circuit.input() for _ in range(bits)] for _ in range(3))
-    one, other = add(circuit, add(circuit, a, b), c), add(circuit, add(circuit, c, a), b)
-    circuit.clauses.append([circuit.odd(x, y) for x, y in zip(one, other)])
-    return circuit.clauses
+    c = Circuit(True)
+    x, y, z = (c.word(bits) for _ in range(3))
+    return asked(c, [[-c.equal(c.add(c.add(x, y), z), c.add(c.add(z, x), y))]])
 
 
 def order(bits, count):
     """Words in a circle, each below the next."""
-    circuit = Circuit()
-    words = [[circuit.input() for _ in range(bits)] for _ in range(count)]
-    for at in range(count):
-        circuit.clauses.append([less(circuit, words[at], words[(at + 1) % count])])
-    return circuit.clauses
+    c = Circuit(True)
+    words = [c.word(bits) for _ in range(count)]
+    return asked(c, [[c.less(words[at], words[(at + 1) % count])] for at in range(count)])
 
 
 def product(bits, number):
     """Two words, neither of them 0 or 1, with this product."""
-    circuit, left, right = words(bits)
-    for place, bit in enumerate(multiply(circuit, left, right)):
-        circuit.clauses.append([bit if number >> place & 1 else -bit])
-    circuit.clauses += [left[1:], right[1:]]
-    return circuit.clauses
+    c = Circuit(True)
+    x, y = c.word(bits), c.word(bits)
+    out = c.mul(x + [-1] * bits, y + [-1] * bits)
+    return asked(c, [[bit if number >> place & 1 else -bit] for place, bit in enumerate(out)] + [x[1:], y[1:]])
 
 
 def both_ways(bits):
-    """Two words whose product depends on their order."""
-    circuit, left, right = words(bits)
-    pairs = zip(multiply(circuit, left, right), multiply(circuit, right, left))
-    circuit.clauses.append([circuit.odd(a, b) for a, b in pairs])
-    return circuit.clauses
+    """Two words whose product depends on their order. The program takes factors in one order, so it would share these."""
+    c = Circuit(True)
+    x, y = c.word(bits), c.word(bits)
+    pairs = zip(c.mul(x + [-1] * bits, y + [-1] * bits), c.mul(y + [-1] * bits, x + [-1] * bits))
+    return asked(c, [[c.odd(a, b) for a, b in pairs]])
 
 
 def write(clauses):

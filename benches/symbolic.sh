@@ -1,7 +1,8 @@
 #!/usr/bin/env bash
 # How large the circuits of runs are, and how fast they are built: a list's length with fuel 4, sorted insertion over lists
-# of numbers, a function of 60 values, a product in a loop of 4 calls, and a match on a known list. For each check it prints
-# the steps of the run, the gates of the circuit (inputs and the constant among them) and the estimate; and for each program
+# of numbers, a function of 60 values, a product in a loop of 4 calls, a match on a known list, one with literals in its
+# patterns, whose case calls a function with exponents that are known, and a match of two literals in a list. For each check
+# it prints the steps of the run, the gates of the circuit (inputs and the constant among them) and the estimate; and for each program
 # the seconds that all its circuits took, and how many gates a second were built. Reading the program isn't counted: the
 # circuits are built many times, and once the program is only read.
 # It wants python3 and crates/pp_symbolic_bench/out/pp_symbolic_bench, which `rt run` in that crate's folder leaves; another
@@ -83,10 +84,46 @@ KNOWN = """object Known {
 }
 """
 
+LITERALS = """object Literals {
+  sealed abstract class List
+  case class Cons(head: Int, tail: List) extends List
+  case class Nil() extends List
+
+  def power(x: Int, n: Int): Int = {
+    require(n >= 0 && n <= 4)
+    decreases(n)
+    if (n == 0) 1 else x * power(x, n - 1)
+  }
+
+  def check(x: Int): Boolean = {
+    Cons(3, Cons(4, Nil())) match {
+      case Cons(2, _) => x / 7 == 5
+      case Cons(3, Cons(n, _)) => power(x, n) == power(x, 2) * power(x, 2)
+      case _ => x % 7 == 5
+    }
+  }.holds
+}
+"""
+
+PAIR = """object Pair {
+  sealed abstract class List
+  case class Cons(head: Int, tail: List) extends List
+  case class Nil() extends List
+
+  def p(l: List): Boolean = {
+    l match {
+      case Cons(3, Cons(4, Nil())) => false
+      case _ => true
+    }
+  }.holds
+}
+"""
+
 WORKS = [("length", length, 4, 3), ("length", length, 4, 6)]
 WORKS += [("insertion", INSERTION, n, 4) for n in range(4)]
 WORKS += [("arithmetic", arithmetic(60), 0, 1), ("power", POWER, 4, 1)]
-WORKS += [("known", KNOWN, n, 3) for n in range(3)]
+WORKS += [("known", KNOWN, n, 3) for n in range(3)] + [("literals", LITERALS, n, 1) for n in (1, 6)]
+WORKS += [("pair", PAIR, n, 3) for n in range(3)]
 
 
 def told(path, round, depth, times):

@@ -4,7 +4,9 @@
 #   costs.sh record LOG [COMMAND ..]   runs the command (rt ci where none is given), and notes in LOG, each second, how
 #                                      much processor time each check of the prover has used: its process, its crate,
 #                                      whether it is a proof, a proof with tests or a try of an edit, and its seconds
+#   costs.sh watch LOG                 notes the same until it is ended, for what runs meanwhile
 #   costs.sh table LOG                 prints the table of what LOG has
+#   costs.sh short LOG                 prints it in few lines: crate, and the minutes of its proof, tests and edits
 set -u
 root=$(cd "$(dirname "${BASH_SOURCE[0]}")/.." && pwd)
 
@@ -21,6 +23,7 @@ sample() {
         [[ $parent =~ /rattle\ (check|build) ]] && continue
         crate=${words[3]}
         place=$(readlink "$process/cwd") || continue
+        [[ $place == "$root"/* || $place == */rt-edit* ]] || continue
         kind=proof
         [[ " ${words[*]} " == *' --test '* ]] && kind=tests
         [[ $place == */rt-edit* ]] && kind=edits
@@ -29,19 +32,25 @@ sample() {
     done
 }
 
-record() {
-    local log=$1 run
-    shift
-    [ $# -gt 0 ] || set -- rt ci
+watch() {
     ticks=$(getconf CLK_TCK)
-    : > "$log"
-    "$@" &
-    run=$!
-    while kill -0 "$run" 2> /dev/null; do
-        sample >> "$log"
+    : > "$1"
+    while true; do
+        sample >> "$1"
         sleep 1
     done
-    wait "$run"
+}
+
+record() {
+    local log=$1 watcher status
+    shift
+    [ $# -gt 0 ] || set -- rt ci
+    watch "$log" &
+    watcher=$!
+    "$@"
+    status=$?
+    kill "$watcher"
+    return "$status"
 }
 
 # The lines of a crate's src, specs and proofs.
@@ -52,23 +61,33 @@ lines_of() {
     done | paste -sd/ | sed 's,/, / ,g'
 }
 
-table() {
-    local crate
-    printf '| Crate | Lines | Proof | Tests | Edits |\n|---|---|---|---|---|\n'
+# The minutes of each crate, of its proof, tests and edits, and those of all.
+minutes() {
     awk '{ if ($4 > most[$1 " " $2 " " $3]) most[$1 " " $2 " " $3] = $4 }
-        END { for (key in most) { split(key, part, " "); spent[part[2] " " part[3]] += most[key]; seen[part[2]] = 1 }
+        END { for (key in most) { split(key, part, " "); spent[part[2] " " part[3]] += most[key]; seen[part[2]] = 1
+                all[part[3]] += most[key] }
             for (crate in seen) printf "%s %.1f %.1f %.1f\n", crate, spent[crate " proof"] / 60,
-                spent[crate " tests"] / 60, spent[crate " edits"] / 60 }' "$1" | sort |
-        while read -r crate proof tests edits; do
+                spent[crate " tests"] / 60, spent[crate " edits"] / 60
+            printf "~all %.1f %.1f %.1f\n", all["proof"] / 60, all["tests"] / 60, all["edits"] / 60 }' "$1" |
+        LC_ALL=C sort | sed 's/^~//'
+}
+
+table() {
+    local crate proof tests edits
+    printf '| Crate | Lines | Proof | Tests | Edits |\n|---|---|---|---|---|\n'
+    minutes "$1" | while read -r crate proof tests edits; do
+        if [ "$crate" = all ]; then
+            printf '| all | | %s | %s | %s |\n' "$proof" "$tests" "$edits"
+        else
             printf '| `%s` | %s | %s | %s | %s |\n' "$crate" "$(lines_of "$crate")" "$proof" "$tests" "$edits"
-        done
-    awk '{ if ($4 > most[$1 " " $3]) most[$1 " " $3] = $4 }
-        END { for (key in most) { split(key, part, " "); spent[part[2]] += most[key] }
-            printf "| all | | %.1f | %.1f | %.1f |\n", spent["proof"] / 60, spent["tests"] / 60, spent["edits"] / 60 }' "$1"
+        fi
+    done
 }
 
 case ${1:-} in
     record) record "${@:2}" ;;
+    watch) watch "$2" ;;
     table) table "$2" ;;
-    *) sed -n '2,8s/^# \{0,1\}//p' "${BASH_SOURCE[0]}"; exit 2 ;;
+    short) minutes "$2" | paste -d';' - - - - - | sed 's/;*$//; s/;/; /g' ;;
+    *) sed -n '2,10s/^# \{0,1\}//p' "${BASH_SOURCE[0]}"; exit 2 ;;
 esac

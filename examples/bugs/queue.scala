@@ -1,5 +1,5 @@
 // Bug: the elements of the back come out in the wrong order.
-// pureproof --rounds 3 examples/bugs/queue.scala
+// pureproof examples/bugs/queue.scala
 // enqueueAppends: invalid, postcondition at 1:28:5, ..
 object Queues {
   sealed abstract class List

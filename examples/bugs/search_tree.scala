@@ -1,5 +1,5 @@
 // Bug: greater keys go to the left where they should go to the right.
-// pureproof --depth 2 --rounds 3 examples/bugs/search_tree.scala
+// pureproof examples/bugs/search_tree.scala
 // insert: invalid, postcondition at 1:26:5, ..
 object SearchTrees {
   sealed trait Tree

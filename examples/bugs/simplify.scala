@@ -1,5 +1,5 @@
 // Bug: `0 * e` is simplified to `e`, as `0 + e` is.
-// pureproof --depth 2 --rounds 3 examples/bugs/simplify.scala
+// pureproof examples/bugs/simplify.scala
 // keepsValue: invalid, postcondition at 1:32:5, ..
 object Terms {
   sealed trait Term
