@@ -87,27 +87,23 @@ module _ (types : TypeTable) (fs : List Function) where
   called_frame n g args = frame_at types (inner_calls types fs n) (slice_get fs g.0) args
 
   -- a call with fuel left
+  -- a called frame with the same fuel
+  same_fuel : (n k : ℕ) (g : FunctionId) (check : Option CheckId) (old args : List Shape) → n ≡ k
+      → visit (called_frame n g args).shape
+      ((called_frame n g args).events ++ compared types check (called_frame n g args).measure old)
+      ≡ visit (called_frame k g args).shape
+      ((called_frame k g args).events ++ compared types check (called_frame k g args).measure old)
+  same_fuel n k g check old args e =
+      ap (λ (m : ℕ). visit (called_frame m g args).shape
+      ((called_frame m g args).events ++ compared types check (called_frame m g args).measure old)) e
+
   call_is : (own : Bool) (fuel : ℕ) (g : FunctionId) (check : Option CheckId) (old args : List Shape) → (fuel ≡ 0 → ⊥)
       → calls_from types fs own fuel g check old args
       ≡ visit (called_frame (fuel - 1) g args).shape
       ((called_frame (fuel - 1) g args).events ++ compared types check (called_frame (fuel - 1) g args).measure old)
   call_is own zero g check old args ne = absurd (ne refl)
-  call_is true (suc n) g check old args ne = by (suc n - 1) (omega arith)
-    where
-      by : (k : ℕ) → n ≡ k → visit (called_frame n g args).shape
-          ((called_frame n g args).events ++ compared types check (called_frame n g args).measure old)
-          ≡ visit (called_frame k g args).shape ((called_frame k g args).events
-          ++ compared types check (called_frame k g args).measure old)
-      by k e = ap (λ (m : ℕ). visit (called_frame m g args).shape
-          ((called_frame m g args).events ++ compared types check (called_frame m g args).measure old)) e
-  call_is false (suc n) g check old args ne = by (suc n - 1) (omega arith)
-    where
-      by : (k : ℕ) → n ≡ k → visit (called_frame n g args).shape
-          ((called_frame n g args).events ++ compared types check (called_frame n g args).measure old)
-          ≡ visit (called_frame k g args).shape ((called_frame k g args).events
-          ++ compared types check (called_frame k g args).measure old)
-      by k e = ap (λ (m : ℕ). visit (called_frame m g args).shape
-          ((called_frame m g args).events ++ compared types check (called_frame m g args).measure old)) e
+  call_is true (suc n) g check old args ne = same_fuel n (suc n - 1) g check old args (omega arith)
+  call_is false (suc n) g check old args ne = same_fuel n (suc n - 1) g check old args (omega arith)
 
   pub frame_found : (memo slice : List Known) (i : ℕ) (d : Known) (frame : Framed) → IsFrameAt memo i frame
       → slice ≡ memo → (get_or slice i d).frame ≡ frame
