@@ -25,13 +25,13 @@ pub record Digits (gs : List Gate) (n : ℕ) (ls : List Literal) : Type 0 where
   pub len : length ls ≡ n
   pub of : All (IsOf gs) ls
 
-pub Digits_none : (gs : List Gate) (ls : List Literal) → ls ≡ [] → Digits gs 0 ls
-Digits_none gs ls e = record { len = ap length e; of = subst (All (IsOf gs)) (sym e) (All-nil (IsOf gs)) }
+pub Digits_none : {gs : List Gate} {ls : List Literal} → ls ≡ [] → Digits gs 0 ls
+Digits_none {gs} e = record { len = ap length e; of = subst (All (IsOf gs)) (sym e) (All-nil (IsOf gs)) }
 
 -- one more, in a circuit that has grown
-pub Digits_push : (old new : List Gate) (m n : ℕ) (ls all : List Literal) (l : Literal) → Digits old n ls
+pub Digits_push : {old new : List Gate} {m n : ℕ} {ls all : List Literal} {l : Literal} → Digits old n ls
     → Grows old new m → IsOf new l → all ≡ ls ++ l ∷ [] → Digits new (n + 1) all
-Digits_push old new m n ls all l d g of e = record {
+Digits_push {old} {new} {m} {n} {ls} {all} {l} d g of e = record {
   len = ap length e ∙ length-append ls (l ∷ []) ∙ ap (λ (k : ℕ). k + 1) d.len;
   of = subst (All (IsOf new)) (sym e) (All-push (IsOf new) ls l (AreOf_more old new m ls g d.of) of);
 }

@@ -1,9 +1,7 @@
 pub mod Growing
 pub mod Numbers
-pub mod Choices
 pub mod Sums
 pub mod Orders
 pub mod Signs
 pub mod ByDigit
-pub mod Parts
 pub mod Chosen

@@ -1,12 +1,8 @@
 pub mod Places
-pub mod Same
 pub mod Kept
-pub mod Meaning
 pub mod Agreement
 pub mod Extension
 pub mod Growing
-pub mod Lengths
 pub mod Clausal
-pub mod Turns
 pub mod Marking
 pub mod Cones

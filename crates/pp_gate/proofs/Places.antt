@@ -1,6 +1,6 @@
 -- Where elements stand in a list that has grown.
-use Rattle.std.proofs.Common.{◌≡◌, ℕ, zero, suc, ◌<◌, List, [], ◌∷◌, ◌++◌, length, slice_get, slice_index_or, Some}
-use Rattle.std.proofs.Common.{refl, ap, ◌⊎◌, inl, inr, arith}
+use Rattle.std.proofs.Common.{◌≡◌, ℕ, zero, suc, ◌<◌, List, [], ◌∷◌, ◌++◌, length, slice_get, slice_index_or}
+use Rattle.std.proofs.Common.{Some, refl, ap, ◌⊎◌, inl, inr, arith}
 use Rattle.std.proofs.lemmas.Option.{slice_get_cases, slice_get_read}
 
 pub at_left : {X : Type 0} (xs ys : List X) (k : ℕ) (x : X) → slice_get xs k ≡ Some x → slice_get (xs ++ ys) k ≡ Some x
@@ -22,11 +22,7 @@ at_next (y ∷ xs) ys x = at_next xs ys x
 
 -- an element stands at each place
 pub at_some : {X : Type 0} (xs : List X) (k : ℕ) → k < length xs → (x : X) × (slice_get xs k ≡ Some x)
-at_some xs k h =
-    elim (slice_get_cases xs k).1 [
-      | inl a ↦ (a.0, a.2)
-      | inr b ↦ absurd (omega (arith, b.0, h))
-    ]
+at_some xs k h = elim (slice_get_cases xs k).1 [ inl a ↦ (a.0, a.2) | inr b ↦ absurd (omega arith) ]
 
 -- the element that the code read at a place stands there
 pub at_read : {X : Type 0} (xs : List X) (k : ℕ) (x : X) → k < length xs → x ≡ slice_index_or xs k x

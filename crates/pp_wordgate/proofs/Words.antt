@@ -1,44 +1,38 @@
 -- What equations on the numbers of words say of the integers that the words stand for.
 use Rattle.std.proofs.Common.{to_z, of_z, ◌≡◌, ◌↔◌, ℕ, ◌*◌, ◌/◌, ◌%◌, ◌^◌, ◌<◌, ◌≤◌, ◌==◌, Bool, true, false}
-use Rattle.std.proofs.Common.{if◌then◌else◌, List, length, take, refl, sym, ap, ◌∙◌, subst, arith}
+use Rattle.std.proofs.Common.{if◌then◌else◌, List, length, take, refl, sym, ap, ◌∙◌, subst}
 use Rattle.std.specs.Int.{Width, int_shr, cast_signed, cast_unsigned}
 use Rattle.std.proofs.Math.Nat.{mod-eq_of_lt}
 use Rattle.std.specs.Int.RustNames.{FitsSigned, int_lt}
 use Rattle.std.proofs.lemmas.Int.{to_z-of_z}
-use Rattle.std.proofs.lemmas.Bool.Decides.{nat_tests}
+use Rattle.std.proofs.lemmas.Bool.{eqb-true, eq-eqb}
 use Rattle.pp_clause.specs.Literal.{Literal}
 use Rattle.pp_gate.specs.declared.gate.Gate.{Gate}
 use Rattle.pp_word.specs.Word.{shift_distance, word_shl, word_shr, word_ushr, word_less}
 use Rattle.pp_word.proofs.Ranges.{cast_unsigned_below, IsWord-from_fits, fits_from_IsWord, IsWord-cast_signed}
 use Rattle.pp_word.specs.Wrapping.{IsWord}
-use Rattle.pp_wordlaws.proofs.Readings.{same_reading}
+use Rattle.pp_wordlaws.proofs.Readings.{OfBits, same_reading}
 use Rattle.pp_wordlaws.proofs.Moves.{left_of_bits, unsigned_right_of_bits, distance_of_bits}
 use Rattle.pp_gate.specs.Circuit.{Gives}
 use Rattle.pp_bits.specs.Inputs.{ChosenNumber}
 use Rattle.pp_bits.specs.Number.{nat_of, signed_of, StandsForNumber}
-use Rattle.pp_bits.proofs.Numbers.{nat_of_below}
+use Rattle.pp_bits.proofs.Numbers.{nat_of_take, nat_of_within}
 use Rattle.pp_bits.proofs.Signs.{signed_by_cast}
-use Rattle.pp_bits.proofs.Parts.{nat_of_take}
 use Rattle.pp_wordgate.specs.Meaning.{word_of, StandsForWord, ChosenWord}
 use lib.IntN.{ℤ}
 use mir.Val.{bits}
 
--- the number of a word
-pub below_bits : (w : Width) (s : ℕ → Bool) (a : List Literal) → length a ≡ bits w → nat_of s a < 2 ^ bits w
-below_bits w s a len = subst (λ n. nat_of s a < 2 ^ n) len (nat_of_below s a)
-
 -- ---- words that a call answers
 
-pub same_word : (w : Width) (gs : List Gate) (digits r : List Literal) (meaning : (ℕ → Bool) → ℤ) → r ≡ digits
+pub same_word : (w : Width) {gs : List Gate} {digits r : List Literal} {meaning : (ℕ → Bool) → ℤ} → r ≡ digits
     → StandsForWord w gs digits meaning → StandsForWord w gs r meaning
-same_word w gs digits r meaning e h = subst (λ ls. StandsForWord w gs ls meaning) (sym e) h
+same_word w {gs} {digits} {r} {meaning} e h = subst (λ ls. StandsForWord w gs ls meaning) (sym e) h
 
 -- the digits that were made, as a word
-pub from_digits : (w : Width) (gs : List Gate) (n : ℕ) (digits r : List Literal) (number : (ℕ → Bool) → ℕ)
-    (meaning : (ℕ → Bool) → ℤ) → r ≡ digits → n ≡ bits w
-    → StandsForNumber gs n digits number → ((s : ℕ → Bool) → nat_of s digits ≡ number s
-    → word_of w s digits ≡ meaning s) → StandsForWord w gs r meaning
-from_digits w gs n digits r number meaning e wide stands means = same_word w gs digits r meaning e (record {
+pub from_digits : (w : Width) {gs : List Gate} {n : ℕ} {digits r : List Literal} {number : (ℕ → Bool) → ℕ}
+    {meaning : (ℕ → Bool) → ℤ} → r ≡ digits → n ≡ bits w → StandsForNumber gs n digits number
+    → ((s : ℕ → Bool) → nat_of s digits ≡ number s → word_of w s digits ≡ meaning s) → StandsForWord w gs r meaning
+from_digits w e wide stands means = same_word w e (record {
   len = stands.len ∙ wide;
   of = stands.of;
   value = λ s gives. means s (stands.value s gives);
@@ -53,68 +47,51 @@ on_words : (w : Width) (s : ℕ → Bool) (f : ℕ → ℕ → ℕ → ℕ) (a b
 on_words w s f a b la lb r ea eb ha e =
     e ∙ (λ i. f (length (ea i)) (nat_of s (ea i)) (nat_of s (eb i))) ∙ ap (λ n. f n (nat_of s a) (nat_of s b)) ha
 
-pub binary_word : (w : Width) (f : ℕ → ℕ → ℕ → ℕ) (g : ℤ → ℤ → ℤ)
-    → ((x y z : ℕ) → x < 2 ^ bits w → y < 2 ^ bits w → z ≡ f (bits w) x y
-    → cast_signed w z ≡ g (cast_signed w x) (cast_signed w y))
-    → (gs : List Gate) (a b la lb digits r : List Literal) → r ≡ digits → la ≡ a → lb ≡ b → length a ≡ bits w
-    → length b ≡ bits w → StandsForNumber gs (length la) digits (λ s. f (length la) (nat_of s la) (nat_of s lb))
+pub binary_word : {w : Width} {f : ℕ → ℕ → ℕ → ℕ} {g : ℤ → ℤ → ℤ} {gs : List Gate} {a b la lb digits r : List Literal}
+    → OfBits w f g → r ≡ digits → la ≡ a → lb ≡ b → length a ≡ bits w → length b ≡ bits w
+    → StandsForNumber gs (length la) digits (λ s. f (length la) (nat_of s la) (nat_of s lb))
     → StandsForWord w gs r (λ s. g (word_of w s a) (word_of w s b))
 unfolding word_of
-binary_word w f g law gs a b la lb digits r er ea eb ha hb stands =
-    from_digits w gs _ _ _ _ _ er (ap length ea ∙ ha) stands
-    (λ s e. law (nat_of s a) (nat_of s b) (nat_of s digits) (below_bits w s a ha) (below_bits w s b hb)
-    (on_words w s f a b la lb digits ea eb ha e))
-
-pub unary_word : (w : Width) (f : ℕ → ℕ → ℕ) (g : ℤ → ℤ)
-    → ((x z : ℕ) → x < 2 ^ bits w → z ≡ f (bits w) x → cast_signed w z ≡ g (cast_signed w x))
-    → (gs : List Gate) (a la digits r : List Literal) → r ≡ digits → la ≡ a → length a ≡ bits w
-    → StandsForNumber gs (length la) digits (λ s. f (length la) (nat_of s la))
-    → StandsForWord w gs r (λ s. g (word_of w s a))
-unary_word w f g law gs a la digits r er ea ha stands =
-    binary_word w (λ n x y. f n x) (λ i j. g i) (λ x y z p q e. law x z p e) gs a a la la digits r er ea ea ha ha stands
+binary_word {w} {f} {g} {gs} {a} {b} {la} {lb} {digits} law er ea eb ha hb stands =
+    from_digits w er (ap length ea ∙ ha) stands
+    (λ s e. ap (cast_signed w) (on_words w s f a b la lb digits ea eb ha e)
+    ∙ law.reads (nat_of s a) (nat_of s b) (nat_of_within s a (bits w) ha) (nat_of_within s b (bits w) hb))
 
 -- ---- comparisons, constants, choices
 
 -- the integer in two's complement is that of the word
-pub signed_word : (w : Width) (s : ℕ → Bool) (a la : List Literal) → la ≡ a → length a ≡ bits w
+signed_word : (w : Width) (s : ℕ → Bool) {a la : List Literal} → la ≡ a → length a ≡ bits w
     → signed_of (length la) (nat_of s la) ≡ word_of w s a
 unfolding word_of
-signed_word w s a la ea ha =
+signed_word w s {a} ea ha =
     (λ i. signed_of (length (ea i)) (nat_of s (ea i))) ∙ ap (λ n. signed_of n (nat_of s a)) ha
-    ∙ signed_by_cast w (nat_of s a) (below_bits w s a ha)
+    ∙ signed_by_cast w (nat_of s a) (nat_of_within s a (bits w) ha)
 
-pub less_word : (w : Width) (s : ℕ → Bool) (a b la lb : List Literal) (r : Bool) → la ≡ a → lb ≡ b → length a ≡ bits w
-    → length b ≡ bits w
-    → r ≡ int_lt (signed_of (length la) (nat_of s la)) (signed_of (length la) (nat_of s lb))
-    → r ≡ word_less (word_of w s a) (word_of w s b)
-less_word w s a b la lb r ea eb ha hb e =
+pub less_word : (w : Width) (s : ℕ → Bool) {a b la lb : List Literal} → la ≡ a → lb ≡ b → length a ≡ bits w
+    → length b ≡ bits w → int_lt (signed_of (length la) (nat_of s la)) (signed_of (length la) (nat_of s lb)) ≡
+    word_less (word_of w s a) (word_of w s b)
+less_word w s {la = la} {lb = lb} ea eb ha hb =
     let wide : length la ≡ length lb = ap length ea ∙ ha ∙ sym (ap length eb ∙ hb) in
-    e ∙ ap (λ n. int_lt (signed_of (length la) (nat_of s la)) (signed_of n (nat_of s lb))) wide
-    ∙ (λ i. int_lt (signed_word w s a la ea ha i) (signed_word w s b lb eb hb i))
+    ap (λ n. int_lt (signed_of (length la) (nat_of s la)) (signed_of n (nat_of s lb))) wide
+    ∙ (λ i. int_lt (signed_word w s ea ha i) (signed_word w s eb hb i))
 
-same_number : (m n : ℕ) → (m == n) ≡ true → m ≡ n
-same_number m n h = grind (arith, nat_tests)
-
-same_test : (m n : ℕ) → m ≡ n → (m == n) ≡ true
-same_test m n h = grind (arith, nat_tests)
-
-pub equal_word : (w : Width) (s : ℕ → Bool) (a b la lb : List Literal) (r : Bool) → la ≡ a → lb ≡ b → length a ≡ bits w
-    → length b ≡ bits w
-    → r ≡ (nat_of s la == nat_of s lb) → (r ≡ true) ↔ (word_of w s a ≡ word_of w s b)
+pub equal_word : (w : Width) (s : ℕ → Bool) {a b la lb : List Literal} {r : Bool} → la ≡ a → lb ≡ b
+    → length a ≡ bits w → length b ≡ bits w → r ≡ (nat_of s la == nat_of s lb)
+    → (r ≡ true) ↔ (word_of w s a ≡ word_of w s b)
 unfolding word_of
-equal_word w s a b la lb r ea eb ha hb e =
+equal_word w s {a} {b} {r = r} ea eb ha hb e =
     let is : r ≡ (nat_of s a == nat_of s b) = e ∙ (λ i. nat_of s (ea i) == nat_of s (eb i)) in (
-      λ h. ap (cast_signed w) (same_number (nat_of s a) (nat_of s b) (sym is ∙ h)),
-      λ h. is ∙ same_test (nat_of s a) (nat_of s b) (same_reading w (nat_of s a) (nat_of s b) (below_bits w s a ha)
-          (below_bits w s b hb) h),
+      λ h. ap (cast_signed w) (eqb-true (nat_of s a) (nat_of s b) (sym is ∙ h)),
+      λ h. is ∙ eq-eqb (nat_of s a) (nat_of s b) (same_reading w (nat_of s a) (nat_of s b)
+          (nat_of_within s a (bits w) ha) (nat_of_within s b (bits w) hb) h),
     )
 
-pub chosen_word : (w : Width) (s : ℕ → Bool) (a b la lb r : List Literal) (choice : Bool) → la ≡ a → lb ≡ b
-    → nat_of s r ≡ (if choice then nat_of s la else nat_of s lb)
+pub chosen_word : (w : Width) (s : ℕ → Bool) {a b la lb : List Literal} (r : List Literal) (choice : Bool) → la ≡ a
+    → lb ≡ b → nat_of s r ≡ (if choice then nat_of s la else nat_of s lb)
     → word_of w s r ≡ (if choice then word_of w s a else word_of w s b)
 unfolding word_of
-chosen_word w s a b la lb r true ea eb e = ap (cast_signed w) (e ∙ ap (nat_of s) ea)
-chosen_word w s a b la lb r false ea eb e = ap (cast_signed w) (e ∙ ap (nat_of s) eb)
+chosen_word w s r true ea eb e = ap (cast_signed w) (e ∙ ap (nat_of s) ea)
+chosen_word w s r false ea eb e = ap (cast_signed w) (e ∙ ap (nat_of s) eb)
 
 -- the digits of a value's unsigned reading are the bits of the value
 pub constant_word : (w : Width) (s : ℕ → Bool) (r : List Literal) (v : ℤ) (n : ℕ) → FitsSigned w v → n < 2 ^ bits w
@@ -125,51 +102,51 @@ constant_word w s r v n f small is e =
 
 -- ---- shifts, by the number of the lowest k literals of a word as long or shorter, where there are 2^k places
 
-pub distance_word : (w v : Width) (s : ℕ → Bool) (k : ℕ) (b lb d : List Literal) → 2 ^ k ≡ bits w → k ≤ bits v
+pub distance_word : (w v : Width) (s : ℕ → Bool) (k : ℕ) {b lb d : List Literal} → 2 ^ k ≡ bits w → k ≤ bits v
     → bits v ≤ bits w → lb ≡ b → length b ≡ bits v
     → d ≡ take k lb → shift_distance w (word_of v s b) ≡ nat_of s d
 unfolding word_of
-distance_word w v s k b lb d places some shorter eb hb e =
-    distance_of_bits w v k (nat_of s b) (nat_of s d) places some shorter (below_bits v s b hb)
-    (ap (nat_of s) (e ∙ ap (take k) eb) ∙ nat_of_take s k b (subst (λ n. k ≤ n) (sym hb) some)
+distance_word w v s k {b} places some shorter eb hb e =
+    distance_of_bits w v k (nat_of s b) places some shorter (nat_of_within s b (bits v) hb)
+    ∙ sym (ap (nat_of s) (e ∙ ap (take k) eb) ∙ nat_of_take s k b (subst (λ n. k ≤ n) (sym hb) some)
     ∙ ap (λ n. nat_of s b % n) places)
 
-pub left_word : (w : Width) (s : ℕ → Bool) (a la d r : List Literal) (z : ℤ) → la ≡ a → length a ≡ bits w
-    → shift_distance w z ≡ nat_of s d
+pub left_word : (w : Width) (s : ℕ → Bool) {a la : List Literal} (d r : List Literal) (z : ℤ) → la ≡ a
+    → length a ≡ bits w → shift_distance w z ≡ nat_of s d
     → nat_of s r ≡ (nat_of s la * 2 ^ nat_of s d) % 2 ^ length la → word_of w s r ≡ word_shl w (word_of w s a) z
 unfolding word_of
-left_word w s a la d r z ea ha far e =
-    left_of_bits w (nat_of s a) (nat_of s d) (nat_of s r) z (below_bits w s a ha) far
-    (on_words w s (λ n x i. (x * 2 ^ i) % 2 ^ n) a d la d r ea refl ha e)
+left_word w s {a} {la} d r z ea ha far e =
+    ap (cast_signed w) (on_words w s (λ n x i. (x * 2 ^ i) % 2 ^ n) a d la d r ea refl ha e)
+    ∙ left_of_bits w (nat_of s a) (nat_of s d) z (nat_of_within s a (bits w) ha) far
 
-pub unsigned_right_word : (w : Width) (s : ℕ → Bool) (a la d r : List Literal) (z : ℤ) → la ≡ a → length a ≡ bits w
-    → shift_distance w z ≡ nat_of s d
+pub unsigned_right_word : (w : Width) (s : ℕ → Bool) {a la : List Literal} (d r : List Literal) (z : ℤ) → la ≡ a
+    → length a ≡ bits w → shift_distance w z ≡ nat_of s d
     → nat_of s r ≡ nat_of s la / 2 ^ nat_of s d → word_of w s r ≡ word_ushr w (word_of w s a) z
 unfolding word_of
-unsigned_right_word w s a la d r z ea ha far e =
-    unsigned_right_of_bits w (nat_of s a) (nat_of s d) (nat_of s r) z (below_bits w s a ha) far
-    (on_words w s (λ n x i. x / 2 ^ i) a d la d r ea refl ha e)
+unsigned_right_word w s {a} {la} d r z ea ha far e =
+    ap (cast_signed w) (on_words w s (λ n x i. x / 2 ^ i) a d la d r ea refl ha e)
+    ∙ unsigned_right_of_bits w (nat_of s a) (nat_of s d) z (nat_of_within s a (bits w) ha) far
 
-pub right_word : (w : Width) (s : ℕ → Bool) (a la d r : List Literal) (z : ℤ) → la ≡ a → length a ≡ bits w
-    → shift_distance w z ≡ nat_of s d
+pub right_word : (w : Width) (s : ℕ → Bool) {a la : List Literal} (d r : List Literal) (z : ℤ) → la ≡ a
+    → length a ≡ bits w → shift_distance w z ≡ nat_of s d
     → length r ≡ length la → signed_of (length la) (nat_of s r) ≡ int_shr (signed_of (length la) (nat_of s la))
     (nat_of s d)
     → word_of w s r ≡ word_shr w (word_of w s a) z
 unfolding word_of word_shr
-right_word w s a la d r z ea ha far len e =
-    sym (ap (λ n. signed_of n (nat_of s r)) (sym len) ∙ signed_word w s r r refl (len ∙ ap length ea ∙ ha))
+right_word w s {a} d r z ea ha far len e =
+    sym (ap (λ n. signed_of n (nat_of s r)) (sym len) ∙ signed_word w s {a = r} refl (len ∙ ap length ea ∙ ha))
     ∙ e
-    ∙ ap (λ i. int_shr i (nat_of s d)) (signed_word w s a la ea ha)
+    ∙ ap (λ i. int_shr i (nat_of s d)) (signed_word w s ea ha)
     ∙ ap (int_shr (word_of w s a)) (sym far)
 
 -- ---- words of inputs, and the values that are read
 
 -- inputs that stand for each number stand for each integer
-pub chosen_word_of : (w : Width) (old new : List Gate) (digits r : List Literal) (n : ℕ) → r ≡ digits → n ≡ bits w
+pub chosen_word_of : (w : Width) {old new : List Gate} {digits r : List Literal} {n : ℕ} → r ≡ digits → n ≡ bits w
     → ((s : ℕ → Bool) → Gives s old → (v : ℕ) → v < 2 ^ n → ChosenNumber old new s digits v)
     → (s : ℕ → Bool) → Gives s old → (v : ℤ) → FitsSigned w v → ChosenWord w old new s r v
 unfolding word_of
-chosen_word_of w old new digits r n e wide chosen s gives v fits =
+chosen_word_of w {old} {new} {digits} {n = n} e wide chosen s gives v fits =
     let small : cast_unsigned w v < 2 ^ n =
     subst (λ k. cast_unsigned w v < 2 ^ k) (sym wide) (cast_unsigned_below w v (IsWord-from_fits w v fits)) in
     let c : ChosenNumber old new s digits (cast_unsigned w v) = chosen s gives (cast_unsigned w v) small in
@@ -180,12 +157,12 @@ chosen_word_of w old new digits r n e wide chosen s gives v fits =
       value = ap (λ l. cast_signed w (nat_of c.assignment l)) e ∙ ap (cast_signed w) c.number ∙ to_z-of_z w v fits;
     }
 
-pub value_of_word : (w : Width) (s : ℕ → Bool) (a la : List Literal) (n : ℕ) (v : ℤ) → la ≡ a → length a ≡ bits w
+pub value_of_word : (w : Width) (s : ℕ → Bool) {a la : List Literal} {n : ℕ} {v : ℤ} → la ≡ a → length a ≡ bits w
     → n ≡ nat_of s la → v ≡ cast_signed w n
     → to_z w (of_z w v) ≡ word_of w s a
 unfolding word_of
-value_of_word w s a la n v e wide f g =
+value_of_word w s {a} {n = n} {v = v} e wide f g =
     let same : n ≡ nat_of s a = f ∙ ap (nat_of s) e in
-    let small : n < 2 ^ bits w = subst (λ k. k < 2 ^ bits w) (sym same) (below_bits w s a wide) in
+    let small : n < 2 ^ bits w = subst (λ k. k < 2 ^ bits w) (sym same) (nat_of_within s a (bits w) wide) in
     to_z-of_z w v (fits_from_IsWord w v (subst (IsWord w) (sym g) (IsWord-cast_signed w n small))) ∙ g
     ∙ ap (cast_signed w) same

@@ -1,22 +1,25 @@
 -- The operations on each bit of words, from the bits.
-use Rattle.std.proofs.Common.{◌≡◌, ℕ, ◌^◌, ◌<◌, sym, ap, ◌∙◌}
-use Rattle.std.specs.Int.{Width, cast_signed}
+use Rattle.std.proofs.Common.{ℕ, ap, sym}
+use Rattle.std.specs.Int.{Width, cast_signed, cast_unsigned}
 use Rattle.std.specs.Int.RustNames.{bit_and, bit_or, bit_xor}
 use Rattle.std.proofs.lemmas.Int.{of_z-to_z}
 use Rattle.pp_word.specs.Word.{word_and, word_or, word_xor}
-use mir.Val.{bits}
+use Rattle.pp_wordlaws.proofs.Readings.{OfBits}
 
-pub and_of_bits : (w : Width) (a b r : ℕ) → a < 2 ^ bits w → b < 2 ^ bits w → r ≡ bit_and a b
-    → cast_signed w r ≡ word_and w (cast_signed w a) (cast_signed w b)
+by_numbers : (w : Width) (f : ℕ → ℕ → ℕ)
+    → OfBits w (λ n a b. f a b) (λ x y. cast_signed w (f (cast_unsigned w x) (cast_unsigned w y)))
+by_numbers w f = record {
+  reads = λ a b p q. ap (cast_signed w) (λ i. f (sym (of_z-to_z w a p) i) (sym (of_z-to_z w b q) i));
+}
+
+pub and_of_bits : (w : Width) → OfBits w (λ n a b. bit_and a b) (word_and w)
 unfolding word_and
-and_of_bits w a b r p q e = ap (cast_signed w) (e ∙ (λ i. bit_and (sym (of_z-to_z w a p) i) (sym (of_z-to_z w b q) i)))
+and_of_bits w = by_numbers w bit_and
 
-pub or_of_bits : (w : Width) (a b r : ℕ) → a < 2 ^ bits w → b < 2 ^ bits w → r ≡ bit_or a b
-    → cast_signed w r ≡ word_or w (cast_signed w a) (cast_signed w b)
+pub or_of_bits : (w : Width) → OfBits w (λ n a b. bit_or a b) (word_or w)
 unfolding word_or
-or_of_bits w a b r p q e = ap (cast_signed w) (e ∙ (λ i. bit_or (sym (of_z-to_z w a p) i) (sym (of_z-to_z w b q) i)))
+or_of_bits w = by_numbers w bit_or
 
-pub xor_of_bits : (w : Width) (a b r : ℕ) → a < 2 ^ bits w → b < 2 ^ bits w → r ≡ bit_xor a b
-    → cast_signed w r ≡ word_xor w (cast_signed w a) (cast_signed w b)
+pub xor_of_bits : (w : Width) → OfBits w (λ n a b. bit_xor a b) (word_xor w)
 unfolding word_xor
-xor_of_bits w a b r p q e = ap (cast_signed w) (e ∙ (λ i. bit_xor (sym (of_z-to_z w a p) i) (sym (of_z-to_z w b q) i)))
+xor_of_bits w = by_numbers w bit_xor

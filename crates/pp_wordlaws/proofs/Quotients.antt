@@ -26,29 +26,26 @@ int_rem-signed (pos a) d = refl
 int_rem-signed (negsuc a) d = refl
 
 -- the number of the bits that a division makes: the quotient of the magnitudes, with its sign
-pub quotient_of_bits : (w : Width) (n d : ℤ) (q rest r : ℕ) → IsWord w n → q * unsigned_abs d + rest ≡ unsigned_abs n
+pub quotient_of_bits : (w : Width) (n d : ℤ) (q rest : ℕ) → IsWord w n → q * unsigned_abs d + rest ≡ unsigned_abs n
     → rest < unsigned_abs d
-    → r ≡ cond (differ (is_negative n) (is_negative d)) ((2 ^ bits w - q) % 2 ^ bits w) q
-    → cast_signed w r ≡ word_div w n d
+    → cast_signed w (cond (differ (is_negative n) (is_negative d)) ((2 ^ bits w - q) % 2 ^ bits w) q) ≡ word_div w n d
 unfolding word_div
-quotient_of_bits w n d q rest r is whole below e =
+quotient_of_bits w n d q rest is whole below =
     let quotient : unsigned_abs n / unsigned_abs d ≡ q =
     ap (λ u. u / unsigned_abs d) (sym whole) ∙ div-mul-add q (unsigned_abs d) rest below in
     let small : q < 2 ^ bits w =
     omega (arith, magnitude_below w n is, quotient, div-le_self (unsigned_abs n) (unsigned_abs d)) in
-    ap (cast_signed w) e
-    ∙ wrap_signed w (differ (is_negative n) (is_negative d)) q small
+    wrap_signed w (differ (is_negative n) (is_negative d)) q small
     ∙ ap (int_wrap w) (sym (int_div-signed n d ∙ ap (signed (differ (is_negative n) (is_negative d))) quotient))
 
 -- and of a remainder: that of the magnitudes, with the dividend's sign
-pub remainder_of_bits : (w : Width) (n d : ℤ) (q rest r : ℕ) → IsWord w n → rest < 2 ^ bits w
+pub remainder_of_bits : (w : Width) (n d : ℤ) (q rest : ℕ) → IsWord w n → rest < 2 ^ bits w
     → q * unsigned_abs d + rest ≡ unsigned_abs n → rest < unsigned_abs d
-    → r ≡ cond (is_negative n) ((2 ^ bits w - rest) % 2 ^ bits w) rest → cast_signed w r ≡ word_rem w n d
+    → cast_signed w (cond (is_negative n) ((2 ^ bits w - rest) % 2 ^ bits w) rest) ≡ word_rem w n d
 unfolding word_rem
-remainder_of_bits w n d q rest r is small whole below e =
+remainder_of_bits w n d q rest is small whole below =
     let remainder : unsigned_abs n % unsigned_abs d ≡ rest =
     ap (λ u. u % unsigned_abs d) (sym whole) ∙ mod-mul-add q (unsigned_abs d) rest below in
-    ap (cast_signed w) e
-    ∙ wrap_signed w (is_negative n) rest small
+    wrap_signed w (is_negative n) rest small
     ∙ ap (int_wrap w) (sym (int_rem-signed n d ∙ ap (signed (is_negative n)) remainder))
     ∙ int_wrap_fits w (int_rem n d) (fits_from_IsWord w (int_rem n d) (fits_remainder w n d is))

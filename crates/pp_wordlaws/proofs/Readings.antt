@@ -13,21 +13,14 @@ use Rattle.pp_word.specs.Wrapping.{IsWord}
 use Rattle.pp_word.proofs.Ranges.{halves}
 use mir.Val.{bits, hbits, sel}
 
--- a number below half of the words is read as it is
-pub read_low : (w : Width) (u : ℕ) → u < 2 ^ hbits w → cast_signed w u ≡ pos u
-read_low w u h = to_z_pos w u h
+-- the operation g makes of two words what f makes of the numbers of their n bits
+pub record OfBits (w : Width) (f : ℕ → ℕ → ℕ → ℕ) (g : ℤ → ℤ → ℤ) : Type 0 where
+  pub reads : (a b : ℕ) → a < 2 ^ bits w → b < 2 ^ bits w
+      → cast_signed w (f (bits w) a b) ≡ g (cast_signed w a) (cast_signed w b)
 
--- and another as a negative number
+-- a number not below half of the words is read as a negative number
 pub read_high : (w : Width) (u : ℕ) → 2 ^ hbits w ≤ u → cast_signed w u ≡ negsuc (2 ^ bits w - suc u)
 read_high w u h = ap (λ t. sel t (pos u) (negsuc (2 ^ bits w - suc u))) (le-ltb u (2 ^ hbits w) h)
-
--- the bits of a wrapped number that is not negative, and of the negative of one
-pub wrap_pos : (w : Width) (q : ℕ) → int_wrap w (pos q) ≡ cast_signed w (q % 2 ^ bits w)
-wrap_pos w q = wrap_from w (pos q) 0 q (omega (arith, ints))
-
-pub wrap_neg : (w : Width) (q : ℕ) → q ≤ 2 ^ bits w
-    → int_wrap w (neg_ℤ (pos q)) ≡ cast_signed w ((2 ^ bits w - q) % 2 ^ bits w)
-wrap_neg w q h = wrap_from w (neg_ℤ (pos q)) 1 (2 ^ bits w - q) (omega (arith, ints))
 
 -- bits that are read as one word are one number
 pub same_reading : (w : Width) (m n : ℕ) → m < 2 ^ bits w → n < 2 ^ bits w → cast_signed w m ≡ cast_signed w n → m ≡ n
@@ -46,14 +39,14 @@ signed true n = neg_ℤ (pos n)
 -- the top bit is the sign
 pub is_negative-cast_signed : (w : Width) (u : ℕ) → is_negative (cast_signed w u) ≡ leb (2 ^ hbits w) u
 is_negative-cast_signed w u = ⊎_elim
-    (λ low. ap is_negative (read_low w u low) ∙ sym (lt-leb (2 ^ hbits w) u low))
+    (λ low. ap is_negative (to_z_pos w u low) ∙ sym (lt-leb (2 ^ hbits w) u low))
     (λ high. ap is_negative (read_high w u high) ∙ sym (le-leb (2 ^ hbits w) u high))
     (cases_lt u (2 ^ hbits w))
 
 -- the bits of the magnitude: those of the negative, where the sign is set
 pub unsigned_abs-cast_signed : (w : Width) (u : ℕ) (negative : Bool) → u < 2 ^ bits w → negative ≡ leb (2 ^ hbits w) u
     → unsigned_abs (cast_signed w u) ≡ cond negative ((2 ^ bits w - u) % 2 ^ bits w) u
-unsigned_abs-cast_signed w u false h e = ap unsigned_abs (read_low w u (leb-false (2 ^ hbits w) u (sym e)))
+unsigned_abs-cast_signed w u false h e = ap unsigned_abs (to_z_pos w u (leb-false (2 ^ hbits w) u (sym e)))
 unsigned_abs-cast_signed w u true h e =
     let high : 2 ^ hbits w ≤ u = leb-true (2 ^ hbits w) u (sym e) in
     let some : 2 ^ bits w - u < 2 ^ bits w = omega (arith, pow_pos (hbits w)) in
@@ -63,8 +56,9 @@ unsigned_abs-cast_signed w u true h e =
 -- the bits of a number with a sign, wrapped
 pub wrap_signed : (w : Width) (negative : Bool) (q : ℕ) → q < 2 ^ bits w
     → cast_signed w (cond negative ((2 ^ bits w - q) % 2 ^ bits w) q) ≡ int_wrap w (signed negative q)
-wrap_signed w false q h = ap (cast_signed w) (sym (mod-eq_of_lt h)) ∙ sym (wrap_pos w q)
-wrap_signed w true q h = sym (wrap_neg w q (omega arith))
+wrap_signed w false q h =
+    ap (cast_signed w) (sym (mod-eq_of_lt h)) ∙ sym (wrap_from w (pos q) 0 q (omega (arith, ints)))
+wrap_signed w true q h = sym (wrap_from w (neg_ℤ (pos q)) 1 (2 ^ bits w - q) (omega (arith, ints)))
 
 pub magnitude_below : (w : Width) (z : ℤ) → IsWord w z → unsigned_abs z < 2 ^ bits w
 magnitude_below w (pos n) h = omega (arith, ints, halves w)

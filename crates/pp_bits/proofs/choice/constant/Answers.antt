@@ -1,12 +1,14 @@
-use Rattle.std.proofs.Common.{arith}
+use Rattle.std.proofs.Common.{◌^◌, ◌%◌, ap, ◌∙◌, arith}
+use Rattle.pp_bits.specs.Number.{nat_of}
 use Rattle.pp_bits.proofs.Growing.{Digits_none, Digits_push, Grows_none}
-use Rattle.pp_bits.proofs.Choices.{constant_none, constant_turn, constant_value}
+use Rattle.pp_bits.proofs.ByDigit.{constant_turn}
+use Rattle.pp_bits.proofs.Numbers.{nat_of_nil, nat_of_within, remainder_is}
 use Rattle.pp_bits.proofs.choice.constant.Goals as goal
 
 pub loop-place-init : goal.loop-place-init
 loop-place-init c = record {
-  digits = Digits_none _ _ c.in_ok-digits.ensures.items;
-  value = λ s gives. constant_none s _ _ c.in_ok-digits.ensures.items;
+  digits = Digits_none c.in_ok-digits.ensures.items;
+  value = λ s gives. omega (arith, ap (nat_of s) c.in_ok-digits.ensures.items, nat_of_nil s);
 }
 
 pub loop-place-preserved : goal.loop-place-preserved
@@ -15,7 +17,7 @@ loop-place-preserved c =
     let push = c.in_ok-push.ensures.items in
     let known = c.known-digit.ensures in
     record {
-      digits = Digits_push _ _ _ _ _ _ _ now.digits (Grows_none _) (known.of _ c.truth-truth.ensures.stands.of) push;
+      digits = Digits_push now.digits (Grows_none _) (known.of _ c.truth-truth.ensures.stands.of) push;
       value = λ s gives. constant_turn s _ _ _ _ _ _ now.digits.len push
           (known.value s (c.truth-truth.ensures.stands.value s gives)) (now.value s gives);
     }
@@ -26,5 +28,6 @@ returns-clause-stands c =
     record {
       len = omega (arith, end.digits.len);
       of = end.digits.of;
-      value = λ s gives. constant_value s _ _ _ _ _ (omega arith) end.digits.len (end.value s gives);
+      value = λ s gives. remainder_is _ _ _ _ (nat_of_within s _ _ end.digits.len) (end.value s gives)
+          ∙ ap (λ k. c.args.value % 2 ^ k) (omega arith);
     }

@@ -13,7 +13,7 @@ loop-place-init c =
       grows = Grows_none _;
       circuit = c.in_ok-digits.ensures.circuit;
       inputs = inputs_none _ _ none;
-      chosen = λ s gives v lt. chosen_none _ _ none s gives v lt;
+      chosen = chosen_none _ _ none;
     }
 
 pub loop-place-preserved : goal.loop-place-preserved

@@ -1,8 +1,6 @@
-use Rattle.std.proofs.Common.{ap, ◌∙◌, ◌^◌, ◌-◌, sym}
-use Rattle.pp_bits.specs.Number.{bit, nat_of}
+use Rattle.std.proofs.Common.{◌∙◌}
 use Rattle.pp_bits.proofs.Growing.{Gives_before}
-use Rattle.pp_bits.proofs.Numbers.{nat_of_within}
-use Rattle.pp_bits.proofs.Sums.{difference_value}
+use Rattle.pp_bits.proofs.Sums.{inverted_value, difference_value}
 use Rattle.pp_bits.proofs.sum.sub.Goals as goal
 
 pub returns-clause-stands : goal.returns-clause-stands
@@ -13,9 +11,8 @@ returns-clause-stands c =
       of = sum.stands.of;
       value = λ s gives.
           let before = Gives_before _ _ _ sum.adds s gives in
-          let one = ap bit (c.truth-one.ensures.stands.value s before) in
-          let inverted = ap (nat_of s) c.deref.ensures.value ∙ c.in_ok-inverted.ensures.stands.value s before
-          ∙ ap (λ k. 2 ^ k - 1 - nat_of s c.args.b.now) (sym c.requires.same) in
-          sum.stands.value s gives ∙ difference_value _ _ _ _ _ (nat_of_within s _ _ (sym c.requires.same)) inverted
-          one;
+          sum.stands.value s gives
+          ∙ difference_value _ _ _ _ _ (inverted_value s _ _ _ _ _ c.requires.same
+          (c.truth-one.ensures.stands.value s before) c.deref.ensures.value
+          (c.in_ok-inverted.ensures.stands.value s before));
     }

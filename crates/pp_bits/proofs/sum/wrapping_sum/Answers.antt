@@ -9,7 +9,7 @@ returns-in_ok-push-clause-stands c =
     let low = c.in_ok-digits.ensures in
     let top = c.in_ok-digit.ensures in
     let push = c.in_ok-push.ensures.items in
-    let all = Digits_push _ _ _ _ _ _ _ (record { len = low.len; of = low.of }) top.adds.grows top.stands.of push in
+    let all = Digits_push (record { len = low.len; of = low.of }) top.adds.grows top.stands.of push in
     record {
       len = wrapping_length _ _ _ _ some low.len push;
       of = all.of;

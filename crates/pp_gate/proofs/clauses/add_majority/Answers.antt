@@ -1,6 +1,5 @@
-use Rattle.std.proofs.Common.{arith, ap, ◌∙◌, ◌&&◌, Bool}
+use Rattle.std.proofs.Common.{arith}
 use Rattle.pp_clause.specs.Literal.{lit_value}
-use Rattle.pp_gate.specs.Clauses.{agrees}
 use Rattle.pp_gate.proofs.Clausal.{majority_cases}
 use Rattle.pp_gate.proofs.clauses.add_majority.Goals as goal
 
@@ -10,15 +9,10 @@ returns c =
     let two = c.in_ok-add_agreement-2.ensures in
     let three = c.in_ok-add_agreement-3.ensures in
     record {
-      most = omega (arith, one.most, two.most, three.most);
-      value = λ s.
-          let out = lit_value s c.args.out in
-          let x = lit_value s c.args.a in
-          let y = lit_value s c.args.b in
-          let z = lit_value s c.args.c in
-          three.value s
-          ∙ ap (λ (v : Bool). v && agrees out y z) (two.value s ∙ ap (λ (v : Bool). v && agrees out x z) (one.value s))
-          ∙ majority_cases _ out x y z;
+      most = omega arith;
+      value = λ s. rw (three.value s, two.value s, one.value s)
+          (majority_cases _ (lit_value s c.args.out) (lit_value s c.args.a) (lit_value s c.args.b)
+          (lit_value s c.args.c));
       within = λ n out of olds.
           let x = of 0 c.args.a (omega arith) in
           let y = of 1 c.args.b (omega arith) in

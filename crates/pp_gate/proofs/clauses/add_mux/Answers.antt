@@ -1,6 +1,6 @@
-use Rattle.std.proofs.Common.{arith, refl, rules}
+use Rattle.std.proofs.Common.{arith, rules}
 use Rattle.pp_clause.specs.Literal.{lit_value}
-use Rattle.pp_gate.proofs.Clausal.{after_clause, mux_clauses, negated_value, within_negated, all_of_three}
+use Rattle.pp_gate.proofs.Clausal.{mux_cases, negated_value, within_negated, all_of_three}
 use Rattle.pp_gate.proofs.clauses.add_mux.Goals as goal
 
 pub returns : goal.returns
@@ -10,23 +10,17 @@ returns c =
     let three = c.in_ok-add-3.ensures in
     let four = c.in_ok-add-4.ensures in
     record {
-      most = omega (arith, one.most, two.most, three.most, four.most);
+      most = omega arith;
       value = λ s.
           let off = negated_value s _ _ c.negated-off.ensures in
           let not_c = negated_value s _ _ c.negated-not_c.ensures in
           let not_a = negated_value s _ _ c.negated-not_a.ensures in
           let not_b = negated_value s _ _ c.negated-not_b.ensures in
-          let first = after_clause s _ _ _ _ two (after_clause s _ _ _ _ one refl) in
-          mux_clauses _ (lit_value s c.args.out) (lit_value s c.args.c) (lit_value s c.args.a) (lit_value s c.args.b) _
-          _ _ _ _
-          off not_c not_a not_b (after_clause s _ _ _ _ four (after_clause s _ _ _ _ three first));
+          rw (four.value s, three.value s, two.value s, one.value s, off, not_c, not_a, not_b)
+          (mux_cases _ (lit_value s c.args.out) (lit_value s c.args.c) (lit_value s c.args.a) (lit_value s c.args.b));
       within = λ n out of olds.
           let choice = of 0 c.args.c (omega arith) in
           let a = of 1 c.args.a (omega arith) in
           let b = of 2 c.args.b (omega arith) in
-          let off = within_negated n _ _ c.negated-off.ensures out in
-          let not_c = within_negated n _ _ c.negated-not_c.ensures choice in
-          let not_a = within_negated n _ _ c.negated-not_a.ensures a in
-          let not_b = within_negated n _ _ c.negated-not_b.ensures b in
-          search (rules, four.within, three.within, two.within, one.within, all_of_three) depth 9;
+          search (rules, within_negated, four.within, three.within, two.within, one.within, all_of_three) depth 9;
     }

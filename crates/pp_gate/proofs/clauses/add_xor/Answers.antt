@@ -1,6 +1,6 @@
 use Rattle.std.proofs.Common.{arith, rules}
 use Rattle.std.proofs.lemmas.Bool.Decides.{nat_tests}
-use Rattle.pp_gate.proofs.Clausal.{negated_value, within_negated, all_of_three}
+use Rattle.pp_gate.proofs.Clausal.{within_negated, all_of_three}
 use Rattle.pp_gate.proofs.clauses.add_xor.Goals as goal
 
 pub returns : goal.returns
@@ -10,17 +10,10 @@ returns c =
     let three = c.in_ok-add-3.ensures in
     let four = c.in_ok-add-4.ensures in
     record {
-      most = omega (arith, one.most, two.most, three.most, four.most);
-      value = λ s.
-          let off = negated_value s _ _ c.negated-off.ensures in
-          let not_a = negated_value s _ _ c.negated-not_a.ensures in
-          let not_b = negated_value s _ _ c.negated-not_b.ensures in
-          grind (arith, nat_tests, one.value s, two.value s, three.value s, four.value s);
+      most = omega arith;
+      value = λ s. grind (arith, nat_tests, one.value s, two.value s, three.value s, four.value s);
       within = λ n out of olds.
           let a = of 0 c.args.a (omega arith) in
           let b = of 1 c.args.b (omega arith) in
-          let off = within_negated n _ _ c.negated-off.ensures out in
-          let not_a = within_negated n _ _ c.negated-not_a.ensures a in
-          let not_b = within_negated n _ _ c.negated-not_b.ensures b in
-          search (rules, four.within, three.within, two.within, one.within, all_of_three) depth 9;
+          search (rules, within_negated, four.within, three.within, two.within, one.within, all_of_three) depth 9;
     }

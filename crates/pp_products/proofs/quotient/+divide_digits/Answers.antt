@@ -20,8 +20,9 @@ returns-in_ok-all-clause-adds t c =
 
 pub returns-in_ok-all-clause-of : goal.returns-in_ok-all-clause-of
 returns-in_ok-all-clause-of t c =
-    AreOf_over _ _ _ _ _ _ _ c.in_ok-digit.ensures.adds c.in_ok-high.ensures.of c.in_ok-digit.ensures.digit_of
-    c.deref-else-is_empty.ensures.value c.in_ok-all.ensures
+    let digit = c.in_ok-digit.ensures in
+    AreOf_over _ _ _ _ _ c.deref-else-is_empty.ensures.value c.in_ok-all.ensures digit.digit_of
+    (growing.AreOf_more _ _ _ _ digit.adds.grows c.in_ok-high.ensures.of)
 
 pub returns-in_ok-all-clause-value : goal.returns-in_ok-all-clause-value
 returns-in_ok-all-clause-value t c = λ s gives some.

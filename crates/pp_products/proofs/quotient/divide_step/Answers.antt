@@ -1,16 +1,15 @@
 use Rattle.std.proofs.Common.{arith, refl}
 use Rattle.std.proofs.lemmas.List.{length-take}
 use Rattle.pp_bits.proofs.Growing as growing
-use Rattle.pp_products.proofs.Quotients.{divide_turn, AreOf_cut, AreOf_wide, step_less, step_stays, step_left}
+use Rattle.pp_products.proofs.Quotients.{divide_turn, AreOf_cut, AreOf_over, step_grows}
 use Rattle.pp_products.proofs.quotient.divide_step.Goals as goal
 
 pub choose-requires-clause-left : goal.choose-requires-clause-left
 choose-requires-clause-left c =
-    let of = AreOf_wide _ _ _ _ c.in_ok-wide.ensures c.requires.low c.requires.rest in
-    AreOf_cut _ _ _ _ _ _ c.deref-3.ensures.value of
-    (step_stays _ _ _ _ (step_less _ _ _ _ _ _ _ _ c.deref.ensures.value c.in_ok-wide.ensures c.requires.fewer
-    c.in_ok-greater.ensures.adds c.in_ok-less.ensures.adds)
-    c.in_ok-stays.ensures.adds)
+    AreOf_cut _ _ _ _ _ _ c.deref-3.ensures.value
+    (AreOf_over _ _ _ _ _ refl c.in_ok-wide.ensures c.requires.low c.requires.rest)
+    (step_grows _ _ _ _ _ _ _ _ _ c.deref.ensures.value c.in_ok-wide.ensures c.requires.fewer
+    c.in_ok-greater.ensures.adds c.in_ok-less.ensures.adds c.in_ok-stays.ensures.adds)
 
 pub choose-requires-clause-right : goal.choose-requires-clause-right
 choose-requires-clause-right c = AreOf_cut _ _ _ _ _ _ c.deref-4.ensures.value c.in_ok-less.ensures.of
@@ -19,23 +18,22 @@ choose-requires-clause-right c = AreOf_cut _ _ _ _ _ _ c.deref-4.ensures.value c
 pub returns-in_err-stays-clause-adds : goal.returns-in_err-stays-clause-adds
 returns-in_err-stays-clause-adds c =
     growing.AddsGates_weaker _ _ _ _
-    (step_stays _ _ _ _ (step_less _ _ _ _ _ _ _ _ c.deref.ensures.value c.in_ok-wide.ensures c.requires.fewer
-    c.in_ok-greater.ensures.adds c.in_ok-less.ensures.adds)
-    c.in_err-stays.ensures.adds) (omega arith)
+    (step_grows _ _ _ _ _ _ _ _ _ c.deref.ensures.value c.in_ok-wide.ensures c.requires.fewer
+    c.in_ok-greater.ensures.adds c.in_ok-less.ensures.adds c.in_err-stays.ensures.adds) (omega arith)
 
 pub returns-in_err-left-clause-adds : goal.returns-in_err-left-clause-adds
 returns-in_err-left-clause-adds c =
-    step_left _ _ _ _ _
-    (step_stays _ _ _ _ (step_less _ _ _ _ _ _ _ _ c.deref.ensures.value c.in_ok-wide.ensures c.requires.fewer
-    c.in_ok-greater.ensures.adds c.in_ok-less.ensures.adds)
-    c.in_ok-stays.ensures.adds) c.in_err-left.ensures.adds (rw length-take (omega arith))
+    growing.AddsGates_more _ _ _ _ _ _
+    (step_grows _ _ _ _ _ _ _ _ _ c.deref.ensures.value c.in_ok-wide.ensures c.requires.fewer
+    c.in_ok-greater.ensures.adds c.in_ok-less.ensures.adds c.in_ok-stays.ensures.adds)
+    c.in_err-left.ensures.adds (rw length-take (omega arith))
 
 pub returns-clause-adds : goal.returns-clause-adds
 returns-clause-adds c =
-    step_left _ _ _ _ _
-    (step_stays _ _ _ _ (step_less _ _ _ _ _ _ _ _ c.deref.ensures.value c.in_ok-wide.ensures c.requires.fewer
-    c.in_ok-greater.ensures.adds c.in_ok-less.ensures.adds)
-    c.in_ok-stays.ensures.adds) c.in_ok-left.ensures.adds (rw length-take (omega arith))
+    growing.AddsGates_more _ _ _ _ _ _
+    (step_grows _ _ _ _ _ _ _ _ _ c.deref.ensures.value c.in_ok-wide.ensures c.requires.fewer
+    c.in_ok-greater.ensures.adds c.in_ok-less.ensures.adds c.in_ok-stays.ensures.adds)
+    c.in_ok-left.ensures.adds (rw length-take (omega arith))
 
 pub returns-clause-value : goal.returns-clause-value
 returns-clause-value c = λ s gives below.

@@ -1,24 +1,25 @@
-use Rattle.std.proofs.Common.{◌≡◌, ◌≤◌, ◌-◌, ◌^◌, length, refl, arith, ap, ◌∙◌}
+use Rattle.std.proofs.Common.{◌≡◌, ◌≤◌, ◌-◌, ◌*◌, ◌%◌, ◌^◌, length, refl, arith, ap, ◌∙◌}
 use Rattle.pp_bits.specs.Number.{nat_of}
-use Rattle.pp_bits.proofs.Growing.{Gives_before}
-use Rattle.pp_shifts.proofs.Stages.{left_none, left_turn, same_digits, doubled_places, zero_value, AddsGates_at_first}
-use Rattle.pp_shifts.proofs.Stages.{AddsGates_turn, AddsGates_short}
+use Rattle.pp_bits.proofs.Growing.{AddsGates_none, Gives_before}
+use Rattle.pp_bits.proofs.Numbers.{negated_truth}
+use Rattle.pp_shifts.proofs.Moved.{left_moves}
+use Rattle.pp_shifts.proofs.Stages.{stages_none, stages_turn, same_digits, doubled_places, AddsGates_stage}
 use Rattle.pp_shifts.proofs.shift.shl.Goals as goal
 
 pub loop-i-init : goal.loop-i-init
 loop-i-init c =
     let same = c.in_ok-digits.ensures.value in
     record {
-      grown = AddsGates_at_first _ _ c.truth.ensures.circuit;
+      grown = AddsGates_none _ _ c.truth.ensures.circuit;
       digits = same_digits _ _ _ same c.requires.number;
       places = omega arith;
-      value = λ s gives. left_none s _ _ same;
+      value = λ s gives. stages_none (left_moves _) s c.args.a.now _ refl same;
     }
 
 pub returns-in_err-digits-2-clause-adds : goal.returns-in_err-digits-2-clause-adds
 returns-in_err-digits-2-clause-adds c =
     let now = c.loop-i.invariant in
-    AddsGates_short _ _ _ _ _ _ _ c.loop-i-test.true (ap length c.deref.ensures.value ∙ now.digits.len) now.grown
+    AddsGates_stage _ _ _ _ _ _ _ c.loop-i-test.true (ap length c.deref.ensures.value ∙ now.digits.len) now.grown
     c.in_err-digits-2.ensures.adds
 
 pub loop-i-preserved : goal.loop-i-preserved
@@ -29,13 +30,13 @@ loop-i-preserved c =
     let len : length c.deref.result.now ≡ length c.args.a.now = ap length lent ∙ now.digits.len in
     let short : length c.args.a.now ≤ 2 ^ 64 - 1 = omega (arith, c.loop-i.digits.small) in
     record {
-      grown = AddsGates_turn _ _ _ _ _ _ len now.grown stage.adds;
+      grown = AddsGates_stage _ _ _ _ _ _ _ (omega arith) len now.grown stage.adds;
       digits = record { len = stage.len ∙ len; of = stage.of };
       places = doubled_places _ _ _ _ now.places c.saturating_mul-by.ensures;
-      value = λ s gives. left_turn s _ _ _ _ _ _ _ _ _ _ c.loop-i-test.true c.index-distance-i.is refl short now.places
-          len (ap (nat_of s) lent)
-          (now.value s (Gives_before _ _ _ stage.adds s gives))
-          (stage.value s gives (zero_value s _ _ c.negated-zero.ensures
-          (c.truth.ensures.stands.value s (Gives_before _ _ _ now.grown s
-          (Gives_before _ _ _ stage.adds s gives)))));
+      value = λ s gives.
+          let before = Gives_before _ _ _ stage.adds s gives in
+          stages_turn (λ n v k. (v * 2 ^ k) % 2 ^ n) _ (left_moves _) s c.args.a.now _ _ _ _ _ _ _ _ c.loop-i-test.true
+          c.index-distance-i.is refl short now.places len (ap (nat_of s) lent) (now.value s before)
+          (stage.value s gives (negated_truth s _ _ c.negated-zero.ensures
+          (c.truth.ensures.stands.value s (Gives_before _ _ _ now.grown s before))));
     }

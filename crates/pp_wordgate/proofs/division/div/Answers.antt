@@ -5,6 +5,5 @@ use Rattle.pp_wordgate.proofs.division.div.Goals as goal
 
 pub returns-clause-value : goal.returns-clause-value
 returns-clause-value c =
-    division_word _ w32 _ _ _ _ _ _ _ c.lits.ensures.value c.lits-2.ensures.value c.lits.ensures.len
-    (c.from_lits.ensures ∙ c.deref.ensures.value)
-    c.in_ok-digits.ensures.stands
+    division_word w32 c.lits.ensures.value c.lits-2.ensures.value c.lits.ensures.len
+    (c.from_lits.ensures ∙ c.deref.ensures.value) c.in_ok-digits.ensures.stands

@@ -9,5 +9,5 @@ returns-clause-inputs c = subst (AreInputs _ _ 32) (sym (c.from_lits.ensures ∙
     c.in_ok-digits.ensures.inputs
 
 pub returns-clause-chosen : goal.returns-clause-chosen
-returns-clause-chosen c = chosen_word_of w32 _ _ _ _ 32 (c.from_lits.ensures ∙ c.deref.ensures.value) refl
+returns-clause-chosen c = chosen_word_of w32 (c.from_lits.ensures ∙ c.deref.ensures.value) refl
     c.in_ok-digits.ensures.chosen

@@ -3,5 +3,5 @@ use Rattle.pp_wordgate.proofs.Words.{value_of_word}
 use Rattle.pp_wordgate.proofs.fresh.value.Goals as goal
 
 pub returns : goal.returns
-returns c = value_of_word w32 _ _ _ _ _ c.lits.ensures.value c.lits.ensures.len c.number-digits.ensures.value
+returns c = value_of_word w32 _ c.lits.ensures.value c.lits.ensures.len c.number-digits.ensures.value
     c.cast_signed.ensures

@@ -5,8 +5,7 @@ use Rattle.pp_wordgate.proofs.shifts.ushr.Goals as goal
 
 pub returns-clause-stands : goal.returns-clause-stands
 returns-clause-stands c =
-    from_digits w32 _ _ _ _ _ _ (c.from_lits.ensures ∙ c.deref.ensures.value)
+    from_digits w32 (c.from_lits.ensures ∙ c.deref.ensures.value)
     (ap length c.lits-2.ensures.value ∙ c.lits-2.ensures.len) c.in_ok-digits.ensures.stands
-    (λ s e. unsigned_right_word w32 s _ _ _ _ _ c.lits-2.ensures.value c.lits-2.ensures.len
-    (distance_word w32 w32 s 5 c.args.b _ _ refl (omega arith) (omega arith) c.lits.ensures.value c.lits.ensures.len
-    refl) e)
+    (λ s e. unsigned_right_word w32 s _ _ _ c.lits-2.ensures.value c.lits-2.ensures.len
+    (distance_word w32 w32 s 5 refl (omega arith) (omega arith) c.lits.ensures.value c.lits.ensures.len refl) e)

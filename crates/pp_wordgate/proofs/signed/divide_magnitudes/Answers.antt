@@ -19,4 +19,4 @@ returns-clause-value c =
     let d : nat_of s c.deref-2.result.now ≡ magnitude_of (length a) (nat_of s b) =
     ap (nat_of s) c.deref-2.ensures.value ∙ divisor.stands.value s before
     ∙ ap (λ k. magnitude_of k (nat_of s b)) (sym c.requires.same) in
-    Divides_same _ _ _ _ _ _ n d (parts.value s gives (divisor_some s b (length a) _ c.requires.same d some))
+    Divides_same n d (parts.value s gives (divisor_some s b (length a) _ c.requires.same d some))

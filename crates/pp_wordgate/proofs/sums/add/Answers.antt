@@ -1,12 +1,10 @@
-use Rattle.std.proofs.Common.{◌+◌, ◌%◌, ◌^◌, ◌∙◌}
+use Rattle.std.proofs.Common.{◌∙◌}
 use Rattle.std.specs.Int.{w32}
-use Rattle.pp_word.specs.Word.{word_add}
 use Rattle.pp_wordlaws.proofs.Sums.{sum_of_bits}
 use Rattle.pp_wordgate.proofs.Words.{binary_word}
 use Rattle.pp_wordgate.proofs.sums.add.Goals as goal
 
 pub returns-clause-stands : goal.returns-clause-stands
 returns-clause-stands c =
-    binary_word w32 (λ n x y. (x + y) % 2 ^ n) (word_add w32) (sum_of_bits w32) _ _ _ _ _ _ _
-    (c.from_lits.ensures ∙ c.deref.ensures.value) c.lits.ensures.value c.lits-2.ensures.value c.lits.ensures.len
-    c.lits-2.ensures.len c.in_ok-sum.ensures.stands
+    binary_word (sum_of_bits w32) (c.from_lits.ensures ∙ c.deref.ensures.value) c.lits.ensures.value
+    c.lits-2.ensures.value c.lits.ensures.len c.lits-2.ensures.len c.in_ok-sum.ensures.stands

@@ -1,12 +1,10 @@
-use Rattle.std.proofs.Common.{◌+◌, ◌-◌, ◌%◌, ◌^◌, ◌∙◌}
+use Rattle.std.proofs.Common.{◌∙◌}
 use Rattle.std.specs.Int.{w32}
-use Rattle.pp_word.specs.Word.{word_sub}
 use Rattle.pp_wordlaws.proofs.Sums.{difference_of_bits}
 use Rattle.pp_wordgate.proofs.Words.{binary_word}
 use Rattle.pp_wordgate.proofs.sums.sub.Goals as goal
 
 pub returns-clause-stands : goal.returns-clause-stands
 returns-clause-stands c =
-    binary_word w32 (λ n x y. (x + (2 ^ n - y)) % 2 ^ n) (word_sub w32) (difference_of_bits w32) _ _ _ _ _ _ _
-    (c.from_lits.ensures ∙ c.deref.ensures.value) c.lits.ensures.value c.lits-2.ensures.value c.lits.ensures.len
-    c.lits-2.ensures.len c.in_ok-difference.ensures.stands
+    binary_word (difference_of_bits w32) (c.from_lits.ensures ∙ c.deref.ensures.value) c.lits.ensures.value
+    c.lits-2.ensures.value c.lits.ensures.len c.lits-2.ensures.len c.in_ok-difference.ensures.stands

@@ -1,4 +1,4 @@
-use Rattle.std.proofs.Common.{◌-◌, length, take, replicate, false}
+use Rattle.std.proofs.Common.{length, take, replicate, false}
 use Rattle.pp_gate.specs.Marks.{Marks}
 use Rattle.pp_gate.proofs.Cones.{IsConeFrom}
 use Rattle.pp_gate.proofs.circuit.Circuit.cone.Given as goal
@@ -7,4 +7,4 @@ abbrev pub invariant-loop-i : goal.invariant-loop-i
 invariant-loop-i l = Marks (replicate (length l.gates) false) l.marks.items (take l.i l.asked)
 
 abbrev pub invariant-loop-done : goal.invariant-loop-done
-invariant-loop-done l = IsConeFrom l.gates l.asked (length l.gates - l.done) l.marks.items
+invariant-loop-done l = IsConeFrom l.gates l.asked l.done l.marks.items
