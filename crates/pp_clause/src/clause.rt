@@ -40,8 +40,22 @@ impl Clause {
         ensures order { IfOk result (λ o. IfSome o (λ c. IsClause c)) }
         ensures value { IfOk result (λ o. IfSome o (λ c. (s : ℕ → Bool) → clause_value s c ≡ clause_value s lits.now)) }
     {
-        let sorted = in_order(alloc, lits)?;
-        merged(alloc, sorted.as_slice())
+        let mut sorted: SmallVec<Lit, 4> = SmallVec::from_slice(alloc, lits)?;
+        Clause::of_mut(alloc, sorted.as_mut_slice())
+    }
+
+    /// The same, of literals that it may put in order of variable. It takes memory for the clause alone.
+    pub fn of_mut(alloc: Global, lits: &mut [Lit]) -> Result<Option<Clause>, NoMemory>
+        ensures left { SameLiterals lits.new lits.old }
+        ensures none { IfOk result (λ o. IfNone o (HasBoth lits.old)) }
+        ensures always { IfOk result (λ o. IfNone o ((s : ℕ → Bool) → clause_value s lits.old ≡ true)) }
+        ensures apart { IfOk result (λ o. IfSome o (λ _. ¬ HasBoth lits.old)) }
+        ensures same { IfOk result (λ o. IfSome o (λ c. SameLiterals c lits.old)) }
+        ensures order { IfOk result (λ o. IfSome o (λ c. IsClause c)) }
+        ensures value { IfOk result (λ o. IfSome o (λ c. (s : ℕ → Bool) → clause_value s c ≡ clause_value s lits.old)) }
+    {
+        lits.sort_unstable_by_key(|lit| lit.var());
+        merged(alloc, lits)
     }
 
     /// The clause of these literals, which stand in ascending order of variable. It sorts nothing.
@@ -85,16 +99,6 @@ pub fn is_ascending(lits: &[Lit]) -> bool
     true
 }
 
-/// These literals in order of variable.
-fn in_order(alloc: Global, lits: &[Lit]) -> Result<SmallVec<Lit, 4>, NoMemory>
-    ensures order { IfOk result (λ v. IsInOrder v.items) }
-    ensures same { IfOk result (λ v. SameLiterals v.items lits.now) }
-{
-    let mut sorted = SmallVec::from_slice(alloc, lits)?;
-    sorted.as_mut_slice().sort_unstable_by_key(|lit| lit.var());
-    Ok(sorted)
-}
-
 /// The clause of these literals, which are in order of variable.
 fn merged(alloc: Global, sorted: &[Lit]) -> Result<Option<Clause>, NoMemory>
     requires { IsInOrder sorted.now }
@@ -102,7 +106,7 @@ fn merged(alloc: Global, sorted: &[Lit]) -> Result<Option<Clause>, NoMemory>
     ensures same { IfOk result (λ o. IfSome o (λ c. SameLiterals c sorted.now)) }
     ensures order { IfOk result (λ o. IfSome o (λ c. IsClause c)) }
 {
-    let mut lits = SmallVec::new(alloc);
+    let mut lits = SmallVec::with_capacity(alloc, sorted.len())?;
     let mut last: Option<Lit> = None;
     for lit in sorted {
         let var = lit.var();

@@ -11,7 +11,7 @@ use Rattle.pp_trail.specs.Trail.{lits, IsTrail, IsFalse}
 use Rattle.pp_trail.proofs.Places.{has_at}
 use Rattle.pp_trail.proofs.Negated.{negated_at, all_negated_from}
 use Rattle.pp_clause.specs.Bound.{Fits}
-use Rattle.pp_learn.specs.Marks.{is_marked, has_var, MarksAll, AreBlank, IsClear}
+use Rattle.pp_learn.specs.Seen.{is_marked, has_var, MarksAll, AreBlank, IsClear}
 use Rattle.pp_learn.specs.Reached.{IsTrailFor, Reached}
 use Rattle.pp_learn.proofs.Places.{literal_in, step_in_range, trail_consistent}
 use Rattle.pp_learn.proofs.Chains.{derived_one, numbered_within, numbered_is}
@@ -33,13 +33,13 @@ false_at cs set n c got f look same m h =
     negated_at set f.clause m f.negated (subst (λ (z : List Literal). has z m ≡ true)
     (conflict_clause cs set n c got f look same) h)
 
-pub conflict_fits : (cs : List (List Literal)) (steps : List Step) (marks : List Bool) (n : ℕ) (c got : List Literal)
-    → IsTrailFor cs steps marks → IsFalse cs (lits steps) n → slice_get cs (n - 1) ≡ Some got → c ≡ got
-    → Fits (length marks) c
-conflict_fits cs steps marks n c got trail f look same =
-    All-from_has (λ l. l.var < length marks) c (λ m h.
+pub conflict_fits : (cs : List (List Literal)) (steps : List Step) (seen : List Bool) (n : ℕ) (c got : List Literal)
+    → IsTrailFor cs steps seen → IsFalse cs (lits steps) n → slice_get cs (n - 1) ≡ Some got → c ≡ got
+    → Fits (length seen) c
+conflict_fits cs steps seen n c got trail f look same =
+    All-from_has (λ l. l.var < length seen) c (λ m h.
     let p = literal_in steps (opposite m) (false_at cs (lits steps) n c got f look same m h) in
-    let r = step_in_range cs (length marks - 1) steps p.place p.step trail p.stands in
+    let r = step_in_range cs (length seen - 1) steps p.place p.step trail p.stands in
     let var : p.step.lit.var ≡ m.var = ap (λ (z : Literal). z.var) p.is in
     omega (arith, r.0, r.1, var))
 

@@ -10,7 +10,7 @@ use Rattle.pp_clause.proofs.Has.{opposite_twice, false_not_true}
 use Rattle.pp_trail.specs.declared.step.Step.{Step}
 use Rattle.pp_trail.specs.Trail.{lits, StandsAt, IsTrail}
 use Rattle.pp_trail.proofs.Places.{literal_at, has_at}
-use Rattle.pp_learn.specs.Marks.{is_marked, MarkedAt, IsPoint, IsMarkedIn, IsLastMarked, Turns}
+use Rattle.pp_learn.specs.Seen.{is_marked, MarkedAt, IsPoint, IsMarkedIn, IsLastMarked, Turns}
 use Rattle.pp_learn.specs.Reached.{IsTrailFor, Reached}
 use Rattle.pp_learn.specs.Conflict.{LeavesTwoOpen, LeavesOpen, AreBeforePoint, ReachesFirstPoint, GoesOnFrom}
 use Rattle.pp_learn.proofs.Places.{literal_place, one_place, same_step}
@@ -31,21 +31,21 @@ open_before cs vars steps start i s trail at le = record
         omega arith)
 
 -- two marked steps from `start` on
-pub two_open : (cs : List (List Literal)) (steps : List Step) (marks : List Bool) (chain : List ℕ) (start i j : ℕ)
-    → IsTrailFor cs steps marks → Reached cs steps marks chain → MarkedAt steps marks i → MarkedAt steps marks j
+pub two_open : (cs : List (List Literal)) (steps : List Step) (seen : List Bool) (chain : List ℕ) (start i j : ℕ)
+    → IsTrailFor cs steps seen → Reached cs steps seen chain → MarkedAt steps seen i → MarkedAt steps seen j
     → start ≤ i → i < j → LeavesTwoOpen cs (lits (take start steps)) chain
-two_open cs steps marks chain start i j trail r a b low lt = record {
+two_open cs steps seen chain start i j trail r a b low lt = record {
   found = r.found;
   by_chain = r.by_chain;
   one = opposite a.step.lit;
   other = opposite b.step.lit;
-  one_held = step_shown steps marks r.found i a.step r.shown a.at a.marked;
-  other_held = step_shown steps marks r.found j b.step r.shown b.at b.marked;
+  one_held = step_shown steps seen r.found i a.step r.shown a.at a.marked;
+  other_held = step_shown steps seen r.found j b.step r.shown b.at b.marked;
   differ = λ e. (let same : i ≡ j =
-      one_place cs (length marks - 1) steps i j a.step b.step trail a.at b.at (ap (λ (z : Literal). z.var) e) in
+      one_place cs (length seen - 1) steps i j a.step b.step trail a.at b.at (ap (λ (z : Literal). z.var) e) in
       absurd (omega arith));
-  one_open = open_before cs (length marks - 1) steps start i a.step trail a.at low;
-  other_open = open_before cs (length marks - 1) steps start j b.step trail b.at (omega arith);
+  one_open = open_before cs (length seen - 1) steps start i a.step trail a.at low;
+  other_open = open_before cs (length seen - 1) steps start j b.step trail b.at (omega arith);
 }
 
 -- no front is proper yet
@@ -86,27 +86,27 @@ goes_along old mid new g h = record {
 }
 
 -- at the point one literal is open, and the others are false before
-leaves_open : (cs : List (List Literal)) (steps : List Step) (marks : List Bool) (chain : List ℕ) (start point : ℕ)
-    (s : Step) (l : Literal) → IsTrailFor cs steps marks → Reached cs steps marks chain
-    → IsPoint steps marks start point → StandsAt steps point s → l ≡ opposite s.lit
+leaves_open : (cs : List (List Literal)) (steps : List Step) (seen : List Bool) (chain : List ℕ) (start point : ℕ)
+    (s : Step) (l : Literal) → IsTrailFor cs steps seen → Reached cs steps seen chain
+    → IsPoint steps seen start point → StandsAt steps point s → l ≡ opposite s.lit
     → LeavesOpen cs (lits (take start steps)) l chain
-leaves_open cs steps marks chain start point s l trail r p at is = record {
+leaves_open cs steps seen chain start point s l trail r p at is = record {
   found = r.found;
   by_chain = r.by_chain;
-  held = subst (λ (z : Literal). has r.found z ≡ true) (sym is) (step_shown steps marks r.found point s r.shown at
-      (ap (λ (z : Step). is_marked marks z.lit.var) (same_step steps point point s p.marked.step at p.marked.at refl)
+  held = subst (λ (z : Literal). has r.found z ≡ true) (sym is) (step_shown steps seen r.found point s r.shown at
+      (ap (λ (z : Step). is_marked seen z.lit.var) (same_step steps point point s p.marked.step at p.marked.at refl)
       ∙ p.marked.marked));
   others = record {
     negated = λ m h ne.
-        let q = shown_step steps marks r.found m r.shown h in
+        let q = shown_step steps seen r.found m r.shown h in
         subst (λ (z : Literal). has (lits (take start steps)) z ≡ true) q.is
         (has_at steps q.place start q.step q.at (low m ne q));
   };
   is_open = subst (λ (z : Literal). IsOpen (lits (take start steps)) z) (sym is)
-      (open_before cs (length marks - 1) steps start point s trail at p.low);
+      (open_before cs (length seen - 1) steps start point s trail at p.low);
 }
   where
-    low : (m : Literal) → m ≢ l → (q : Shown steps marks m) → q.place < start
+    low : (m : Literal) → m ≢ l → (q : Shown steps seen m) → q.place < start
     low m ne q = elim (cases_lt q.place start) [
       | inl lt ↦ lt
       | inr high ↦ elim (cases_lt q.place point) [
@@ -120,17 +120,17 @@ leaves_open cs steps marks chain start point s l trail r p at is = record {
       ]
     ]
 
-pub reaches_first : (cs : List (List Literal)) (steps : List Step) (marks : List Bool) (part chain : List ℕ)
-    (start point : ℕ) (s : Step) (l : Literal) → IsTrailFor cs steps marks → Reached cs steps marks part
-    → IsPoint steps marks start point → StandsAt steps point s → l ≡ opposite s.lit
+pub reaches_first : (cs : List (List Literal)) (steps : List Step) (seen : List Bool) (part chain : List ℕ)
+    (start point : ℕ) (s : Step) (l : Literal) → IsTrailFor cs steps seen → Reached cs steps seen part
+    → IsPoint steps seen start point → StandsAt steps point s → l ≡ opposite s.lit
     → AreBeforePoint cs (lits (take start steps)) part → GoesOnFrom part chain
     → ReachesFirstPoint cs (lits (take start steps)) l chain
-reaches_first cs steps marks part chain start point s l trail r p at is b g = record {
+reaches_first cs steps seen part chain start point s l trail r p at is b g = record {
   part = part;
   rest = g.added;
   is = g.is;
   before = b;
-  leaves = leaves_open cs steps marks part start point s l trail r p at is;
+  leaves = leaves_open cs steps seen part start point s l trail r p at is;
 }
 
 -- one step of the search for the point

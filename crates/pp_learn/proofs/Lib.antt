@@ -1,5 +1,5 @@
 pub mod Places
-pub mod MetMarks
+pub mod MetSeen
 pub mod Chains
 pub mod Turning
 pub mod Reasons

@@ -12,18 +12,18 @@ use Rattle.pp_trail.specs.declared.step.Step.{Step}
 use Rattle.pp_trail.specs.Trail.{lits, StandsAt, IsTrail}
 use Rattle.pp_trail.proofs.Places.{literal_at, has_at}
 use Rattle.pp_trail.proofs.Negated.{all_negated_from}
-use Rattle.pp_learn.specs.Marks.{is_marked, Shows, MarkedAt, IsPoint, KeepsFrom, FollowsLast}
+use Rattle.pp_learn.specs.Seen.{is_marked, Shows, MarkedAt, IsPoint, KeepsFrom, FollowsLast}
 use Rattle.pp_learn.specs.Reached.{AreDecisions}
 use Rattle.pp_learn.specs.Conflict.{decisions, IsBack}
 use Rattle.pp_learn.proofs.Places.{literal_in, literal_place, has_step, one_place, same_step}
 
 -- where the analysis ends: one step alone is marked from `start` on
-pub record Ends (cs : List (List Literal)) (vars : ℕ) (steps : List Step) (marks : List Bool) (start point back : ℕ)
+pub record Ends (cs : List (List Literal)) (vars : ℕ) (steps : List Step) (seen : List Bool) (start point back : ℕ)
     (c : List Literal) : Type 0 where
   pub trail : IsTrail cs vars steps
-  pub alone : IsPoint steps marks start point
-  pub shown : Shows marks (lits steps) c
-  pub follows : FollowsLast steps marks start back
+  pub alone : IsPoint steps seen start point
+  pub shown : Shows seen (lits steps) c
+  pub follows : FollowsLast steps seen start back
 
 -- the implication point is still there after minimization
 pub point_kept : (steps : List Step) (old new : List Bool) (start point : ℕ) → KeepsFrom steps start old new
@@ -44,17 +44,17 @@ point_kept steps old new start point k p = record {
 }
 
 -- a literal of the clause that is shown, as a step
-pub record Shown (steps : List Step) (marks : List Bool) (m : Literal) : Type 0 where
+pub record Shown (steps : List Step) (seen : List Bool) (m : Literal) : Type 0 where
   pub place : ℕ
   pub step : Step
   pub at : StandsAt steps place step
   pub is : step.lit ≡ opposite m
-  pub marked : is_marked marks step.lit.var ≡ true
+  pub marked : is_marked seen step.lit.var ≡ true
 
-pub shown_step : (steps : List Step) (marks : List Bool) (c : List Literal) (m : Literal) → Shows marks (lits steps) c
-    → has c m ≡ true → Shown steps marks m
-shown_step steps marks c m k h =
-    let both = and_parts (is_marked marks m.var) (has (lits steps) (opposite m)) (sym (k.same m) ∙ h) in
+pub shown_step : (steps : List Step) (seen : List Bool) (c : List Literal) (m : Literal) → Shows seen (lits steps) c
+    → has c m ≡ true → Shown steps seen m
+shown_step steps seen c m k h =
+    let both = and_parts (is_marked seen m.var) (has (lits steps) (opposite m)) (sym (k.same m) ∙ h) in
     let p = literal_in steps (opposite m) both.1 in
     record {
       place = p.place;
@@ -62,32 +62,32 @@ shown_step steps marks c m k h =
       at = p.stands;
       is = p.is;
       marked =
-          ap (is_marked marks) (ap (λ (z : Literal). z.var) p.is) ∙ both.0;
+          ap (is_marked seen) (ap (λ (z : Literal). z.var) p.is) ∙ both.0;
     }
 
-pub step_shown : (steps : List Step) (marks : List Bool) (c : List Literal) (i : ℕ) (s : Step)
-    → Shows marks (lits steps) c → StandsAt steps i s → is_marked marks s.lit.var ≡ true → has c (opposite s.lit) ≡ true
-step_shown steps marks c i s k at h =
-    k.same (opposite s.lit) ∙ and_from (is_marked marks s.lit.var) (has (lits steps) (opposite (opposite s.lit))) h
+pub step_shown : (steps : List Step) (seen : List Bool) (c : List Literal) (i : ℕ) (s : Step)
+    → Shows seen (lits steps) c → StandsAt steps i s → is_marked seen s.lit.var ≡ true → has c (opposite s.lit) ≡ true
+step_shown steps seen c i s k at h =
+    k.same (opposite s.lit) ∙ and_from (is_marked seen s.lit.var) (has (lits steps) (opposite (opposite s.lit))) h
     (subst (λ (z : Literal). has (lits steps) z ≡ true) (sym (opposite_twice s.lit)) (has_step steps i s at))
 
-pub ends_held : (cs : List (List Literal)) (vars : ℕ) (steps : List Step) (marks : List Bool) (start point back : ℕ)
-    (c : List Literal) (s : Step) (u : Literal) → Ends cs vars steps marks start point back c → StandsAt steps point s
+pub ends_held : (cs : List (List Literal)) (vars : ℕ) (steps : List Step) (seen : List Bool) (start point back : ℕ)
+    (c : List Literal) (s : Step) (u : Literal) → Ends cs vars steps seen start point back c → StandsAt steps point s
     → u ≡ opposite s.lit → has c u ≡ true
-ends_held cs vars steps marks start point back c s u e at is =
+ends_held cs vars steps seen start point back c s u e at is =
     let same : e.alone.marked.step ≡ s = same_step steps point point e.alone.marked.step s e.alone.marked.at at refl in
-    subst (λ (z : Literal). has c z ≡ true) (sym is) (step_shown steps marks c point s e.shown at
-    (subst (λ (z : Step). is_marked marks z.lit.var ≡ true) same e.alone.marked.marked))
+    subst (λ (z : Literal). has c z ≡ true) (sym is) (step_shown steps seen c point s e.shown at
+    (subst (λ (z : Step). is_marked seen z.lit.var ≡ true) same e.alone.marked.marked))
 
 -- the other literals were made false before `start`
-others_before : (cs : List (List Literal)) (vars : ℕ) (steps : List Step) (marks : List Bool) (start point back : ℕ)
-    (c : List Literal) (s : Step) (u m : Literal) → Ends cs vars steps marks start point back c → StandsAt steps point s
-    → u ≡ opposite s.lit → has c m ≡ true → m ≢ u → (p : Shown steps marks m) × (p.place < back)
-others_before cs vars steps marks start point back c s u m e at is h ne =
-    let p = shown_step steps marks c m e.shown h in
+others_before : (cs : List (List Literal)) (vars : ℕ) (steps : List Step) (seen : List Bool) (start point back : ℕ)
+    (c : List Literal) (s : Step) (u m : Literal) → Ends cs vars steps seen start point back c → StandsAt steps point s
+    → u ≡ opposite s.lit → has c m ≡ true → m ≢ u → (p : Shown steps seen m) × (p.place < back)
+others_before cs vars steps seen start point back c s u m e at is h ne =
+    let p = shown_step steps seen c m e.shown h in
     (p, place_before p)
   where
-    place_before : (p : Shown steps marks m) → p.place < back
+    place_before : (p : Shown steps seen m) → p.place < back
     place_before p =
         elim (cases_lt p.place back) [
           | inl lt ↦ lt
@@ -106,13 +106,13 @@ others_before cs vars steps marks start point back c s u m e at is h ne =
           ]
         ]
 
-pub ends_back : (cs : List (List Literal)) (vars : ℕ) (steps : List Step) (marks : List Bool) (start point back : ℕ)
-    (c : List Literal) (s : Step) (u : Literal) → Ends cs vars steps marks start point back c → StandsAt steps point s
+pub ends_back : (cs : List (List Literal)) (vars : ℕ) (steps : List Step) (seen : List Bool) (start point back : ℕ)
+    (c : List Literal) (s : Step) (u : Literal) → Ends cs vars steps seen start point back c → StandsAt steps point s
     → u ≡ opposite s.lit → IsBack steps c u back
-ends_back cs vars steps marks start point back c s u e at is = record {
+ends_back cs vars steps seen start point back c s u e at is = record {
   others = record {
     negated = λ m h ne.
-        let p = others_before cs vars steps marks start point back c s u m e at is h ne in
+        let p = others_before cs vars steps seen start point back c s u m e at is h ne in
         subst (λ (z : Literal). has (lits (take back steps)) z ≡ true) p.0.is
         (has_at steps p.0.place back p.0.step p.0.at p.1);
   };
@@ -122,9 +122,9 @@ ends_back cs vars steps marks start point back c s u e at is = record {
     by_back : (b : ℕ) → back ≡ b → (n : ℕ) → OthersNegated (lits (take n steps)) c u → back ≤ n
     by_back zero same n o = omega arith
     by_back (suc q) same n o =
-        let last : MarkedAt steps marks q = e.follows.last q (omega arith) in
+        let last : MarkedAt steps seen q = e.follows.last q (omega arith) in
         let held : has c (opposite last.step.lit) ≡ true =
-        step_shown steps marks c q last.step e.shown last.at last.marked in
+        step_shown steps seen c q last.step e.shown last.at last.marked in
         let apart : opposite last.step.lit ≢ u = λ k.
         let one : q ≡ point = one_place cs vars steps q point last.step s e.trail last.at at
         (ap (λ (z : Literal). z.var) (k ∙ is)) in
@@ -139,10 +139,10 @@ ends_back cs vars steps marks start point back c s u e at is = record {
         omega arith
 
 -- the literal itself is open before `start`
-pub ends_open : (cs : List (List Literal)) (vars : ℕ) (steps : List Step) (marks : List Bool) (start point back : ℕ)
-    (c : List Literal) (s : Step) (u : Literal) → Ends cs vars steps marks start point back c → StandsAt steps point s
+pub ends_open : (cs : List (List Literal)) (vars : ℕ) (steps : List Step) (seen : List Bool) (start point back : ℕ)
+    (c : List Literal) (s : Step) (u : Literal) → Ends cs vars steps seen start point back c → StandsAt steps point s
     → u ≡ opposite s.lit → IsOpen (lits (take start steps)) u
-ends_open cs vars steps marks start point back c s u e at is = record {
+ends_open cs vars steps seen start point back c s u e at is = record {
   itself = absent u (ap (λ (z : Literal). z.var) is);
   negation = absent (opposite u) (ap (λ (z : Literal). z.var) is);
 }
@@ -166,40 +166,40 @@ others_more steps n k c u le o = record {
 }
 
 -- so the clause is new
-pub ends_new : (cs : List (List Literal)) (vars : ℕ) (steps : List Step) (marks : List Bool) (start point back : ℕ)
-    (c : List Literal) (s : Step) (u : Literal) → Ends cs vars steps marks start point back c → StandsAt steps point s
+pub ends_new : (cs : List (List Literal)) (vars : ℕ) (steps : List Step) (seen : List Bool) (start point back : ℕ)
+    (c : List Literal) (s : Step) (u : Literal) → Ends cs vars steps seen start point back c → StandsAt steps point s
     → u ≡ opposite s.lit → IsClosed cs (lits (take start steps)) → IsNew cs c
-ends_new cs vars steps marks start point back c s u e at is closed = record {
+ends_new cs vars steps seen start point back c s u e at is closed = record {
   literal = u;
   set = lits (take start steps);
   closed = closed;
-  held = ends_held cs vars steps marks start point back c s u e at is;
+  held = ends_held cs vars steps seen start point back c s u e at is;
   others = others_more steps back start c u e.follows.within
-      (ends_back cs vars steps marks start point back c s u e at is).others;
-  open_literal = ends_open cs vars steps marks start point back c s u e at is;
+      (ends_back cs vars steps seen start point back c s u e at is).others;
+  open_literal = ends_open cs vars steps seen start point back c s u e at is;
 }
 
 -- what is left, in the words of the calls
-pub ends_from : (cs : List (List Literal)) (vars : ℕ) (steps read : List Step) (old marks : List Bool)
+pub ends_from : (cs : List (List Literal)) (vars : ℕ) (steps read : List Step) (old seen : List Bool)
     (start point back : ℕ) (c : List Literal) → IsTrail cs vars steps → read ≡ steps → IsPoint read old start point
-    → KeepsFrom read start old marks → Shows marks (lits read) c → FollowsLast read marks start back
-    → Ends cs vars steps marks start point back c
-ends_from cs vars steps read old marks start point back c trail same p k shown follows = record {
+    → KeepsFrom read start old seen → Shows seen (lits read) c → FollowsLast read seen start back
+    → Ends cs vars steps seen start point back c
+ends_from cs vars steps read old seen start point back c trail same p k shown follows = record {
   trail = trail;
-  alone = subst (λ (z : List Step). IsPoint z marks start point) same (point_kept read old marks start point k p);
-  shown = subst (λ (z : List Step). Shows marks (lits z) c) same shown;
-  follows = subst (λ (z : List Step). FollowsLast z marks start back) same follows;
+  alone = subst (λ (z : List Step). IsPoint z seen start point) same (point_kept read old seen start point k p);
+  shown = subst (λ (z : List Step). Shows seen (lits z) c) same shown;
+  follows = subst (λ (z : List Step). FollowsLast z seen start back) same follows;
 }
 
-pub stands_from : (steps read : List Step) (marks : List Bool) (start point : ℕ) (s : Step) → read ≡ steps
-    → IsPoint read marks start point → s ≡ get_or read point s → StandsAt steps point s
-stands_from steps read marks start point s same p is =
+pub stands_from : (steps read : List Step) (seen : List Bool) (start point : ℕ) (s : Step) → read ≡ steps
+    → IsPoint read seen start point → s ≡ get_or read point s → StandsAt steps point s
+stands_from steps read seen start point s same p is =
     subst (λ (z : List Step). StandsAt z point s) same (record { within = p.marked.at.within; is = is })
 
-pub shown_negated : (steps : List Step) (marks : List Bool) (c : List Literal) → Shows marks (lits steps) c
+pub shown_negated : (steps : List Step) (seen : List Bool) (c : List Literal) → Shows seen (lits steps) c
     → all_negated (lits steps) c ≡ true
-shown_negated steps marks c k = all_negated_from (lits steps) c
-    (λ m h. (and_parts (is_marked marks m.var) (has (lits steps) (opposite m)) (sym (k.same m) ∙ h)).1)
+shown_negated steps seen c k = all_negated_from (lits steps) c
+    (λ m h. (and_parts (is_marked seen m.var) (has (lits steps) (opposite m)) (sym (k.same m) ∙ h)).1)
 
 -- a decision is one of the decisions
 decision_there : (steps : List Step) (i : ℕ) (s : Step) → i < length steps → s ≡ get_or steps i s → s.reason ≡ None
@@ -218,15 +218,15 @@ decision_there (x ∷ xs) (suc i) s lt e n = more (is_none x.reason) (decision_t
     more true h = has-there x.lit (decisions xs) s.lit h
     more false h = h
 
-pub shown_decided : (steps : List Step) (marks : List Bool) (c : List Literal) → Shows marks (lits steps) c
-    → AreDecisions steps marks 0 → all_negated (decisions steps) c ≡ true
-shown_decided steps marks c k d = all_negated_from (decisions steps) c (λ m h.
-    let p = shown_step steps marks c m k h in
+pub shown_decided : (steps : List Step) (seen : List Bool) (c : List Literal) → Shows seen (lits steps) c
+    → AreDecisions steps seen 0 → all_negated (decisions steps) c ≡ true
+shown_decided steps seen c k d = all_negated_from (decisions steps) c (λ m h.
+    let p = shown_step steps seen c m k h in
     subst (λ (z : Literal). has (decisions steps) z ≡ true) p.is
     (decision_there steps p.place p.step p.at.within p.at.is
     (d.decided p.place p.step (omega arith) p.at p.marked)))
 
-pub refuted : (steps read : List Step) (marks : List Bool) (c : List Literal) → read ≡ steps → Shows marks (lits read) c
-    → AreDecisions read marks 0 → all_negated (decisions steps) c ≡ true
-refuted steps read marks c same k d = subst (λ (z : List Step). all_negated (decisions z) c ≡ true) same
-    (shown_decided read marks c k d)
+pub refuted : (steps read : List Step) (seen : List Bool) (c : List Literal) → read ≡ steps → Shows seen (lits read) c
+    → AreDecisions read seen 0 → all_negated (decisions steps) c ≡ true
+refuted steps read seen c same k d = subst (λ (z : List Step). all_negated (decisions z) c ≡ true) same
+    (shown_decided read seen c k d)

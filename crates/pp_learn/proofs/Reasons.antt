@@ -10,29 +10,29 @@ use Rattle.pp_trail.specs.declared.step.Step.{Step}
 use Rattle.pp_trail.specs.Trail.{lits, IsReason, IsTrail}
 use Rattle.pp_trail.proofs.Places.{literal_at, distinct_apart}
 use Rattle.pp_clause.specs.Bound.{Fits}
-use Rattle.pp_learn.specs.Marks.{FitAll}
+use Rattle.pp_learn.specs.Seen.{FitAll}
 use Rattle.pp_learn.specs.Reached.{IsTrailFor, Reached, ReasonAt, Forces}
 use Rattle.pp_learn.proofs.Places.{step_in_range}
 use Rattle.pp_learn.proofs.Chains.{numbered_within, numbered_is, derived_some, derived_numbers}
 
 -- the reason as the trail has it
-pub reason_at : (cs : List (List Literal)) (steps : List Step) (marks : List Bool) (place n : ℕ)
-    → IsTrailFor cs steps marks → (r : ReasonAt steps place n) → IsReason cs (lits (take place steps)) r.step.lit n
-reason_at cs steps marks place n trail r = trail.reasons place r.step r.at n r.is
+pub reason_at : (cs : List (List Literal)) (steps : List Step) (seen : List Bool) (place n : ℕ)
+    → IsTrailFor cs steps seen → (r : ReasonAt steps place n) → IsReason cs (lits (take place steps)) r.step.lit n
+reason_at cs steps seen place n trail r = trail.reasons place r.step r.at n r.is
 
-pub reason_numbered : (cs : List (List Literal)) (steps : List Step) (marks : List Bool) (place n : ℕ)
-    → IsTrailFor cs steps marks → ReasonAt steps place n → (1 ≤ n) × (n ≤ length cs)
-reason_numbered cs steps marks place n trail r =
-    let q = reason_at cs steps marks place n trail r in
+pub reason_numbered : (cs : List (List Literal)) (steps : List Step) (seen : List Bool) (place n : ℕ)
+    → IsTrailFor cs steps seen → ReasonAt steps place n → (1 ≤ n) × (n ≤ length cs)
+reason_numbered cs steps seen place n trail r =
+    let q = reason_at cs steps seen place n trail r in
     let w = numbered_within cs n q.clause q.is in
     (w.0, w.1)
 
 -- what is looked up is that clause
-pub reason_forces : (cs : List (List Literal)) (steps : List Step) (marks : List Bool) (place n : ℕ)
-    (c got : List Literal) → IsTrailFor cs steps marks → ReasonAt steps place n → slice_get cs (n - 1) ≡ Some got
+pub reason_forces : (cs : List (List Literal)) (steps : List Step) (seen : List Bool) (place n : ℕ)
+    (c got : List Literal) → IsTrailFor cs steps seen → ReasonAt steps place n → slice_get cs (n - 1) ≡ Some got
     → c ≡ got → IsClause got → Forces cs steps place n c
-reason_forces cs steps marks place n c got trail r look same order =
-    let q = reason_at cs steps marks place n trail r in
+reason_forces cs steps seen place n c got trail r look same order =
+    let q = reason_at cs steps seen place n trail r in
     let is : c ≡ q.clause = same ∙ numbered_is cs n q.clause got q.is look in
     record {
       step = r.step;
@@ -51,25 +51,25 @@ same_or_not l m = cases (literal_eq l m) refl
     cases false e = inr (λ s. false_not_true (sym e ∙ ap (literal_eq l) (sym s) ∙ literal_eq-same l))
 
 -- and its variables are those of the trail
-pub reason_fits : (cs : List (List Literal)) (steps : List Step) (marks : List Bool) (place n : ℕ) (c : List Literal)
-    → IsTrailFor cs steps marks → Forces cs steps place n c → Fits (length marks) c
-reason_fits cs steps marks place n c trail f =
-    All-from_has (λ l. l.var < length marks) c (λ m h.
+pub reason_fits : (cs : List (List Literal)) (steps : List Step) (seen : List Bool) (place n : ℕ) (c : List Literal)
+    → IsTrailFor cs steps seen → Forces cs steps place n c → Fits (length seen) c
+reason_fits cs steps seen place n c trail f =
+    All-from_has (λ l. l.var < length seen) c (λ m h.
     elim (same_or_not m f.step.lit) [
-      | inl e ↦ (let r = step_in_range cs (length marks - 1) steps place f.step trail f.at in
-          let b : f.step.lit.var < length marks = omega (arith, r.0, r.1) in
-          subst (λ (z : Literal). z.var < length marks) (sym e) b)
+      | inl e ↦ (let r = step_in_range cs (length seen - 1) steps place f.step trail f.at in
+          let b : f.step.lit.var < length seen = omega (arith, r.0, r.1) in
+          subst (λ (z : Literal). z.var < length seen) (sym e) b)
       | inr ne ↦ (let p = literal_at steps place (opposite m) (f.others.negated m h ne) in
-          let r = step_in_range cs (length marks - 1) steps p.place p.step trail p.stands in
+          let r = step_in_range cs (length seen - 1) steps p.place p.step trail p.stands in
           let same : p.step.lit.var ≡ m.var = ap (λ (z : Literal). z.var) p.is in
           omega (arith, r.0, r.1, same))
     ])
 
 -- each variable of the trail has a place in the marks
-pub trail_fits : (cs : List (List Literal)) (steps : List Step) (marks : List Bool) → IsTrailFor cs steps marks
-    → FitAll (length marks) steps
-trail_fits cs steps marks trail = record {
-  fit = λ i s at. let r = step_in_range cs (length marks - 1) steps i s trail at in omega (arith, r.0, r.1);
+pub trail_fits : (cs : List (List Literal)) (steps : List Step) (seen : List Bool) → IsTrailFor cs steps seen
+    → FitAll (length seen) steps
+trail_fits cs steps seen trail = record {
+  fit = λ i s at. let r = step_in_range cs (length seen - 1) steps i s trail at in omega (arith, r.0, r.1);
 }
 
 -- the same in the words of the calls
@@ -84,12 +84,12 @@ pub apart_from : (cs : List (List Literal)) (vars : ℕ) (steps read : List Step
 apart_from cs vars steps read trail same b = distinct_apart steps trail.distinct
     (subst (λ (z : List Step). HasBoth (lits z)) same b)
 
-pub chain_some : (cs : List (List Literal)) (steps : List Step) (marks : List Bool) (chain read : List ℕ)
-    → Reached cs steps marks chain → read ≡ chain → 0 < length read
-chain_some cs steps marks chain read r same = subst (λ (z : List ℕ). 0 < length z) (sym same)
+pub chain_some : (cs : List (List Literal)) (steps : List Step) (seen : List Bool) (chain read : List ℕ)
+    → Reached cs steps seen chain → read ≡ chain → 0 < length read
+chain_some cs steps seen chain read r same = subst (λ (z : List ℕ). 0 < length z) (sym same)
     (derived_some cs chain r.found r.by_chain)
 
-pub chain_numbers : (cs : List (List Literal)) (steps : List Step) (marks : List Bool) (chain read : List ℕ)
-    → Reached cs steps marks chain → read ≡ chain → All (λ n. 1 ≤ n) read
-chain_numbers cs steps marks chain read r same = subst (λ (z : List ℕ). All (λ n. 1 ≤ n) z) (sym same)
+pub chain_numbers : (cs : List (List Literal)) (steps : List Step) (seen : List Bool) (chain read : List ℕ)
+    → Reached cs steps seen chain → read ≡ chain → All (λ n. 1 ≤ n) read
+chain_numbers cs steps seen chain read r same = subst (λ (z : List ℕ). All (λ n. 1 ≤ n) z) (sym same)
     (derived_numbers cs chain r.found r.by_chain)

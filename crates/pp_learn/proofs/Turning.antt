@@ -16,7 +16,7 @@ use Rattle.pp_clause.proofs.Resolving.{has-without, without-has}
 use Rattle.pp_trail.specs.declared.step.Step.{Step}
 use Rattle.pp_trail.specs.Trail.{lits, StandsAt, IsTrail}
 use Rattle.pp_trail.proofs.Places.{literal_at}
-use Rattle.pp_learn.specs.Marks.{is_marked, has_var, Shows, MarksAll, MarkedAt, KeepsFrom, Turns}
+use Rattle.pp_learn.specs.Seen.{is_marked, has_var, Shows, MarksAll, MarkedAt, KeepsFrom, Turns}
 use Rattle.pp_learn.specs.Reached.{IsTrailFor, Reached, Forces}
 use Rattle.pp_learn.proofs.Places.{has_step, has_more, one_place, literal_place, same_step, trail_consistent}
 use Rattle.pp_learn.proofs.Chains.{derived_push}
@@ -87,21 +87,21 @@ others_false : (cs : List (List Literal)) (steps : List Step) (place n : ℕ) (c
 others_false cs steps place n c f m h ne = has_more steps place (opposite m) (f.others.negated m h ne)
 
 -- so exactly its own literal clashes
-one_clash : (cs : List (List Literal)) (vars : ℕ) (steps : List Step) (marks : List Bool) (place n : ℕ)
-    (c found : List Literal) (f : Forces cs steps place n c) → IsTrail cs vars steps → Shows marks (lits steps) found
-    → is_marked marks f.step.lit.var ≡ true → clashes found c ≡ f.step.lit ∷ []
-one_clash cs vars steps marks place n c found f trail shown marked =
+one_clash : (cs : List (List Literal)) (vars : ℕ) (steps : List Step) (seen : List Bool) (place n : ℕ)
+    (c found : List Literal) (f : Forces cs steps place n c) → IsTrail cs vars steps → Shows seen (lits steps) found
+    → is_marked seen f.step.lit.var ≡ true → clashes found c ≡ f.step.lit ∷ []
+one_clash cs vars steps seen place n c found f trail shown marked =
     let x : Literal = f.step.lit in
     let twice : (m : Literal) → has (lits steps) m ≡ true → has (lits steps) (opposite (opposite m)) ≡ true =
     λ m h. subst (λ (z : Literal). has (lits steps) z ≡ true) (sym (opposite_twice m)) h in
     filter_alone (λ l. has found (opposite l)) c f.step.lit f.order.ascending f.held
-    (shown.same (opposite f.step.lit) ∙ and_from (is_marked marks f.step.lit.var)
+    (shown.same (opposite f.step.lit) ∙ and_from (is_marked seen f.step.lit.var)
     (has (lits steps) (opposite (opposite f.step.lit))) marked
     (twice f.step.lit (has_step steps place f.step f.at)))
     (λ m h ne. false_from_ne_true (has found (opposite m)) (λ t.
     (trail_consistent cs vars steps trail).apart m
     (subst (λ (z : Literal). has (lits steps) z ≡ true) (opposite_twice m)
-    (and_parts (is_marked marks m.var) (has (lits steps) (opposite (opposite m)))
+    (and_parts (is_marked seen m.var) (has (lits steps) (opposite (opposite m)))
     (sym (shown.same (opposite m)) ∙ t)).1)
     (others_false cs steps place n c f m h ne)))
 
@@ -117,11 +117,11 @@ marked_self : (mid : List Bool) (x y : ℕ) → x < length mid → y ≡ x → i
 marked_self mid x y lt e = ap (λ (z : ℕ). get_or (set mid x false) z false) e ∙ get_or-set_same mid x false false lt
 
 -- the marks show the resolvent
-shown_after : (cs : List (List Literal)) (vars : ℕ) (steps : List Step) (marks mid : List Bool) (place n : ℕ)
-    (c found : List Literal) (f : Forces cs steps place n c) → IsTrail cs vars steps → Shows marks (lits steps) found
-    → MarksAll marks mid c → f.step.lit.var < length mid
+shown_after : (cs : List (List Literal)) (vars : ℕ) (steps : List Step) (seen mid : List Bool) (place n : ℕ)
+    (c found : List Literal) (f : Forces cs steps place n c) → IsTrail cs vars steps → Shows seen (lits steps) found
+    → MarksAll seen mid c → f.step.lit.var < length mid
     → Shows (set mid f.step.lit.var false) (lits steps) (without f.step.lit.var (found ++ c))
-shown_after cs vars steps marks mid place n c found f trail shown all lt = record {
+shown_after cs vars steps seen mid place n c found f trail shown all lt = record {
   same = λ m.
       elim (eqb_tells m.var f.step.lit.var) [
         | inl p ↦ false_from_ne_true (has (without f.step.lit.var (found ++ c)) m)
@@ -131,21 +131,21 @@ shown_after cs vars steps marks mid place n c found f trail shown all lt = recor
             (λ h. and_from (is_marked (set mid f.step.lit.var false) m.var) (has (lits steps) (opposite m))
             (marked_other mid f.step.lit.var m.var p.1 ∙ all.same m.var
             ∙ elim (has-append_cases found c m (without-has f.step.lit.var (found ++ c) m h).0) [
-              | inl k ↦ or_left (is_marked marks m.var) (has_var c m.var)
-                  (and_parts (is_marked marks m.var) (has (lits steps) (opposite m)) (sym (shown.same m) ∙ k)).0
-              | inr k ↦ or_right (is_marked marks m.var) (has_var c m.var) (has_var_from c m k)
+              | inl k ↦ or_left (is_marked seen m.var) (has_var c m.var)
+                  (and_parts (is_marked seen m.var) (has (lits steps) (opposite m)) (sym (shown.same m) ∙ k)).0
+              | inr k ↦ or_right (is_marked seen m.var) (has_var c m.var) (has_var_from c m k)
             ])
             (elim (has-append_cases found c m (without-has f.step.lit.var (found ++ c) m h).0) [
-              | inl k ↦ (and_parts (is_marked marks m.var) (has (lits steps) (opposite m)) (sym (shown.same m) ∙ k)).1
+              | inl k ↦ (and_parts (is_marked seen m.var) (has (lits steps) (opposite m)) (sym (shown.same m) ∙ k)).1
               | inr k ↦ others_false cs steps place n c f m k (λ e. p.1 (ap (λ (z : Literal). z.var) e))
             ]))
             (λ h.
             let both = and_parts (is_marked (set mid f.step.lit.var false) m.var) (has (lits steps) (opposite m)) h in
             has-without f.step.lit.var (found ++ c) m (elim
-            (or_cases (is_marked marks m.var) (has_var c m.var)
+            (or_cases (is_marked seen m.var) (has_var c m.var)
             (sym (all.same m.var) ∙ sym (marked_other mid f.step.lit.var m.var p.1) ∙ both.0)) [
               | inl k ↦ has-append_left found c m (shown.same m
-                  ∙ and_from (is_marked marks m.var) (has (lits steps) (opposite m)) k both.1)
+                  ∙ and_from (is_marked seen m.var) (has (lits steps) (opposite m)) k both.1)
               | inr k ↦ has-append_right found c m (borne m (bearer c m.var k) both.1 p.1)
             ]) p.1)
       ];
@@ -162,15 +162,15 @@ shown_after cs vars steps marks mid place n c found f trail shown all lt = recor
     ]
 
 -- the chain goes on by the reason
-pub reached_turn : (cs : List (List Literal)) (vars : ℕ) (steps : List Step) (marks mid : List Bool) (chain : List ℕ)
+pub reached_turn : (cs : List (List Literal)) (vars : ℕ) (steps : List Step) (seen mid : List Bool) (chain : List ℕ)
     (place n : ℕ) (c : List Literal) (f : Forces cs steps place n c) → IsTrail cs vars steps
-    → Reached cs steps marks chain → is_marked marks f.step.lit.var ≡ true → MarksAll marks mid c
+    → Reached cs steps seen chain → is_marked seen f.step.lit.var ≡ true → MarksAll seen mid c
     → f.step.lit.var < length mid → Reached cs steps (set mid f.step.lit.var false) (chain ++ n ∷ [])
-reached_turn cs vars steps marks mid chain place n c f trail r marked all lt = record {
+reached_turn cs vars steps seen mid chain place n c f trail r marked all lt = record {
   found = without f.step.lit.var (r.found ++ c);
   by_chain = derived_push cs chain n r.found c (without f.step.lit.var (r.found ++ c)) r.by_chain f.number
-      (resolvent_of r.found c f.step.lit (one_clash cs vars steps marks place n c r.found f trail r.shown marked));
-  shown = shown_after cs vars steps marks mid place n c r.found f trail r.shown all lt;
+      (resolvent_of r.found c f.step.lit (one_clash cs vars steps seen place n c r.found f trail r.shown marked));
+  shown = shown_after cs vars steps seen mid place n c r.found f trail r.shown all lt;
 }
 
 or_false : (b : Bool) → (b || false) ≡ b
@@ -178,10 +178,10 @@ or_false true = refl
 or_false false = refl
 
 -- later steps are marked as before
-pub keeps_turn : (cs : List (List Literal)) (vars : ℕ) (steps : List Step) (marks mid : List Bool) (place n : ℕ)
-    (c : List Literal) (f : Forces cs steps place n c) → IsTrail cs vars steps → MarksAll marks mid c
-    → KeepsFrom steps (place + 1) marks (set mid f.step.lit.var false)
-keeps_turn cs vars steps marks mid place n c f trail all = record {
+pub keeps_turn : (cs : List (List Literal)) (vars : ℕ) (steps : List Step) (seen mid : List Bool) (place n : ℕ)
+    (c : List Literal) (f : Forces cs steps place n c) → IsTrail cs vars steps → MarksAll seen mid c
+    → KeepsFrom steps (place + 1) seen (set mid f.step.lit.var false)
+keeps_turn cs vars steps seen mid place n c f trail all = record {
   same = λ i s le at.
       let apart : s.lit.var ≢ f.step.lit.var = λ e. let k : i ≡ place =
       one_place cs vars steps i place s f.step trail at f.at e in omega arith in
@@ -193,47 +193,47 @@ keeps_turn cs vars steps marks mid place n c f trail all = record {
       let before : p.place < place = p.before in
       omega arith) in
       marked_other mid f.step.lit.var s.lit.var apart ∙ all.same s.lit.var
-      ∙ ap (λ (b : Bool). is_marked marks s.lit.var || b) none ∙ or_false (is_marked marks s.lit.var);
+      ∙ ap (λ (b : Bool). is_marked seen s.lit.var || b) none ∙ or_false (is_marked seen s.lit.var);
 }
 
 -- the step's own mark goes, and no other
-pub turn_done : (cs : List (List Literal)) (vars : ℕ) (steps : List Step) (marks mid : List Bool) (place n : ℕ)
-    (c : List Literal) (f : Forces cs steps place n c) → IsTrail cs vars steps → MarksAll marks mid c
-    → f.step.lit.var < length mid → Turns steps place marks (set mid f.step.lit.var false)
-turn_done cs vars steps marks mid place n c f trail all lt = record {
-  keeps = keeps_turn cs vars steps marks mid place n c f trail all;
+pub turn_done : (cs : List (List Literal)) (vars : ℕ) (steps : List Step) (seen mid : List Bool) (place n : ℕ)
+    (c : List Literal) (f : Forces cs steps place n c) → IsTrail cs vars steps → MarksAll seen mid c
+    → f.step.lit.var < length mid → Turns steps place seen (set mid f.step.lit.var false)
+turn_done cs vars steps seen mid place n c f trail all lt = record {
+  keeps = keeps_turn cs vars steps seen mid place n c f trail all;
   still = λ i s ne at h. marked_other mid f.step.lit.var s.lit.var
       (λ e. ne (one_place cs vars steps i place s f.step trail at f.at e)) ∙ all.same s.lit.var
-      ∙ or_left (is_marked marks s.lit.var) (has_var c s.lit.var) h;
+      ∙ or_left (is_marked seen s.lit.var) (has_var c s.lit.var) h;
   cleared = λ s at. marked_self mid f.step.lit.var s.lit.var lt
       (ap (λ (z : Step). z.lit.var) (same_step steps place place s f.step at f.at refl));
 }
 
 -- the same in the words of the calls
-pub resolved_reaches : (cs : List (List Literal)) (steps : List Step) (marks mid : List Bool) (chain pushed : List ℕ)
-    (place n x : ℕ) (c : List Literal) (s : Step) → (f : Forces cs steps place n c) → IsTrailFor cs steps marks
-    → Reached cs steps marks chain → (k : MarkedAt steps marks place) → MarksAll marks mid c → length mid ≡ length marks
-    → StandsAt steps place s → x ≡ s.lit.var → x < length marks → pushed ≡ chain ++ n ∷ []
+pub resolved_reaches : (cs : List (List Literal)) (steps : List Step) (seen mid : List Bool) (chain pushed : List ℕ)
+    (place n x : ℕ) (c : List Literal) (s : Step) → (f : Forces cs steps place n c) → IsTrailFor cs steps seen
+    → Reached cs steps seen chain → (k : MarkedAt steps seen place) → MarksAll seen mid c → length mid ≡ length seen
+    → StandsAt steps place s → x ≡ s.lit.var → x < length seen → pushed ≡ chain ++ n ∷ []
     → Reached cs steps (set mid x false) pushed
-resolved_reaches cs steps marks mid chain pushed place n x c s f trail r k all len at is lt push =
+resolved_reaches cs steps seen mid chain pushed place n x c s f trail r k all len at is lt push =
     let var : x ≡ f.step.lit.var =
     is ∙ ap (λ (z : Step). z.lit.var) (same_step steps place place s f.step at f.at refl) in
-    let here : is_marked marks f.step.lit.var ≡ true =
-    ap (λ (z : Step). is_marked marks z.lit.var) (same_step steps place place f.step k.step f.at k.at refl)
+    let here : is_marked seen f.step.lit.var ≡ true =
+    ap (λ (z : Step). is_marked seen z.lit.var) (same_step steps place place f.step k.step f.at k.at refl)
     ∙ k.marked in
     let fits : f.step.lit.var < length mid = omega arith in
     let done : Reached cs steps (set mid f.step.lit.var false) (chain ++ n ∷ []) =
-    reached_turn cs (length marks - 1) steps marks mid chain place n c f trail r here all fits in
+    reached_turn cs (length seen - 1) steps seen mid chain place n c f trail r here all fits in
     subst (λ (z : ℕ). Reached cs steps (set mid z false) pushed) (sym var)
     (subst (λ (z : List ℕ). Reached cs steps (set mid f.step.lit.var false) z) (sym push) done)
 
-pub resolved_turns : (cs : List (List Literal)) (steps : List Step) (marks mid : List Bool) (place n x : ℕ)
-    (c : List Literal) (s : Step) → (f : Forces cs steps place n c) → IsTrailFor cs steps marks → MarksAll marks mid c
-    → length mid ≡ length marks → StandsAt steps place s → x ≡ s.lit.var → x < length marks
-    → Turns steps place marks (set mid x false)
-resolved_turns cs steps marks mid place n x c s f trail all len at is lt =
+pub resolved_turns : (cs : List (List Literal)) (steps : List Step) (seen mid : List Bool) (place n x : ℕ)
+    (c : List Literal) (s : Step) → (f : Forces cs steps place n c) → IsTrailFor cs steps seen → MarksAll seen mid c
+    → length mid ≡ length seen → StandsAt steps place s → x ≡ s.lit.var → x < length seen
+    → Turns steps place seen (set mid x false)
+resolved_turns cs steps seen mid place n x c s f trail all len at is lt =
     let var : x ≡ f.step.lit.var =
     is ∙ ap (λ (z : Step). z.lit.var) (same_step steps place place s f.step at f.at refl) in
     let fits : f.step.lit.var < length mid = omega arith in
-    subst (λ (z : ℕ). Turns steps place marks (set mid z false)) (sym var)
-    (turn_done cs (length marks - 1) steps marks mid place n c f trail all fits)
+    subst (λ (z : ℕ). Turns steps place seen (set mid z false)) (sym var)
+    (turn_done cs (length seen - 1) steps seen mid place n c f trail all fits)

@@ -1,3 +1,3 @@
-pub mod Marks
+pub mod Seen
 pub mod Reached
 pub mod Conflict

@@ -6,17 +6,17 @@ use Rattle.pp_clause.specs.Derivation.{numbered, derived_by}
 use Rattle.pp_clause.specs.New.{OthersNegated}
 use Rattle.pp_trail.specs.declared.step.Step.{Step}
 use Rattle.pp_trail.specs.Trail.{lits, StandsAt, IsTrail}
-use Rattle.pp_learn.specs.Marks.{Shows, is_marked}
+use Rattle.pp_learn.specs.Seen.{Shows, is_marked}
 
 -- the chain derives what the marks show
-pub record Reached (cs : List (List Literal)) (steps : List Step) (marks : List Bool) (chain : List ℕ) : Type 0 where
+pub record Reached (cs : List (List Literal)) (steps : List Step) (seen : List Bool) (chain : List ℕ) : Type 0 where
   pub found : List Literal
   pub by_chain : derived_by cs chain ≡ Some found
-  pub shown : Shows marks (lits steps) found
+  pub shown : Shows seen (lits steps) found
 
 -- a trail whose variables have a place in these marks
 abbrev pub IsTrailFor : List (List Literal) → List Step → List Bool → Type 0
-IsTrailFor cs steps marks = IsTrail cs (length marks - 1) steps
+IsTrailFor cs steps seen = IsTrail cs (length seen - 1) steps
 
 -- the step at this place has this reason
 pub record ReasonAt (steps : List Step) (place n : ℕ) : Type 0 where
@@ -38,5 +38,5 @@ pub record AreForced (steps : List Step) (place : ℕ) : Type 0 where
   pub forced : (i : ℕ) (s : Step) → place < i → StandsAt steps i s → IsSome s.reason
 
 -- the marked steps from this place on have no reason
-pub record AreDecisions (steps : List Step) (marks : List Bool) (from : ℕ) : Type 0 where
-  pub decided : (i : ℕ) (s : Step) → from ≤ i → StandsAt steps i s → is_marked marks s.lit.var ≡ true → s.reason ≡ None
+pub record AreDecisions (steps : List Step) (seen : List Bool) (from : ℕ) : Type 0 where
+  pub decided : (i : ℕ) (s : Step) → from ≤ i → StandsAt steps i s → is_marked seen s.lit.var ≡ true → s.reason ≡ None

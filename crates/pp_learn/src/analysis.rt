@@ -26,13 +26,13 @@ pub struct Analysis {
 
 impl Model for Analysis {
     ghost use Rattle.std.specs.Prelude.{ℕ, length};
-    ghost use Rattle.pp_learn.specs.Marks.{AreBlank};
+    ghost use Rattle.pp_learn.specs.Seen.{AreBlank};
 
     ghost Value = { ℕ };
 
-    ghost view = { λ a. length a.work.marks.items };
+    ghost view = { λ a. length a.work.seen.items };
 
-    ghost invariant = { λ a. AreBlank a.work.marks.items };
+    ghost invariant = { λ a. AreBlank a.work.seen.items };
 }
 
 impl Analysis {

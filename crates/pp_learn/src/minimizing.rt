@@ -1,13 +1,13 @@
 //! Takes literals away that follow from the others.
 ghost use Rattle.std.specs.Prelude.{◌≡◌, ◌+◌, ◌<◌, ◌≤◌, length, OnOk};
 ghost use Rattle.pp_trail.specs.Marks.{ArePlaces};
-ghost use Rattle.pp_learn.specs.Marks.{AreMet, KeepsFrom};
+ghost use Rattle.pp_learn.specs.Seen.{AreMet, KeepsFrom};
 ghost use Rattle.pp_learn.specs.Conflict.{GoesOnFrom};
 ghost use Rattle.pp_learn.specs.Reached.{IsTrailFor, Reached};
 
 use crate::NoMemory;
-use crate::marks::marked_place;
 use crate::resolving::resolve;
+use crate::seen::marked_place;
 use pp_clause::Clauses;
 use pp_trail::{Mark, Step};
 
@@ -18,26 +18,26 @@ pub fn minimize_before(
     places: &[Option<Mark>],
     end: usize,
     order: &[u32],
-    marks: &mut [bool],
+    seen: &mut [bool],
     met: &mut Vec<u32>,
     chain: &mut Vec<u32>,
 ) -> Result<(), NoMemory>
-    requires trail { IsTrailFor clauses.now trail.now marks.old }
+    requires trail { IsTrailFor clauses.now trail.now seen.old }
     requires places { ArePlaces places.now trail.now }
-    requires every { length places.now ≡ length marks.old }
-    requires reached { Reached clauses.now trail.now marks.old chain.old.items }
-    requires met { AreMet marks.old met.old.items }
-    ensures reached { OnOk result (Reached clauses.now trail.now marks.new chain.new.items) }
-    ensures keeps { OnOk result (KeepsFrom trail.now end marks.old marks.new) }
-    ensures met { OnOk result (AreMet marks.new met.new.items) }
+    requires every { length places.now ≡ length seen.old }
+    requires reached { Reached clauses.now trail.now seen.old chain.old.items }
+    requires met { AreMet seen.old met.old.items }
+    ensures reached { OnOk result (Reached clauses.now trail.now seen.new chain.new.items) }
+    ensures keeps { OnOk result (KeepsFrom trail.now end seen.old seen.new) }
+    ensures met { OnOk result (AreMet seen.new met.new.items) }
     ensures chain { OnOk result (GoesOnFrom chain.old.items chain.new.items) }
 {
     for at in (0..order.len()).rev() {
         let var = order[at];
-        if (var as usize) < marks.len() {
-            if let Some(place) = marked_place(trail, places, marks, var) {
+        if (var as usize) < seen.len() {
+            if let Some(place) = marked_place(trail, places, seen, var) {
                 if place < end {
-                    minimize(clauses, trail, place, marks, met, chain)?;
+                    minimize(clauses, trail, place, seen, met, chain)?;
                 }
             }
         }
@@ -50,25 +50,25 @@ fn minimize(
     clauses: &Clauses,
     trail: &[Step],
     place: usize,
-    marks: &mut [bool],
+    seen: &mut [bool],
     met: &mut Vec<u32>,
     chain: &mut Vec<u32>,
 ) -> Result<(), NoMemory>
-    requires trail { IsTrailFor clauses.now trail.now marks.old }
+    requires trail { IsTrailFor clauses.now trail.now seen.old }
     requires within { place < length trail.now }
-    requires reached { Reached clauses.now trail.now marks.old chain.old.items }
-    requires met { AreMet marks.old met.old.items }
-    ensures reached { OnOk result (Reached clauses.now trail.now marks.new chain.new.items) }
-    ensures keeps { OnOk result (KeepsFrom trail.now (place + 1) marks.old marks.new) }
-    ensures met { OnOk result (AreMet marks.new met.new.items) }
+    requires reached { Reached clauses.now trail.now seen.old chain.old.items }
+    requires met { AreMet seen.old met.old.items }
+    ensures reached { OnOk result (Reached clauses.now trail.now seen.new chain.new.items) }
+    ensures keeps { OnOk result (KeepsFrom trail.now (place + 1) seen.old seen.new) }
+    ensures met { OnOk result (AreMet seen.new met.new.items) }
     ensures chain { OnOk result (GoesOnFrom chain.old.items chain.new.items) }
 {
     let step = trail[place];
-    if !marks[step.lit.var() as usize] {
+    if !seen[step.lit.var() as usize] {
         return Ok(());
     }
     let Some(reason) = step.reason else {
         return Ok(());
     };
-    resolve(clauses, trail, place, reason, marks, met, chain)
+    resolve(clauses, trail, place, reason, seen, met, chain)
 }

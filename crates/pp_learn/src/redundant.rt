@@ -51,13 +51,13 @@ impl Plan {
         clauses: &Clauses,
         trail: &[Step],
         places: &[Option<Mark>],
-        marks: &[bool],
+        seen: &[bool],
         met: &[u32],
     ) -> Result<(), NoMemory> {
         self.forget();
         for var in met {
-            if is_marked(marks, *var) && self.known_of(*var).is_none() {
-                self.look(clauses, trail, places, marks, *var)?;
+            if is_marked(seen, *var) && self.known_of(*var).is_none() {
+                self.look(clauses, trail, places, seen, *var)?;
             }
         }
         Ok(())
@@ -102,10 +102,10 @@ impl Plan {
         clauses: &Clauses,
         trail: &[Step],
         places: &[Option<Mark>],
-        marks: &[bool],
+        seen: &[bool],
         var: u32,
     ) -> Result<(), NoMemory> {
-        self.enter(trail, places, marks, var)?;
+        self.enter(trail, places, seen, var)?;
         for _ in 0..LOOKS {
             let Some(top) = self.open.pop() else {
                 return Ok(());
@@ -118,7 +118,7 @@ impl Plan {
                         read: top.read.saturating_add(1),
                     })?;
                     if other != top.var {
-                        self.visit(trail, places, marks, other)?;
+                        self.visit(trail, places, seen, other)?;
                     }
                 }
                 None => self.note(top.var, true)?,
@@ -133,18 +133,18 @@ impl Plan {
         &mut self,
         trail: &[Step],
         places: &[Option<Mark>],
-        marks: &[bool],
+        seen: &[bool],
         var: u32,
     ) -> Result<(), NoMemory> {
         match self.known_of(var) {
             Some(true) => Ok(()),
             Some(false) => {
-                if !is_marked(marks, var) {
-                    self.fail(marks)?;
+                if !is_marked(seen, var) {
+                    self.fail(seen)?;
                 }
                 Ok(())
             }
-            None => self.enter(trail, places, marks, var),
+            None => self.enter(trail, places, seen, var),
         }
     }
 
@@ -153,7 +153,7 @@ impl Plan {
         &mut self,
         trail: &[Step],
         places: &[Option<Mark>],
-        marks: &[bool],
+        seen: &[bool],
         var: u32,
     ) -> Result<(), NoMemory> {
         match reason_of(trail, places, var) {
@@ -167,8 +167,8 @@ impl Plan {
             }
             None => {
                 self.note(var, false)?;
-                if !is_marked(marks, var) {
-                    self.fail(marks)?;
+                if !is_marked(seen, var) {
+                    self.fail(seen)?;
                 }
                 Ok(())
             }
@@ -176,13 +176,13 @@ impl Plan {
     }
 
     /// Closes the open variables that need one which neither follows nor is marked, as far up as that reaches.
-    fn fail(&mut self, marks: &[bool]) -> Result<(), NoMemory> {
+    fn fail(&mut self, seen: &[bool]) -> Result<(), NoMemory> {
         for _ in 0..self.open.len() {
             let Some(top) = self.open.pop() else {
                 return Ok(());
             };
             self.note(top.var, false)?;
-            if is_marked(marks, top.var) {
+            if is_marked(seen, top.var) {
                 return Ok(());
             }
         }
@@ -191,8 +191,8 @@ impl Plan {
 }
 
 /// Whether the variable is marked.
-fn is_marked(marks: &[bool], var: u32) -> bool {
-    (var as usize) < marks.len() && marks[var as usize]
+fn is_marked(seen: &[bool], var: u32) -> bool {
+    (var as usize) < seen.len() && seen[var as usize]
 }
 
 /// The reason of the variable's step.

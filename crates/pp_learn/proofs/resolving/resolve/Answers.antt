@@ -9,11 +9,11 @@ pub returns-clause-reached : goal.returns-clause-reached
 returns-clause-reached c =
     let at = read_at c.args.trail.now c.args.place c.index-trail-place.result c.requires.within
     c.index-trail-place.is in
-    let fit = (trail_fits c.args.clauses.now c.args.trail.now c.args.marks.now c.requires.trail).fit c.args.place
+    let fit = (trail_fits c.args.clauses.now c.args.trail.now c.args.seen.now c.requires.trail).fit c.args.place
     c.index-trail-place.result at in
     let var : c.var.result ≡ c.index-trail-place.result.lit.var =
     c.var.ensures.value ∙ ap (λ (z : Step). z.lit.var) (sym c.index-trail-place.is) in
-    resolved_reaches c.args.clauses.now c.args.trail.now c.args.marks.now c.mark_all.new.marks c.args.chain.now.items
+    resolved_reaches c.args.clauses.now c.args.trail.now c.args.seen.now c.mark_all.new.seen c.args.chain.now.items
     c.push.new.self.items c.args.place c.args.reason c.var.result c.reason_of-clause.result.now
     c.index-trail-place.result
     c.reason_of-clause.ensures.forces c.requires.trail c.requires.reached c.requires.marked c.in_ok-mark_all.ensures.all
@@ -23,10 +23,10 @@ pub returns-clause-turns : goal.returns-clause-turns
 returns-clause-turns c =
     let at = read_at c.args.trail.now c.args.place c.index-trail-place.result c.requires.within
     c.index-trail-place.is in
-    let fit = (trail_fits c.args.clauses.now c.args.trail.now c.args.marks.now c.requires.trail).fit c.args.place
+    let fit = (trail_fits c.args.clauses.now c.args.trail.now c.args.seen.now c.requires.trail).fit c.args.place
     c.index-trail-place.result at in
     let var : c.var.result ≡ c.index-trail-place.result.lit.var =
     c.var.ensures.value ∙ ap (λ (z : Step). z.lit.var) (sym c.index-trail-place.is) in
-    resolved_turns c.args.clauses.now c.args.trail.now c.args.marks.now c.mark_all.new.marks c.args.place c.args.reason
+    resolved_turns c.args.clauses.now c.args.trail.now c.args.seen.now c.mark_all.new.seen c.args.place c.args.reason
     c.var.result c.reason_of-clause.result.now c.index-trail-place.result
     c.reason_of-clause.ensures.forces c.requires.trail c.in_ok-mark_all.ensures.all (omega arith) at var (omega arith)

@@ -1,4 +1,4 @@
-use Rattle.pp_learn.specs.Marks.{AreMet}
+use Rattle.pp_learn.specs.Seen.{AreMet}
 use Rattle.std.proofs.Common.{take}
 use Rattle.pp_trail.specs.Trail.{lits}
 use Rattle.pp_learn.specs.Conflict.{AreBeforePoint}
@@ -9,9 +9,9 @@ use Rattle.pp_learn.proofs.walking.first_uip.Given as goal
 abbrev pub invariant-loop-below : goal.invariant-loop-below
 invariant-loop-below l =
     record {
-      reached : Reached l.clauses l.trail l.marks l.chain.items;
-      seeks : Seeks l.trail l.marks l.start l.other l.place;
-      met : AreMet l.marks l.met.items;
+      reached : Reached l.clauses l.trail l.seen l.chain.items;
+      seeks : Seeks l.trail l.seen l.start l.other l.place;
+      met : AreMet l.seen l.met.items;
       first : AreBeforePoint l.clauses (lits (take l.start l.trail)) l.chain.items;
     }
 

@@ -5,7 +5,7 @@ use Rattle.pp_learn.proofs.Reasons.{apart_from, chain_some, chain_numbers}
 use Rattle.pp_learn.proofs.work.Work.refute.Goals as goal
 
 pub lemma_of-requires-clause-apart : goal.lemma_of-requires-clause-apart
-lemma_of-requires-clause-apart c = apart_from c.args.clauses.now (length c.args.self.now.marks.items - 1)
+lemma_of-requires-clause-apart c = apart_from c.args.clauses.now (length c.args.self.now.seen.items - 1)
     c.args.trail.now c.args.trail.now c.requires.trail refl
 
 pub lemma_of-requires-clause-some : goal.lemma_of-requires-clause-some
@@ -19,5 +19,5 @@ lemma_of-requires-clause-numbers c = chain_numbers _ _ _ _ c.deref-2.result.now 
 pub returns-clause-decided : goal.returns-clause-decided
 returns-clause-decided c =
     IfOk-weaker c.lemma_of.result _ _ (λ m k.
-    refuted c.args.trail.now c.args.trail.now c.to_decisions.new.marks m.clause refl k
+    refuted c.args.trail.now c.args.trail.now c.to_decisions.new.seen m.clause refl k
     c.in_ok-to_decisions.ensures.decided) c.lemma_of.ensures.shown
