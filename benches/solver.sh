@@ -1,17 +1,17 @@
 #!/usr/bin/env bash
-# Times the solver beside minisat, by conflict: random clauses of three literals, pigeons in holes, and the program's circuits
-# of words (products, their order, sums, order), which circuit.py makes. For each it solves until 1,000, 5,000 and 10,000 lemmas, and prints how many
-# microseconds a lemma took, the processor time of solving alone: what a run with one lemma takes, which is reading, is
-# taken off. Of minisat (-no-pre, at most 20 s) it prints the same of a whole run, without its parsing, and at the end how
-# many times longer our conflicts took at the last number.
-# It wants minisat (apt-get install minisat), python3, and crates/pp_cdcl_bench/out/pp_cdcl_bench, which `rt run` in that
-# crate's folder leaves; another program in its place is named by CDCL_BENCH.
+# Times the solver beside minisat, by conflict: random clauses of three literals, pigeons in holes, and the program's
+# circuits of words (products, their order, sums, order), which circuit.py makes. For each it solves until 1,000, 5,000
+# and 10,000 lemmas, and prints how many microseconds a lemma took, the processor time of solving alone: what a run with
+# one lemma takes, which is reading, is taken off. Of minisat (-no-pre, at most 20 s) it prints the same of a whole run,
+# without its parsing, and at the end how many times longer our conflicts took at the last number.
+# It wants minisat (apt-get install minisat), python3, and crates/pp_solver_cases/out/pp_solver_cases, which `rt run` in
+# that crate's folder leaves; another program in its place is named by SOLVER_CASES.
 set -eu
 root=$(cd "$(dirname "${BASH_SOURCE[0]}")/.." && pwd)
 here=$(mktemp -d)
 trap 'rm -rf "$here"' EXIT
 cd "$here"
-python3 -B - "${CDCL_BENCH:-$root/crates/pp_cdcl_bench/out/pp_cdcl_bench}" "$root/benches" <<'PY'
+python3 -B - "${SOLVER_CASES:-$root/crates/pp_solver_cases/out/pp_solver_cases}" "$root/benches" <<'PY'
 import random, re, resource, subprocess, sys
 
 sys.path.insert(0, sys.argv[2])
@@ -82,9 +82,8 @@ def write(clauses):
         out.write(f"p cnf {variables} {len(clauses)}\n")
         for clause in clauses:
             out.write(" ".join(map(str, clause)) + " 0\n")
-    with open("lines", "w") as out:
-        for clause in clauses:
-            out.write(" ".join(map(str, clause)) + "\n")
+    with open("clauses", "w") as out:
+        out.write("".join(" ".join(map(str, clause)) + " ; " for clause in clauses))
 
 
 def minisat():
@@ -99,8 +98,9 @@ def minisat():
 def ours(lemmas):
     """The lemmas and the seconds."""
     before = resource.getrusage(resource.RUSAGE_CHILDREN).ru_utime
-    with open("lines") as lines:
-        run = subprocess.run([PROGRAM, str(lemmas)], stdin=lines, capture_output=True, text=True, check=True)
+    with open("clauses") as clauses:
+        line = f"lemmas {lemmas} : : {clauses.read()}\n"
+    run = subprocess.run([PROGRAM], input=line, capture_output=True, text=True, check=True)
     seconds = resource.getrusage(resource.RUSAGE_CHILDREN).ru_utime - before
     found = re.search(r"(\d+) lemmas", run.stdout)
     return (int(found.group(1)) if found else None), seconds

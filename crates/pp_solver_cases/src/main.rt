@@ -9,7 +9,8 @@
 //!   line.
 //! - `accepts : ASSUMPTIONS : CLAUSES |TEXT` prints whether the log refutes the clauses under the assumptions.
 //! - `solve LEMMAS : ASSUMPTIONS : CLAUSES` prints `sat`, `unsat` or `spent`, and `wrong` where the assignment leaves
-//!   a clause or an assumption false, the log isn't accepted, or a spent log hasn't so many lemmas.
+//!   a clause or an assumption false, the log isn't accepted, or a spent log hasn't so many lemmas. `lemmas LEMMAS :
+//!   ..` tries nothing of the kind, and prints of a log how many lemmas it has: `benches/solver.sh` times it.
 //! - `clause : LITERALS` prints the clause of the literals, and `none` where there is none; `chain NUMBERS` prints
 //!   `chain` or `none`; `holds VALUES : CLAUSES` prints whether the assignment of these values, 1 and 0 of the
 //!   variables in order, makes the clauses true, and `value VALUES : VARIABLE` the variable's value.

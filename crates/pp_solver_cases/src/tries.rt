@@ -18,6 +18,7 @@ pub fn answer(alloc: Global, line: &str) -> Result<String> {
         "log" => tried_text(alloc, text(alloc, field)?.as_str()),
         "accepts" => checked(alloc, rest, text(alloc, field)?.as_str()),
         "solve" => kind(alloc, &Case::read(alloc, rest)?),
+        "lemmas" => counted(alloc, &Case::read(alloc, rest)?),
         "model" => model(alloc, &Case::read(alloc, rest)?),
         "last" => last(alloc, &Case::read(alloc, rest)?),
         "clause" => lists::clause(alloc, rest),
@@ -89,6 +90,17 @@ pub fn kind(alloc: Global, case: &Case) -> Result<String> {
         Answer::Spent(log) => (log.as_slice().len() as u64 == case.lemmas, "spent"),
     };
     word(alloc, if right { kind } else { "wrong" })
+}
+
+/// The kind of the answer, and of one with a log how many lemmas this has.
+fn counted(alloc: Global, case: &Case) -> Result<String> {
+    let (kind, log) = match solved(alloc, case)? {
+        Answer::Sat(_) => return word(alloc, "sat"),
+        Answer::Unsat(log) => ("unsat", log),
+        Answer::Spent(log) => ("spent", log),
+    };
+    let lemmas = log.as_slice().len();
+    Ok(format!(in alloc; "{kind}, {lemmas} lemmas")?)
 }
 
 /// The variables from 1 to 9 that are true, where the answer is an assignment.
