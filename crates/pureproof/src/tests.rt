@@ -18,11 +18,20 @@ const CALLS: &str = "object A {
 }
 ";
 
+// What gives out in a run: nothing, the first fetch, or the second put, when five bytes of it are taken.
+#[derive(Clone, Copy)]
+enum GivesOut {
+    Nothing,
+    Fetch,
+    Put,
+}
+
 // What a run on the file `a.scala`, which has these bytes, ends with: the status, and what `out` and `err` took.
 #[derive(Clone, Copy)]
 struct Row<'a> {
     words: &'a [&'a str],
     source: &'a str,
+    gives_out: GivesOut,
     status: Status,
     out: &'a str,
     err: &'a str,
@@ -33,6 +42,11 @@ fn run_row(alloc: Global, rt: &impl Abort, row: &Row) -> Result<(), Fail> {
     shelf.add("a.scala", row.source.as_bytes())?;
     let mut out = Bytes::with_room(alloc, 1000)?;
     let mut err = Bytes::with_room(alloc, 1000)?;
+    match row.gives_out {
+        GivesOut::Nothing => {}
+        GivesOut::Fetch => shelf.fail_at(1)?,
+        GivesOut::Put => out.fail_at(2, 5),
+    }
     let status = pureproof(alloc, row.words, &mut shelf, &mut out, &mut err);
     assert_eq!(rt; status, row.status);
     assert_eq!(rt; out.taken(), row.out.as_bytes());
@@ -41,11 +55,12 @@ fn run_row(alloc: Global, rt: &impl Abort, row: &Row) -> Result<(), Fail> {
 }
 
 #[test]
-fn an_answer_and_two_refusals(rt: HostRuntime) -> Result<(), Fail> {
+fn an_answer_refusals_and_faults(rt: HostRuntime) -> Result<(), Fail> {
     let rows = [
         Row {
             words: &["--mode", "run", "a.scala", "--function=edge"],
             source: EDGE,
+            gives_out: GivesOut::Nothing,
             status: Status::AllValid,
             out: "edge = 2147483647\n",
             err: "",
@@ -53,6 +68,7 @@ fn an_answer_and_two_refusals(rt: HostRuntime) -> Result<(), Fail> {
         Row {
             words: &["a.scala", "c.scala"],
             source: EDGE,
+            gives_out: GivesOut::Nothing,
             status: Status::ReadFault,
             out: "",
             err: "read fault: c.scala\n",
@@ -60,43 +76,30 @@ fn an_answer_and_two_refusals(rt: HostRuntime) -> Result<(), Fail> {
         Row {
             words: &["--mode", "run", "a.scala"],
             source: EDGE,
+            gives_out: GivesOut::Nothing,
             status: Status::Words,
             out: "",
             err: "words refused\n",
+        },
+        Row {
+            words: &["a.scala"],
+            source: CALLS,
+            gives_out: GivesOut::Put,
+            status: Status::WriteFault,
+            out: "g: valid, 0 checks\nf: in",
+            err: "write fault\n",
+        },
+        Row {
+            words: &["a.scala"],
+            source: CALLS,
+            gives_out: GivesOut::Fetch,
+            status: Status::ReadFault,
+            out: "",
+            err: "read fault: a.scala\n",
         },
     ];
     for row in &rows {
         run_row(rt.alloc(), &rt, row)?;
     }
-    Ok(())
-}
-
-#[test]
-fn a_put_fails(rt: HostRuntime) -> Result<(), Fail> {
-    let alloc = rt.alloc();
-    let mut shelf = Shelves::new(alloc);
-    shelf.add("a.scala", CALLS.as_bytes())?;
-    let mut out = Bytes::with_room(alloc, 1000)?;
-    out.fail_at(2, 5);
-    let mut err = Bytes::with_room(alloc, 1000)?;
-    let status = pureproof(alloc, &["a.scala"], &mut shelf, &mut out, &mut err);
-    assert_eq!(rt; status, Status::WriteFault);
-    assert_eq!(rt; out.taken(), "g: valid, 0 checks\nf: in".as_bytes());
-    assert_eq!(rt; err.taken(), "write fault\n".as_bytes());
-    Ok(())
-}
-
-#[test]
-fn a_fetch_fails(rt: HostRuntime) -> Result<(), Fail> {
-    let alloc = rt.alloc();
-    let mut shelf = Shelves::new(alloc);
-    shelf.add("a.scala", CALLS.as_bytes())?;
-    shelf.fail_at(1)?;
-    let mut out = Bytes::with_room(alloc, 1000)?;
-    let mut err = Bytes::with_room(alloc, 1000)?;
-    let status = pureproof(alloc, &["a.scala"], &mut shelf, &mut out, &mut err);
-    assert_eq!(rt; status, Status::ReadFault);
-    assert_eq!(rt; out.taken(), "".as_bytes());
-    assert_eq!(rt; err.taken(), "read fault: a.scala\n".as_bytes());
     Ok(())
 }
