@@ -1,7 +1,7 @@
 #!/usr/bin/env bash
-# Times building a circuit of 2,000,000 gates, asking for each gate twice, making the clauses, and a chain of 500 products of
-# 32 bits; and shows the most memory that was held.
-# It wants crates/pp_gate_bench/out/pp_gate_bench, which `rt run` in that crate's folder leaves.
+# Times building a circuit of 2,000,000 gates, asking for each gate twice, making the clauses, and a chain of 500
+# products of 32 bits; and shows the most memory that was held. It wants crates/pp_gate_bench/out/pp_gate_bench, which
+# `rt run` in that crate's folder leaves.
 set -eu
 root=$(cd "$(dirname "${BASH_SOURCE[0]}")/.." && pwd)
 for work in "gates 2000000" "shared 2000000" "clauses 2000000" "words 500"; do

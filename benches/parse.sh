@@ -1,7 +1,7 @@
 #!/usr/bin/env bash
-# Times the parser on sources of 262,144 bytes: open round brackets, balanced brackets round one name, a realistic program,
-# and one sum of names. The time of the lexer alone on the same source is shown beside it.
-# It wants crates/pp_parse_bench/out/pp_parse_bench and crates/pp_tokens_bench/out/pp_tokens_bench, which `rt run` in these
+# Times the parser on sources of 262,144 bytes: open round brackets, balanced brackets round one name, a realistic
+# program, and one sum of names. The time of the lexer alone on the same source is shown beside it. It wants
+# crates/pp_parse_bench/out/pp_parse_bench and crates/pp_tokens_bench/out/pp_tokens_bench, which `rt run` in these
 # crates' folders leaves.
 set -eu
 root=$(cd "$(dirname "${BASH_SOURCE[0]}")/.." && pwd)

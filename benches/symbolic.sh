@@ -1,12 +1,13 @@
 #!/usr/bin/env bash
-# How large the circuits of runs are, and how fast they are built: a list's length with fuel 4, sorted insertion over lists
-# of numbers, a function of 60 values, a product in a loop of 4 calls, a match on a known list, one with literals in its
-# patterns, whose case calls a function with exponents that are known, and a match of two literals in a list. For each check
-# it prints the steps of the run, the gates of the circuit (inputs and the constant among them) and the estimate; and for each program
-# the seconds that all its circuits took, and how many gates a second were built. Reading the program isn't counted: the
-# circuits are built many times, and once the program is only read.
-# It wants python3 and crates/pp_symbolic_bench/out/pp_symbolic_bench, which `rt run` in that crate's folder leaves; another
-# program in its place is named by SYMBOLIC. With a folder as its argument it only leaves the sources and their words there.
+# How large the circuits of runs are, and how fast they are built: a list's length with fuel 4, sorted insertion over
+# lists of numbers, a function of 60 values, a product in a loop of 4 calls, a match on a known list, one with
+# literals in its patterns, whose case calls a function with exponents that are known, and a match of two literals in
+# a list. For each check it prints the steps of the run, the gates of the circuit (inputs and the constant among them)
+# and the estimate; and for each program the seconds that all its circuits took, and how many gates a second were
+# built. Reading the program isn't counted: the circuits are built many times, and once the program is only read. It
+# wants python3 and crates/pp_symbolic_bench/out/pp_symbolic_bench, which `rt run` in that crate's folder leaves;
+# another program in its place is named by SYMBOLIC. With a folder as its argument it only leaves the sources and
+# their words there.
 set -eu
 root=$(cd "$(dirname "${BASH_SOURCE[0]}")/.." && pwd)
 program=${SYMBOLIC:-$root/crates/pp_symbolic_bench/out/pp_symbolic_bench}

@@ -1,7 +1,8 @@
 #!/usr/bin/env bash
 # Times typing: sixteen sources of 262,144 bytes with realistic functions that call one another; a function with one
-# expression of 60,000 nodes; and 10,000 case classes of which each holds the next, in either order. The time of parsing
-# alone is shown beside it. It wants crates/pp_types_bench/out/pp_types_bench, which `rt run` in that crate's folder leaves.
+# expression of 60,000 nodes; and 10,000 case classes of which each holds the next, in either order. The time of
+# parsing alone is shown beside it. It wants crates/pp_types_bench/out/pp_types_bench, which `rt run` in that crate's
+# folder leaves.
 set -eu
 root=$(cd "$(dirname "${BASH_SOURCE[0]}")/.." && pwd)
 bench=$root/crates/pp_types_bench/out/pp_types_bench

@@ -1,7 +1,7 @@
 #!/usr/bin/env bash
-# A unit kept past its arena's reset must not compile. Two copies of pp_tree get one function more: in the first it reads
-# the unit before the reset, and has to be proved; in the second the two lines change places, and the borrow checker has
-# to refuse it. Ends with the number of checks that passed and failed.
+# A unit kept past its arena's reset must not compile. Two copies of pp_tree get one function more: in the first it
+# reads the unit before the reset, and has to be proved; in the second the two lines change places, and the borrow
+# checker has to refuse it. Ends with the number of checks that passed and failed.
 set -u
 root=$(cd "$(dirname "${BASH_SOURCE[0]}")/.." && pwd)
 here=$(mktemp -d)

@@ -3,7 +3,7 @@
 # PAGE the pages are docs/LANGUAGE.md and docs/VERDICTS.md. Each page has a folder of its own. In a page
 #   ```scala name=FILE   holds the source FILE,
 #   ```sh                holds a command a line, in which `pureproof` is the program,
-#   ```text status=N     holds what these commands print, on standard output where N is 0 to 2 and else on standard error,
+#   ```text status=N     holds what these commands print, on standard output where N is 0 to 2, else on standard error,
 #                        and the status with which the command ends, or one for each, as `status=0,3`; the other stream
 #                        stays empty.
 # Where no command stands between a source and what is printed, it is `pureproof FILE`. Other blocks are passed over.

@@ -1,8 +1,8 @@
 #!/usr/bin/env bash
 # The solver beside minisat: 500 random problems, some with assumptions, which pp_solver_cases decides (and tries the
-# evidence of) and minisat too, with the assumptions as clauses. And its orders of calls to a trail, beside a plain scan.
-# Ends with the number of checks that passed and failed. Where minisat is missing the problems are skipped.
-# It wants python3 and crates/pp_solver_cases/out/pp_solver_cases, which `rt run` in that crate's folder leaves.
+# evidence of) and minisat too, with the assumptions as clauses. And its orders of calls to a trail, beside a plain
+# scan. Ends with the number of checks that passed and failed. Where minisat is missing the problems are skipped. It
+# wants python3 and crates/pp_solver_cases/out/pp_solver_cases, which `rt run` in that crate's folder leaves.
 set -eu
 root=$(cd "$(dirname "${BASH_SOURCE[0]}")/.." && pwd)
 python3 "$root/scripts/solver_orders.py"
