@@ -1,6 +1,8 @@
 #!/usr/bin/env bash
 # The second tier of must-fail edits: tries those under edits/ of the named crates, or of all, on a copy of the
 # repository, and says which were refused. It is no part of the gate, whose own edits stand in crates/NAME/must-fail/.
+# What a run of `rt ci` on this machine proved or tried is taken from there, so after the gate only the edits are tried,
+# and a run that was stopped is taken up again.
 set -u
 root=$(cd "$(dirname "${BASH_SOURCE[0]}")/.." && pwd)
 copy=$(mktemp -d)
@@ -24,4 +26,4 @@ for name in "${names[@]}"; do
     fi
     cp -r "$root/edits/$name" "$copy/crates/$name/must-fail"
 done
-cd "$copy" && rt must-fail "${names[@]}"
+cd "$copy" && rt ci "${names[@]}"
