@@ -58,7 +58,7 @@ lines_of() {
     local part
     for part in src specs proofs; do
         find "$root/crates/$1/$part" \( -name '*.rt' -o -name '*.antt' \) -exec cat {} + 2> /dev/null | wc -l
-    done | paste -sd/ | sed 's,/, / ,g'
+    done | paste -sd' '
 }
 
 # The minutes of each crate, of its proof, tests and edits, and those of all.
@@ -72,22 +72,32 @@ minutes() {
         LC_ALL=C sort | sed 's/^~//'
 }
 
+# The crates in the order of crates.txt. Nothing stands where a crate had no check of the kind.
 table() {
-    local crate proof tests edits
+    local crate proof tests edits src specs proofs
+    local -A spent all=([src]=0 [specs]=0 [proofs]=0)
+    while read -r crate proof tests edits; do
+        spent[$crate]="| $proof | $tests | $edits |"
+    done < <(minutes "$1")
     printf '| Crate | Lines | Proof | Tests | Edits |\n|---|---|---|---|---|\n'
-    minutes "$1" | while read -r crate proof tests edits; do
-        if [ "$crate" = all ]; then
-            printf '| all | | %s | %s | %s |\n' "$proof" "$tests" "$edits"
-        else
-            printf '| `%s` | %s | %s | %s | %s |\n' "$crate" "$(lines_of "$crate")" "$proof" "$tests" "$edits"
-        fi
-    done
+    while IFS=: read -r crate _; do
+        [ -n "${spent[$crate]:-}" ] || continue
+        read -r src specs proofs < <(lines_of "$crate")
+        all[src]=$((all[src] + src)) all[specs]=$((all[specs] + specs)) all[proofs]=$((all[proofs] + proofs))
+        printf '| `%s` | %d / %d / %d %s\n' "$crate" "$src" "$specs" "$proofs" "${spent[$crate]}"
+    done < <(grep '^[a-z]' "$root/crates.txt")
+    printf '| all | %d / %d / %d %s\n' "${all[src]}" "${all[specs]}" "${all[proofs]}" "${spent[all]}"
+}
+
+# Commas in the numbers of lines, and nothing in place of no minutes.
+dressed() {
+    sed -E -e ':more' -e 's/([0-9])([0-9]{3})( |$)/\1,\2\3/' -e 't more' -e 's/ 0\.0 \|/ |/g'
 }
 
 case ${1:-} in
     record) record "${@:2}" ;;
     watch) watch "$2" ;;
-    table) table "$2" ;;
+    table) table "$2" | dressed ;;
     short) minutes "$2" | paste -d';' - - - - - | sed 's/;*$//; s/;/; /g' ;;
     *) sed -n '2,10s/^# \{0,1\}//p' "${BASH_SOURCE[0]}"; exit 2 ;;
 esac
