@@ -112,5 +112,32 @@ fi
 status=$?
 check 'a closed output' 6 '' 'write fault'
 
+# The kept program, in a fresh checkout on a machine without the toolchain, if it was made from these sources.
+if bash "$root/scripts/check_release.sh" --sums | grep -q 'the same sources'; then
+    mkdir fresh tools
+    tar -C "$root" --exclude=out --exclude=.git -cf - . | tar -C fresh -xf -
+    for tool in bash awk cat chmod cut dirname find gzip mkdir mv readlink rm sed sha256sum sort xargs; do
+        ln -s "$(command -v "$tool")" "tools/$tool"
+    done
+    fresh() {
+        PATH=$here/tools fresh/pureproof "$@" > out 2> err
+        status=$?
+    }
+    fresh heap_wrong.scala
+    check 'the kept program' 1 "$(printf '%s\n' 'parent: invalid, postcondition at 1:6:5, i = 0' \
+        'left: depends on parent, 2 checks' '0 valid, 1 invalid, 0 open, 1 depending')" ''
+    fresh or.scala
+    check 'the kept program once more' 0 "$(printf 'or: valid, 1 checks\n1 valid, 0 invalid, 0 open, 0 depending')" ''
+    nothing='pureproof: no program was built or kept for these sources, and to build it the command rt is needed'
+    rm -r fresh/crates/pureproof/out
+    head -c 1000 "$root/release/pureproof.gz" > fresh/release/pureproof.gz
+    fresh or.scala
+    check 'a damaged kept program' 70 '' "$(printf '%s\n' 'pureproof: the kept program is damaged, and is not run' "$nothing")"
+    cp "$root/release/pureproof.gz" fresh/release/
+    echo '// changed' >> fresh/crates/pureproof/src/main.rt
+    fresh or.scala
+    check 'a kept program of other sources' 70 '' "$nothing"
+fi
+
 printf '%s passed, %s failed\n' "$passed" "$failed"
 [ "$failed" -eq 0 ]

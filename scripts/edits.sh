@@ -1,29 +1,105 @@
 #!/usr/bin/env bash
-# The second tier of must-fail edits: tries those under edits/ of the named crates, or of all, on a copy of the
-# repository, and says which were refused. It is no part of the gate, whose own edits stand in crates/NAME/must-fail/.
-# What a run of `rt ci` on this machine proved or tried is taken from there, so after the gate only the edits are tried,
-# and a run that was stopped is taken up again.
+# The second tier of must-fail edits, those under edits/: tries them on a copy of the repository. It is no part of the
+# gate, whose own edits stand in crates/NAME/must-fail/.
+#
+#   edits.sh             tries the edits of each crate of which sources, edits or toolchain changed since they were tried
+#   edits.sh NAME ..     tries those of these crates
+#   edits.sh --all       tries all
+#   edits.sh --list      says which crates are untried, and tries nothing
+#
+# edits/TRIED has a line for each crate: its name, the sum of its sources, its edits and the toolchain's line when they
+# were last tried, and the edits that were refused then. A line is written as soon as its crate is done, so a run that
+# was stopped is taken up by the next. Libraries that were built in this checkout aren't built again.
 set -u
 root=$(cd "$(dirname "${BASH_SOURCE[0]}")/.." && pwd)
-copy=$(mktemp -d)
-trap 'rm -rf "$copy"' EXIT
-cp -r "$root/crates.txt" "$root/HANDLES" "$copy/"
-mkdir "$copy/crates"
-for crate in "$root"/crates/*/; do
-    mkdir "$copy/crates/$(basename "$crate")"
-    find "$crate" -mindepth 1 -maxdepth 1 ! -name out ! -name must-fail \
-        -exec cp -r {} "$copy/crates/$(basename "$crate")/" \;
-done
-if [ $# -eq 0 ]; then
-    mapfile -t names < <(cd "$root/edits" && printf '%s\n' *)
-else
-    names=("$@")
+tried=$root/edits/TRIED
+kit=$(rt version)
+
+# The crates with edits of the second tier.
+names_of_all() {
+    (cd "$root/edits" && printf '%s\n' */ | tr -d /)
+}
+
+# sum_of NAME: the sum of the crate's sources, its edits of the second tier and the toolchain's line
+sum_of() {
+    (cd "$root" && {
+        printf '%s\n' "$kit"
+        find "crates/$1" "edits/$1" -name out -prune -o -type f \( -name '*.rt' -o -name '*.antt' \) -print0 \
+            -o -type f -path "edits/$1/*.edit" -print0 | LC_ALL=C sort -z | xargs -0 sha256sum
+    } | sha256sum | cut -c 1-16)
+}
+
+# is_untried NAME: whether what edits/TRIED says of the crate isn't of its present text
+is_untried() {
+    ! grep -q "^$1 $(sum_of "$1")\( \|\$\)" "$tried" 2> /dev/null
+}
+
+# copy_for NAME: a copy of the repository in `copy`, in which the edits of the second tier are those to try
+copy_for() {
+    local crate name
+    copy=$(mktemp -d)
+    mkdir "$copy/crates"
+    cp "$root/crates.txt" "$root/HANDLES" "$copy/"
+    for crate in "$root"/crates/*/; do
+        name=$(basename "$crate")
+        mkdir "$copy/crates/$name"
+        find "$crate" -mindepth 1 -maxdepth 1 ! -name out ! -name must-fail -exec cp -r {} "$copy/crates/$name/" \;
+        if [ -e "$crate/out/rlib/stamp" ]; then
+            mkdir "$copy/crates/$name/out"
+            cp -al "$crate/out/rlib" "$copy/crates/$name/out/rlib"
+        fi
+    done
+    cp -r "$root/edits/$1" "$copy/crates/$1/must-fail"
+}
+
+# note NAME LOG: writes the line of the crate, and says which edits weren't refused
+note() {
+    local edit name=$1 refused=()
+    for edit in "$root/edits/$name"/*.edit; do
+        edit=$(basename "$edit")
+        if grep -q "^rt: must-fail $name/$edit: refused" "$2"; then
+            refused+=("${edit%.edit}")
+        else
+            failed=$((failed + 1))
+            grep "must-fail $name/$edit" "$2" || echo "edits: $name/$edit: not tried"
+        fi
+    done
+    passed=$((passed + ${#refused[@]}))
+    {
+        grep -v "^$name " "$tried" 2> /dev/null
+        echo "$name $(sum_of "$name")" "${refused[@]}"
+    } | LC_ALL=C sort > "$tried.part"
+    mv "$tried.part" "$tried"
+}
+
+case ${1:-} in
+    --all) mapfile -t names < <(names_of_all) ;;
+    --list | '')
+        names=()
+        while read -r name; do
+            if is_untried "$name"; then names+=("$name"); fi
+        done < <(names_of_all)
+        ;;
+    *) names=("$@") ;;
+esac
+if [ "${1:-}" = --list ]; then
+    printf 'untried: %s\n' "${names[@]}"
+    exit 0
 fi
+passed=0
+failed=0
+log=$(mktemp)
+trap 'rm -rf "$log" "${copy:-}"' EXIT
 for name in "${names[@]}"; do
     if [ ! -d "$root/edits/$name" ]; then
-        printf 'edits: edits/%s is missing\n' "$name" >&2
+        echo "edits: edits/$name is missing" >&2
         exit 2
     fi
-    cp -r "$root/edits/$name" "$copy/crates/$name/must-fail"
+    copy_for "$name"
+    (cd "$copy" && rt must-fail "$name") > "$log" 2>&1
+    tail -n 1 "$log"
+    note "$name" "$log"
+    rm -rf "$copy"
 done
-cd "$copy" && rt ci "${names[@]}"
+echo "$passed passed, $failed failed"
+[ "$failed" -eq 0 ]
