@@ -1,7 +1,7 @@
 -- What reads a field of a tree, and what tells its constructor.
 use Rattle.std.proofs.Common.{◌≡◌, ℕ, nat_eq, Bool, true, false, List, length}
-use Rattle.std.proofs.Common.{Some, refl, sym, ap, ◌∙◌, slice_get, if◌then◌else◌}
-use Rattle.std.proofs.lemmas.Bool.{and_from, and_parts, eq-eqb, eqb-true}
+use Rattle.std.proofs.Common.{subst, Some, refl, sym, ap, ◌∙◌, slice_get, if◌then◌else◌}
+use Rattle.std.proofs.lemmas.Bool.{and_from, and_parts, eq-eqb, eqb-true, false≢true}
 use Rattle.pp_prog.specs.declared.id.CtorId.{CtorId}
 use Rattle.pp_prog.specs.declared.sort.Sort.TheVariants as sort
 use Rattle.pp_prog.specs.declared.types.Ctor.{Ctor}
@@ -10,7 +10,9 @@ use Rattle.pp_prog.specs.declared.value.Value.TheVariants.{Bool as Truth, Tree, 
 use Rattle.pp_prog.specs.Sorts.{has_sort}
 use Rattle.pp_prog.proofs.Fields.{fields_sorted}
 use Rattle.pp_prog.proofs.Values.{ctor_same}
-use Rattle.pp_prog.proofs.ValueSorts.{have_length, tree_value}
+use Rattle.pp_prog.proofs.ValueSorts.{IsTree, have_at, have_length, tree_value}
+use Rattle.pp_prog.specs.declared.sort.Sort.{Sort}
+use Rattle.pp_domain.specs.Naming.{IsDefault, IsFieldOf, Naming, other, own}
 use Rattle.pp_eval.specs.Meaning.{field, field_in}
 use Rattle.pp_eval.specs.Part.{found}
 use Rattle.pp_steps.specs.Meaning.{Missing, ctor_field, ctor_field_in, has_ctor, has_ctor_in, value_or}
@@ -50,3 +52,30 @@ has_ctor_is ctors c k n v at many h = record {
       (nat_eq n (length t.fields)) (sym e ∙ has)).0) in
       (t.fields, t.is ∙ ap (λ x. Tree x t.fields) (sym same));
 }
+
+-- the value that a step reads in a field is what the operand has there
+pub field_is_of : (ctors : List Ctor) (n : Naming) (missing : Missing) (c : CtorId) (k : Ctor) (place : ℕ) (s : Sort)
+    (v u : Value) → slice_get ctors c.0 ≡ Some k → slice_get k.fields place ≡ Some s
+    → has_sort ctors v (sort.Tree k.of) ≡ true → u ≡ ctor_field missing c place v → IsDefault n s (missing c place)
+    → IsFieldOf n c place s v u
+field_is_of ctors n missing c k place s v u entry field sorted does default =
+    by (nat_eq c.0 t.ctor.0) refl
+  where
+    t : IsTree ctors k.of v
+    t = tree_value ctors k.of v sorted
+
+    by : (b : Bool) → nat_eq c.0 t.ctor.0 ≡ b → IsFieldOf n c place s v u
+    by true e =
+        let same = ctor_same c t.ctor (eqb-true c.0 t.ctor.0 e) in
+        let is : v ≡ Tree c t.fields = t.is ∙ ap (λ x. Tree x t.fields) (sym same) in
+        let f = have_at ctors k.fields t.fields place s
+        (fields_sorted ctors c k k.of v t.fields entry sorted is) field in
+        own t.fields is (f.1 ∙ ap Some (sym (does ∙ ctor_field_is missing c place v f.0 t.fields is f.1)))
+    by false e =
+        let d = missing c place in
+        let value : u ≡ d = does ∙ ap (ctor_field missing c place) t.is
+        ∙ ap (ctor_field_in d c place) (outs-Tree t.ctor t.fields)
+        ∙ ap (λ (b : Bool). if b then value_or d (found (slice_get t.fields place)) else d) e in
+        other t.ctor t.fields t.is
+        (λ (same : t.ctor ≡ c). false≢true (sym e ∙ eq-eqb c.0 t.ctor.0 (ap (λ (x : CtorId). x.0) (sym same))))
+        (subst (IsDefault n s) (sym value) default)

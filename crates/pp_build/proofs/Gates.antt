@@ -1,31 +1,51 @@
 -- The gates that operations on symbols take, as steps with the symbols' sorts and heights count them.
-use Rattle.std.proofs.Common.{◌≡◌, ◌+◌, max, Bool, true, if◌then◌else◌, List, Option, None, Some, slice_get, refl, ap}
+use Rattle.std.proofs.Common.{◌≡◌, ℕ, ◌+◌, ◌*◌, max, min, length, sym, subst, arith, Bool, true, false, if◌then◌else◌, List, Some, slice_get, refl, ap}
 use Rattle.std.proofs.Common.{◌∙◌}
 use Rattle.pp_prog.specs.declared.id.CtorId.{CtorId}
 use Rattle.pp_prog.specs.declared.sort.Sort.{Sort}
 use Rattle.pp_prog.specs.declared.sort.Sort.TheVariants as sort
 use Rattle.pp_prog.specs.declared.types.Ctor.{Ctor}
 use Rattle.pp_prog.specs.declared.types.TypeTable.{TypeTable}
-use Rattle.pp_prog.specs.Sizes.{bits}
+use Rattle.pp_prog.specs.declared.expr.BinaryOp.{BinaryOp}
+use Rattle.pp_prog.specs.declared.expr.BinaryOp.TheVariants.{Add, Sub, Mul, Div, Rem, Equal, Differ, Less, AtMost, More}
+use Rattle.pp_prog.specs.declared.expr.BinaryOp.TheVariants.{AtLeast, AndAlso, OrElse, And, Or, Xor, Shl, Shr, Ushr}
+use Rattle.pp_prog.specs.ExprSorts.{sort_if, then_sort}
+use Rattle.pp_prog.specs.Sizes.{by_sort}
+use Rattle.pp_prog.specs.Sorts.{same_sort}
+use Rattle.pp_prog.proofs.ValueSorts.{one_sort}
 use Rattle.pp_gate.specs.declared.gate.Gate.{Gate}
 use Rattle.pp_domain.specs.declared.symbol.Symbol.{Symbol}
 use Rattle.pp_domain.specs.declared.symbol.Symbol.TheVariants as symbol
-use Rattle.pp_domain.specs.Allowance.{construct_gates, expand_gates_of, look_gates}
-use Rattle.pp_domain.specs.AnySort.{choose_gates}
+use Rattle.pp_domain.specs.Allowance.{below_gates, bits_at, look_at_gates, nodes_at, construct_gates, expand_gates_of}
+use Rattle.pp_domain.specs.AnySort.{choose_gates, compare_gates}
 use Rattle.pp_domain.specs.Sense.{Sense}
 use Rattle.pp_domain.specs.Symbols.{IsSymbol, symbol_height}
-use Rattle.pp_steps.specs.Gates.{choice_gates}
+use Rattle.pp_steps.specs.Gates.{binary_gates}
+use Rattle.pp_steps.specs.Sorted.{operated_sort}
+use Rattle.pp_build.specs.StepGates.{one_look}
+use Rattle.pp_build_operators.specs.Budget.{is_equality, goes_down_gates, operator_gates, symbol_sort}
+use Rattle.pp_build_operators.proofs.SymbolSorts.{compare_gates_are, symbol_sort_is}
 
-module _ {D T : Type 0} (m : Sense D T) (types : TypeTable) (exact : m.exact ≡ true) where
+equal_sorts : (p q r : Sort) → operated_sort Equal (Some p) (Some q) ≡ Some r → p ≡ q
+equal_sorts p q r e = when (same_sort p q) refl e
+  where
+    when : (b : Bool) → same_sort p q ≡ b → then_sort (sort_if b p) (λ (v : Sort). Some sort.Bool) ≡ Some r
+        → p ≡ q
+    when true same f = one_sort p q same
+    when false same f = absurd (cc)
+
+plus_zero : (n : ℕ) → n + 0 ≡ n
+plus_zero n = omega arith
+
+module _ {D T : Type 0} (m : Sense D T) (types : TypeTable) where
   pub choose_gates_are : (d : D) (gs : List Gate) (s : Sort) (x y : Symbol T) → IsSymbol m d gs s x
       → IsSymbol m d gs s y
-      → choose_gates m types d x y ≡ choice_gates types (max (symbol_height m d x) (symbol_height m d y)) s
+      → choose_gates m types d x y
+      ≡ by_sort 32 1 (λ of. 32 + bits_at m types of (max (symbol_height m d x) (symbol_height m d y))) s
   choose_gates_are d gs sort.Int (symbol.Word v) (symbol.Word w) is other = refl
   choose_gates_are d gs sort.Bool (symbol.Bit k) (symbol.Bit l) is other = refl
   choose_gates_are d gs (sort.Tree of) (symbol.Tree t) (symbol.Tree u) is other =
-      let h = max (m.height d t) (m.height d u) in
-      ap (λ (b : Bool). 32 + (if b then bits types h (sort.Tree (m.data_of d t)) else 0)) exact
-      ∙ ap (λ e. 32 + bits types h (sort.Tree e)) is.1
+      ap (λ e. 32 + bits_at m types e (max (m.height d t) (m.height d u))) is.1
   choose_gates_are d gs sort.Int (symbol.Bit l) y is other = absurd is
   choose_gates_are d gs sort.Int (symbol.Tree t) y is other = absurd is
   choose_gates_are d gs sort.Bool (symbol.Word w) y is other = absurd is
@@ -40,9 +60,85 @@ module _ {D T : Type 0} (m : Sense D T) (types : TypeTable) (exact : m.exact ≡
   choose_gates_are d gs (sort.Tree of) (symbol.Tree t) (symbol.Bit l) is other = absurd other
 
   -- a constructor takes none
-  pub no_construct_gates : (d : D) (c : CtorId) → construct_gates m types d c ≡ 0
-  no_construct_gates d c = by (slice_get types.ctors c.0)
+  -- a look at a tree, and at one that is made
+  pub look_gates_are : (d : D) (t : T) (s : Sort) → s ≡ sort.Tree (m.data_of d t)
+      → look_at_gates m types d t ≡ by_sort 0 0 (one_look m types (m.looks d) (m.compares d)) s
+  look_gates_are d t s is = sym (ap (by_sort 0 0 (one_look m types (m.looks d) (m.compares d))) is)
+
+  pub construct_gates_are : (d : D) (c : CtorId) (k : Ctor) (s : Sort) → slice_get types.ctors c.0 ≡ Some k
+      → s ≡ sort.Tree k.of
+      → construct_gates m types d c ≡ by_sort 0 0 (one_look m types (m.looks d) (m.compares d)) s
+  construct_gates_are d c k s at is =
+      ap (expand_gates_of m types d) at ∙ sym (ap (by_sort 0 0 (one_look m types (m.looks d) (m.compares d))) is)
+
+  pub operator_gates_are : (op : BinaryOp) (d : D) (gs : List Gate) (s t u : Sort) (x y : Symbol T)
+      → IsSymbol m d gs s x → IsSymbol m d gs t y → operated_sort op (Some s) (Some t) ≡ Some u
+      → operator_gates m types op d x y ≡ (if is_equality op
+      then by_sort 64 1 (λ of. 4 * (32 + bits_at m types of (min (symbol_height m d x) (symbol_height m d y)))) s
+      else binary_gates types op 0 s)
+  operator_gates_are op d gs s t u x y is other sorted = by op sorted
     where
-      by : (o : Option Ctor) → expand_gates_of m types d o ≡ 0
-      by None = refl
-      by (Some k) = ap (λ (b : Bool). if b then 0 else look_gates types (m.looks d) (m.compares d) k.of) exact
+      h : ℕ
+      h = min (symbol_height m d x) (symbol_height m d y)
+
+      compared : (s ≡ t) → compare_gates m types d x y ≡ by_sort 64 1 (λ of. 4 * (32 + bits_at m types of h)) s
+      compared same =
+          compare_gates_are m types d gs s x y is (subst (λ q. IsSymbol m d gs q y) (sym same) other)
+
+      plain : (o : BinaryOp) → binary_gates types o 0 (symbol_sort m types d x) ≡ binary_gates types o 0 s
+      plain o = ap (binary_gates types o 0) (symbol_sort_is m types d gs s x is)
+
+      by : (o : BinaryOp) → operated_sort o (Some s) (Some t) ≡ Some u
+          → operator_gates m types o d x y ≡ (if is_equality o
+          then by_sort 64 1 (λ of. 4 * (32 + bits_at m types of h)) s else binary_gates types o 0 s)
+      by Equal sorted = compared (equal_sorts s t u sorted)
+      by Differ sorted = compared (equal_sorts s t u sorted)
+      by Add sorted = plain Add
+      by Sub sorted = plain Sub
+      by Mul sorted = plain Mul
+      by Div sorted = plain Div
+      by Rem sorted = plain Rem
+      by Less sorted = plain Less
+      by AtMost sorted = plain AtMost
+      by More sorted = plain More
+      by AtLeast sorted = plain AtLeast
+      by AndAlso sorted = plain AndAlso
+      by OrElse sorted = plain OrElse
+      by And sorted = plain And
+      by Or sorted = plain Or
+      by Xor sorted = plain Xor
+      by Shl sorted = plain Shl
+      by Shr sorted = plain Shr
+      by Ushr sorted = plain Ushr
+
+  pub goes_down_gates_are : (d : D) (gs : List Gate) (s : Sort) (x y : Symbol T) → IsSymbol m d gs s x
+      → IsSymbol m d gs s y
+      → goes_down_gates m types d x y ≡ by_sort 1024 0 (λ of.
+      if m.exact then 64 + 4 * (32 + bits_at m types of (symbol_height m d x))
+      * (1 + nodes_at m types of (symbol_height m d y)) else 1) s
+  goes_down_gates_are d gs sort.Int (symbol.Word v) (symbol.Word w) is other = refl
+  goes_down_gates_are d gs sort.Bool (symbol.Bit k) (symbol.Bit l) is other = refl
+  goes_down_gates_are d gs (sort.Tree of) (symbol.Tree t) (symbol.Tree u) is other =
+      by m.exact refl
+      ∙ ap (λ e. if m.exact then 64 + 4 * (32 + bits_at m types e (m.height d t))
+      * (1 + nodes_at m types e (m.height d u)) else 1) is.1
+    where
+      most : ℕ
+      most = 64 + 4 * (32 + bits_at m types (m.data_of d t) (m.height d t))
+          * (1 + nodes_at m types (m.data_of d t) (m.height d u))
+
+      by : (b : Bool) → m.exact ≡ b → (if b then below_gates m types d t u else 1) ≡ (if b then most else 1)
+      by true e = ap (λ (b : Bool). most + (if b then 0 else 128 * length (m.looks d))) e ∙ plus_zero most
+      by false e = refl
+  goes_down_gates_are d gs sort.Int (symbol.Bit l) y is other = absurd is
+  goes_down_gates_are d gs sort.Int (symbol.Tree t) y is other = absurd is
+  goes_down_gates_are d gs sort.Bool (symbol.Word w) y is other = absurd is
+  goes_down_gates_are d gs sort.Bool (symbol.Tree t) y is other = absurd is
+  goes_down_gates_are d gs (sort.Tree of) (symbol.Word w) y is other = absurd is
+  goes_down_gates_are d gs (sort.Tree of) (symbol.Bit l) y is other = absurd is
+  goes_down_gates_are d gs sort.Int (symbol.Word w) (symbol.Bit l) is other = absurd other
+  goes_down_gates_are d gs sort.Int (symbol.Word w) (symbol.Tree t) is other = absurd other
+  goes_down_gates_are d gs sort.Bool (symbol.Bit l) (symbol.Word w) is other = absurd other
+  goes_down_gates_are d gs sort.Bool (symbol.Bit l) (symbol.Tree t) is other = absurd other
+  goes_down_gates_are d gs (sort.Tree of) (symbol.Tree t) (symbol.Word w) is other = absurd other
+  goes_down_gates_are d gs (sort.Tree of) (symbol.Tree t) (symbol.Bit l) is other = absurd other

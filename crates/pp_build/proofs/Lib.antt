@@ -2,6 +2,9 @@ pub mod Kept
 pub mod Operands
 pub mod Performing
 pub mod Gates
+pub mod StepLists
+pub mod StepGates
+pub mod Told
 pub mod TruthSteps
 pub mod Fields
 pub mod TreeSteps
@@ -9,5 +12,4 @@ pub mod Reading
 pub mod OperatorSteps
 pub mod UnknownSymbols
 pub mod ManyUnknown
-pub mod StepLists
 pub mod Progress

@@ -22,12 +22,12 @@ use Rattle.pp_gate.proofs.Growing.{length-Grows}
 use Rattle.pp_domain.specs.declared.symbol.Symbol.{Symbol}
 use Rattle.pp_domain.specs.Laws.{Lawful}
 use Rattle.pp_domain.specs.Moves.{Moves}
-use Rattle.pp_domain.specs.Naming.{Naming}
+use Rattle.pp_domain.specs.Naming.{Naming, Names}
 use Rattle.pp_domain.specs.Sense.{Sense}
 use Rattle.pp_domain.specs.Symbols.{AreSymbols, IsSymbol, SymbolStands, SymbolsStand, symbol_height}
 use Rattle.pp_domain.proofs.Composition.{Extended_none, Moves_more, Moves_none}
 use Rattle.pp_domain.proofs.Symbols.{AreSymbols_later, SymbolsStand_later, symbol_height_later}
-use Rattle.pp_steps.specs.Gates.{open_gates}
+use Rattle.pp_build.specs.StepGates.{opened_gates}
 use Rattle.pp_prog.proofs.ValueSorts.{have_more, have_one}
 use Rattle.pp_build.specs.Unknown.{AreUnknown, AreUpTo, IsUnknownSymbol, IsUpTo}
 use Rattle.pp_build.proofs.Kept.{agree_self}
@@ -105,6 +105,43 @@ sort_at datatypes (r ∷ ss) zero s all lt at = ap (is_sort datatypes) (sym at) 
 sort_at datatypes (r ∷ ss) (suc i) s all lt at =
     sort_at datatypes ss i s (and_parts (is_sort datatypes r) _ all).1 (omega arith) at
 
+-- the last of several values that a naming names
+record LastNamed (types : TypeTable) (n : Naming) (ss : List Sort) (s : Sort) (us : List Value) : Type 0 where
+  pub firsts : List Value
+  pub last : Value
+  pub whole : us ≡ firsts ++ last ∷ []
+  pub firsts_sorted : have_sorts types.ctors firsts ss ≡ true
+  pub last_sorted : has_sort types.ctors last s ≡ true
+  pub firsts_named : All (Names types n) firsts
+  pub last_named : Names types n last
+
+last_named : (types : TypeTable) (n : Naming) (ss : List Sort) (s : Sort) (us : List Value)
+    → have_sorts types.ctors us (ss ++ s ∷ []) ≡ true → All (Names types n) us → LastNamed types n ss s us
+last_named types n [] s [] sorted names = cc
+last_named types n [] s (v ∷ []) sorted names = record {
+  firsts = [];
+  last = v;
+  whole = refl;
+  firsts_sorted = refl;
+  last_sorted = (and_parts (has_sort types.ctors v s) true sorted).0;
+  firsts_named = λ i d lt. absurd (omega arith);
+  last_named = All-head (Names types n) v [] names;
+}
+last_named types n [] s (v ∷ w ∷ ws) sorted names =
+    let no = (and_parts (has_sort types.ctors v s) (have_sorts types.ctors (w ∷ ws) []) sorted).1 in cc
+last_named types n (t ∷ ts) s [] sorted names = cc
+last_named types n (t ∷ ts) s (v ∷ vs) sorted names =
+    let p = and_parts (has_sort types.ctors v t) (have_sorts types.ctors vs (ts ++ s ∷ [])) sorted in
+    let l = last_named types n ts s vs p.1 (All-tail (Names types n) v vs names) in record {
+      firsts = v ∷ l.firsts;
+      last = l.last;
+      whole = ap (λ (ws : List Value). v ∷ ws) l.whole;
+      firsts_sorted = and_from (has_sort types.ctors v t) (have_sorts types.ctors l.firsts ts) p.0 l.firsts_sorted;
+      last_sorted = l.last_sorted;
+      firsts_named = All-cons (Names types n) v l.firsts (All-head (Names types n) v vs names) l.firsts_named;
+      last_named = l.last_named;
+    }
+
 module _ {D T : Type 0} (m : Sense D T) (types : TypeTable) where
   -- ---- symbols
 
@@ -139,14 +176,20 @@ module _ {D T : Type 0} (m : Sense D T) (types : TypeTable) where
   AreUnknown_none d gs h rs empty = subst (AreUnknown m types d gs d gs [] h) (sym empty) (record {
     symbols = tt;
     heights = refl;
-    bounded = λ n a good. record {
+    bounded = λ exact n a good. record {
       values = [];
       stand = tt;
       are = record { sorted = refl; low = λ k v lt. absurd (omega arith) };
     };
-    chosen = λ n a vs good are. (Extended_none m types d gs n a good, no_values n a vs are);
+    chosen = λ exact n a vs good are. (Extended_none m types d gs n a good, no_values n a vs are);
+    named = λ inexact n a vs good sorted names. (Extended_none m types d gs n a good, no_sorted n a vs sorted);
   })
     where
+      no_sorted : (n : Naming) (a : ℕ → Bool) (vs : List Value) → have_sorts types.ctors vs [] ≡ true
+          → SymbolsStand m d a n [] vs
+      no_sorted n a [] sorted = tt
+      no_sorted n a (v ∷ vs) sorted = cc
+
       no_values : (n : Naming) (a : ℕ → Bool) (vs : List Value) → AreUpTo types [] h vs → SymbolsStand m d a n [] vs
       no_values n a [] are = tt
       no_values n a (v ∷ vs) are = let no = are.sorted in cc
@@ -164,9 +207,9 @@ module _ {D T : Type 0} (m : Sense D T) (types : TypeTable) where
               ∙ ap (λ (ns : List ℕ). ns ++ symbol_height m e x ∷ [])
               (heights_later c e fs hs k ss xs moves all.symbols ∙ all.heights)
               ∙ ap (λ n. map (height_at h) ss ++ n ∷ []) one.height ∙ sym (map-append (height_at h) ss (s ∷ []));
-          bounded = λ n a good.
-              let old = all.bounded n a (moves.back n a good) in
-              let new = one.bounded some n a good in
+          bounded = λ exact n a good.
+              let old = all.bounded exact n a (moves.back n a good) in
+              let new = one.bounded exact some n a good in
               record {
                 values = old.values ++ new.value ∷ [];
                 stand = stand_push e a n xs x old.values new.value
@@ -174,10 +217,25 @@ module _ {D T : Type 0} (m : Sense D T) (types : TypeTable) where
                     (agree_self (length fs) a) old.stand) new.stands;
                 are = up_to_push types h ss s old.values new.value old.are new.is;
               };
-          chosen = λ n a us good are.
+          named = λ inexact n a us good sorted names.
+              let l = last_named types n ss s us sorted names in
+              let old = all.named inexact n a l.firsts good l.firsts_sorted l.firsts_named in
+              let new = one.named inexact n old.0.next l.last old.0.good l.last_sorted l.last_named in (
+                record {
+                  next = new.0.next;
+                  agree = agree_along (length gs) (length fs) a old.0.next new.0.next
+                      (length-Grows gs fs p before.grows).0 old.0.agree new.0.agree;
+                  good = new.0.good;
+                },
+                subst (SymbolsStand m e new.0.next n (xs ++ x ∷ [])) (sym l.whole)
+                    (stand_push e new.0.next n xs x l.firsts l.last
+                    (SymbolsStand_later m types c e fs hs k n old.0.next new.0.next ss xs l.firsts moves all.symbols
+                    new.0.agree old.1) new.1),
+              );
+          chosen = λ exact n a us good are.
               let l = last_value types h ss s us are.sorted are.low in
-              let old = all.chosen n a l.firsts good l.firsts_are in
-              let new = one.chosen n old.0.next l.last old.0.good l.last_is in (
+              let old = all.chosen exact n a l.firsts good l.firsts_are in
+              let new = one.chosen exact n old.0.next l.last old.0.good l.last_is in (
                 record {
                   next = new.0.next;
                   agree = agree_along (length gs) (length fs) a old.0.next new.0.next
@@ -196,7 +254,7 @@ module _ {D T : Type 0} (m : Sense D T) (types : TypeTable) where
   -- so many of them have symbols
   pub record OpenedTo (d : D) (gs : List Gate) (ss : List Sort) (h i : ℕ) (e : D) (hs : List Gate)
       (xs : List (Symbol T)) : Type 0 where
-    pub moves : Moves m types d gs e hs (sum (map (open_gates types h) (take i ss)))
+    pub moves : Moves m types d gs e hs (sum (map (opened_gates m types h) (take i ss)))
     pub unknown : AreUnknown m types d gs e hs (take i ss) h xs
 
   pub opened_start : Lawful m → (d : D) (gs : List Gate) (ss : List Sort) (h : ℕ) (xs : List (Symbol T))
@@ -226,41 +284,41 @@ module _ {D T : Type 0} (m : Sense D T) (types : TypeTable) where
         → is_sort types.datatypes p.sort ≡ true
     opened_sort all = sort_at types.datatypes ss i s all lt at
 
-    gates_next : sum (map (open_gates types h) (take (i + 1) ss))
-        ≡ sum (map (open_gates types h) (take i ss)) + open_gates types h s
+    gates_next : sum (map (opened_gates m types h) (take (i + 1) ss))
+        ≡ sum (map (opened_gates m types h) (take i ss)) + opened_gates m types h s
     gates_next =
-        sum-map (open_gates types h) (take (i + 1) ss) ∙ sum_by_more (open_gates types h) ss i sort.Int lt
-        ∙ ap (λ k. k + open_gates types h (get_or ss i sort.Int)) (sym (sum-map (open_gates types h) (take i ss)))
-        ∙ ap (λ r. sum (map (open_gates types h) (take i ss)) + open_gates types h r) at
+        sum-map (opened_gates m types h) (take (i + 1) ss) ∙ sum_by_more (opened_gates m types h) ss i sort.Int lt
+        ∙ ap (λ k. k + opened_gates m types h (get_or ss i sort.Int)) (sym (sum-map (opened_gates m types h) (take i ss)))
+        ∙ ap (λ r. sum (map (opened_gates m types h) (take i ss)) + opened_gates m types h r) at
 
-    gates_within : sum (map (open_gates types h) (take i ss)) + open_gates types h s
-        ≤ sum (map (open_gates types h) ss)
+    gates_within : sum (map (opened_gates m types h) (take i ss)) + opened_gates m types h s
+        ≤ sum (map (opened_gates m types h) ss)
     gates_within =
-        let most = sum_by_more_le (open_gates types h) ss i sort.Int lt in
-        let here = ap (open_gates types h) at in
-        omega (arith, sum-map (open_gates types h) (take i ss), sum-map (open_gates types h) ss)
+        let most = sum_by_more_le (opened_gates m types h) ss i sort.Int lt in
+        let here = ap (opened_gates m types h) at in
+        omega (arith, sum-map (opened_gates m types h) (take i ss), sum-map (opened_gates m types h) ss)
 
-    pub opened_room : length gs + sum (map (open_gates types h) ss) ≤ 2 ^ 30
-        → length hs + open_gates types h s ≤ 2 ^ 30
+    pub opened_room : length gs + sum (map (opened_gates m types h) ss) ≤ 2 ^ 30
+        → length hs + opened_gates m types h s ≤ 2 ^ 30
     opened_room room =
         let grown = (length-Grows gs hs _ opened.moves.grows).1 in
         omega (arith, gates_within)
 
-    pub opened_left : (f : D) (is : List Gate) → Moves m types e hs f is (open_gates types h s)
-        → Moves m types d gs f is (sum (map (open_gates types h) ss))
+    pub opened_left : (f : D) (is : List Gate) → Moves m types e hs f is (opened_gates m types h s)
+        → Moves m types d gs f is (sum (map (opened_gates m types h) ss))
     opened_left f is moves =
-        Moves_more m types d e f gs hs is (sum (map (open_gates types h) (take i ss))) (open_gates types h s)
-        (sum (map (open_gates types h) ss)) opened.moves moves gates_within
+        Moves_more m types d e f gs hs is (sum (map (opened_gates m types h) (take i ss))) (opened_gates m types h s)
+        (sum (map (opened_gates m types h) ss)) opened.moves moves gates_within
 
     pub opened_turn : (f : D) (is : List Gate) (x : Symbol T) (ys : List (Symbol T)) → 1 ≤ h
-        → Moves m types e hs f is (open_gates types h s) → IsUnknownSymbol m types e hs f is s h x
+        → Moves m types e hs f is (opened_gates m types h s) → IsUnknownSymbol m types e hs f is s h x
         → ys ≡ xs ++ x ∷ [] → OpenedTo d gs ss h (i + 1) f is ys
     opened_turn f is x ys some moves unknown push = record {
-      moves = Moves_more m types d e f gs hs is (sum (map (open_gates types h) (take i ss))) (open_gates types h s)
-          (sum (map (open_gates types h) (take (i + 1) ss))) opened.moves moves (omega (arith, gates_next));
+      moves = Moves_more m types d e f gs hs is (sum (map (opened_gates m types h) (take i ss))) (opened_gates m types h s)
+          (sum (map (opened_gates m types h) (take (i + 1) ss))) opened.moves moves (omega (arith, gates_next));
       unknown = subst (λ ts. AreUnknown m types d gs f is ts h ys)
           (sym (take_more ss i sort.Int lt ∙ ap (λ r. take i ss ++ r ∷ []) at))
-          (AreUnknown_push d e f gs hs is h (sum (map (open_gates types h) (take i ss))) (open_gates types h s) some
+          (AreUnknown_push d e f gs hs is h (sum (map (opened_gates m types h) (take i ss))) (opened_gates m types h s) some
           opened.moves moves (take i ss) s xs ys x opened.unknown unknown push);
     }
 
@@ -270,8 +328,8 @@ module _ {D T : Type 0} (m : Sense D T) (types : TypeTable) where
     whole : take i (param_sorts params) ≡ param_sorts params
     whole = take_all i (param_sorts params) (past_params params i past)
 
-    pub all_moved : Moves m types d gs e hs (sum (map (open_gates types h) (param_sorts params)))
-    all_moved = subst (λ ss. Moves m types d gs e hs (sum (map (open_gates types h) ss))) whole opened.moves
+    pub all_moved : Moves m types d gs e hs (sum (map (opened_gates m types h) (param_sorts params)))
+    all_moved = subst (λ ss. Moves m types d gs e hs (sum (map (opened_gates m types h) ss))) whole opened.moves
 
     pub all_unknown : AreUnknown m types d gs e hs (param_sorts params) h xs
     all_unknown = subst (λ ss. AreUnknown m types d gs e hs ss h xs) whole opened.unknown

@@ -7,7 +7,7 @@ use Rattle.pp_domain.specs.declared.symbol.Symbol.{Symbol}
 use Rattle.pp_domain.specs.Moves.{Moves}
 use Rattle.pp_domain.specs.Sense.{Sense, Inexact}
 use Rattle.pp_steps.specs.declared.step.Step.{Step}
-use Rattle.pp_steps.specs.Gates.{gates_of}
+use Rattle.pp_build.specs.StepGates.{step_gates}
 use Rattle.pp_build.specs.Performed.{CanPerform, Leaves}
 
 -- in an exact domain nothing is asked of the other kind
@@ -19,7 +19,7 @@ module _ {D T : Type 0} (m : Sense D T) (types : TypeTable) (d : D) (gs : List G
   -- the number of gates is the step's
   abbrev pub IsCount : ℕ → Type 0
   IsCount k = (can : CanPerform m types d gs rs step)
-      → k ≡ gates_of types can.sorts can.heights (length rs) step
+      → k ≡ step_gates m types can.sorts can.heights (m.looks d) (m.compares d) (length rs) step
 
   pub room_for : (k : ℕ) → IsCount k → CanPerform m types d gs rs step → length gs + k ≤ 2 ^ 30
   room_for k is can = subst (λ n. length gs + n ≤ 2 ^ 30) (sym (is can)) can.room

@@ -2,3 +2,5 @@ pub mod Unknown
 pub mod Registers
 pub mod Performed
 pub mod Built
+pub mod Followed
+pub mod StepGates

@@ -1,5 +1,5 @@
 -- Symbols of which nothing is known but their sort and their height. Source: own.
-use Rattle.std.specs.Prelude.{◌≡◌, ◌≤◌, ℕ, Bool, List, map, All, IsTrue}
+use Rattle.std.specs.Prelude.{◌≡◌, ◌≤◌, ℕ, Bool, true, false, List, map, All, IsTrue}
 use Rattle.pp_prog.specs.declared.sort.Sort.{Sort}
 use Rattle.pp_prog.specs.declared.types.TypeTable.{TypeTable}
 use Rattle.pp_prog.specs.declared.value.Value.{Value}
@@ -8,7 +8,8 @@ use Rattle.pp_prog.specs.Sorts.{has_sort, have_sorts}
 use Rattle.pp_prog.specs.Values.{height as value_height}
 use Rattle.pp_gate.specs.declared.gate.Gate.{Gate}
 use Rattle.pp_domain.specs.declared.symbol.Symbol.{Symbol}
-use Rattle.pp_domain.specs.Naming.{Naming}
+use Rattle.pp_domain.specs.Moves.{SameLooks}
+use Rattle.pp_domain.specs.Naming.{Naming, Names}
 use Rattle.pp_domain.specs.Sense.{Sense, Good, Extended}
 use Rattle.pp_domain.specs.Symbols.{IsSymbol, AreSymbols, SymbolStands, SymbolsStand, symbol_height}
 
@@ -42,16 +43,24 @@ module _ {D T : Type 0} (m : Sense D T) (types : TypeTable) where
       : Type 0 where
     pub of : IsSymbol m e hs s r
     pub height : symbol_height m e r ≡ height_at h s
-    pub bounded : 1 ≤ h → (n : Naming) (a : ℕ → Bool) → Good m types e hs n a → StandsUpTo e a n s h r
-    pub chosen : (n : Naming) (a : ℕ → Bool) (v : Value) → Good m types d gs n a → IsUpTo types s h v
+    pub looks : SameLooks m d e
+    pub bounded : m.exact ≡ true → 1 ≤ h → (n : Naming) (a : ℕ → Bool) → Good m types e hs n a → StandsUpTo e a n s h r
+    pub chosen : m.exact ≡ true → (n : Naming) (a : ℕ → Bool) (v : Value) → Good m types d gs n a → IsUpTo types s h v
         → (x : Extended m types gs n a e hs) × SymbolStands m e x.next n r v
-    pub extends : h ≡ 0 → (n : Naming) (a : ℕ → Bool) → Good m types d gs n a → Extended m types gs n a e hs
+    pub named : m.exact ≡ false → (n : Naming) (a : ℕ → Bool) (v : Value) → Good m types d gs n a
+        → IsTrue (has_sort types.ctors v s) → Names types n v
+        → (x : Extended m types gs n a e hs) × SymbolStands m e x.next n r v
+    pub extends : m.exact ≡ true → h ≡ 0 → (n : Naming) (a : ℕ → Bool) → Good m types d gs n a → Extended m types gs n a e hs
 
   -- symbols that can stand together for any values of the sorts up to the height, and stand for no others
   pub record AreUnknown (d : D) (gs : List Gate) (e : D) (hs : List Gate) (sorts : List Sort) (h : ℕ)
       (rs : List (Symbol T)) : Type 0 where
     pub symbols : AreSymbols m e hs sorts rs
     pub heights : map (symbol_height m e) rs ≡ map (height_at h) sorts
-    pub bounded : (n : Naming) (a : ℕ → Bool) → Good m types e hs n a → StandUpTo e a n sorts h rs
-    pub chosen : (n : Naming) (a : ℕ → Bool) (vs : List Value) → Good m types d gs n a → AreUpTo types sorts h vs
+    pub bounded : m.exact ≡ true → (n : Naming) (a : ℕ → Bool) → Good m types e hs n a → StandUpTo e a n sorts h rs
+    pub chosen : m.exact ≡ true → (n : Naming) (a : ℕ → Bool) (vs : List Value) → Good m types d gs n a
+        → AreUpTo types sorts h vs
+        → (x : Extended m types gs n a e hs) × SymbolsStand m e x.next n rs vs
+    pub named : m.exact ≡ false → (n : Naming) (a : ℕ → Bool) (vs : List Value) → Good m types d gs n a
+        → IsTrue (have_sorts types.ctors vs sorts) → All (Names types n) vs
         → (x : Extended m types gs n a e hs) × SymbolsStand m e x.next n rs vs

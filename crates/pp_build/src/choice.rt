@@ -20,7 +20,6 @@ pub(crate) fn choose<D: Domain>(
     left: u32,
     right: u32,
 ) -> Result<Symbol<D::Tree>, NoMemory>
-    requires exact { D.sense.exact ≡ true }
     requires fits { D.sense.Fits table.now domain.old circuit.old }
     requires can { CanPerform D.sense table.now domain.old circuit.old registers.now (steps.Choose choice left right) }
     ensures moves { Leaves D.sense table.now domain.old circuit.old registers.now (steps.Choose choice left right)

@@ -3,7 +3,8 @@
 //! `open_all` makes the symbols of a run's arguments, of which nothing is known but their heights. `build` performs the
 //! steps behind those that have symbols: `specs/Built` says when it can, and what its registers tell. Where values obey
 //! the steps (`pp_steps`), a step's register stands for its value as far as the registers of the operands on which the
-//! value depends do; so the parts of a run that aren't reached may stand for nothing. The domain has to be exact.
+//! value depends do; so the parts of a run that aren't reached may stand for nothing. In a domain that isn't
+//! exact each register stands for its step's value, as soon as a naming names all values and their fields.
 //! How a step is performed may change within the number of gates that `pp_steps` allows it.
 #![tactic(auto)]
 

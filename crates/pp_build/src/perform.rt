@@ -22,10 +22,11 @@ pub fn build<D: Domain>(
     domain: &mut D,
     circuit: &mut Circuit,
     table: &TypeTable,
+    exact: bool,
     steps: &[Step],
     registers: &mut Symbols<D::Tree>,
 ) -> Result<(), NoMemory>
-    requires exact { D.sense.exact ≡ true }
+    requires exact { exact ≡ D.sense.exact }
     requires fits { D.sense.Fits table.now domain.old circuit.old }
     requires can { (most : ℕ) × CanBuild D.sense table.now domain.old circuit.old steps.now registers.old most }
     ensures moves { (most : ℕ) → CanBuild D.sense table.now domain.old circuit.old steps.now registers.old most
@@ -36,7 +37,15 @@ pub fn build<D: Domain>(
         domain.new circuit.new registers.new) }
 {
     for number in registers.len()..steps.len() {
-        let symbol = perform(alloc, domain, circuit, table, registers, &steps[number])?;
+        let symbol = perform(
+            alloc,
+            domain,
+            circuit,
+            table,
+            exact,
+            registers,
+            &steps[number],
+        )?;
         registers.push(symbol)?;
     }
     Ok(())
@@ -48,10 +57,11 @@ fn perform<D: Domain>(
     domain: &mut D,
     circuit: &mut Circuit,
     table: &TypeTable,
+    exact: bool,
     registers: &Symbols<D::Tree>,
     step: &Step,
 ) -> Result<Symbol<D::Tree>, NoMemory>
-    requires exact { D.sense.exact ≡ true }
+    requires exact { exact ≡ D.sense.exact }
     requires fits { D.sense.Fits table.now domain.old circuit.old }
     requires can { CanPerform D.sense table.now domain.old circuit.old registers.now step.now }
     ensures moves { Leaves D.sense table.now domain.old circuit.old registers.now step.now domain.new circuit.new }
@@ -122,7 +132,7 @@ fn perform<D: Domain>(
         Step::GoesDown(a, b) => {
             let new = register(registers, *a);
             let old = register(registers, *b);
-            let down = pp_build_operators::goes_down(domain, circuit, table, &new, &old)?;
+            let down = pp_build_operators::goes_down(domain, circuit, table, exact, &new, &old)?;
             Ok(down)
         }
     }

@@ -21,7 +21,6 @@ pub(crate) fn construct<D: Domain>(
     ctor: CtorId,
     fields: &[u32],
 ) -> Result<Symbol<D::Tree>, NoMemory>
-    requires exact { D.sense.exact ≡ true }
     requires fits { D.sense.Fits table.now domain.old circuit.old }
     requires can { CanPerform D.sense table.now domain.old circuit.old registers.now
         (steps.Construct ctor fields.now) }
@@ -45,7 +44,6 @@ pub(crate) fn has_ctor<D: Domain>(
     count: u32,
     operand: u32,
 ) -> Result<Symbol<D::Tree>, NoMemory>
-    requires exact { D.sense.exact ≡ true }
     requires fits { D.sense.Fits table.now domain.old circuit.old }
     requires can { CanPerform D.sense table.now domain.old circuit.old registers.now
         (steps.IsCtor ctor count operand) }
@@ -73,7 +71,6 @@ pub(crate) fn ctor_field<D: Domain>(
     place: u32,
     operand: u32,
 ) -> Result<Symbol<D::Tree>, NoMemory>
-    requires exact { D.sense.exact ≡ true }
     requires fits { D.sense.Fits table.now domain.old circuit.old }
     requires can { CanPerform D.sense table.now domain.old circuit.old registers.now
         (steps.CtorField ctor place operand) }
@@ -100,7 +97,6 @@ pub(crate) fn only_field<D: Domain>(
     operand: u32,
     place: u32,
 ) -> Result<Symbol<D::Tree>, NoMemory>
-    requires exact { D.sense.exact ≡ true }
     requires fits { D.sense.Fits table.now domain.old circuit.old }
     requires can { CanPerform D.sense table.now domain.old circuit.old registers.now (steps.Field operand place) }
     ensures moves { Leaves D.sense table.now domain.old circuit.old registers.now (steps.Field operand place)

@@ -5,7 +5,7 @@ ghost use Rattle.std.specs.List.{list_all};
 ghost use Rattle.pp_prog.specs.Sorts.{param_sorts};
 ghost use Rattle.pp_prog.specs.Table.{is_sort};
 ghost use Rattle.pp_domain.specs.Moves.{Moves};
-ghost use Rattle.pp_steps.specs.Gates.{open_gates};
+ghost use Rattle.pp_build.specs.StepGates.{opened_gates};
 ghost use Rattle.pp_build.specs.Unknown.{AreUnknown, IsUnknownSymbol};
 
 use crate::NoMemory;
@@ -24,13 +24,12 @@ pub fn open_all<D: Domain>(
     params: &[Param],
     depth: u32,
 ) -> Result<Symbols<D::Tree>, NoMemory>
-    requires exact { D.sense.exact ≡ true }
     requires fits { D.sense.Fits table.now domain.old circuit.old }
     requires sorts { IsTrue (list_all (is_sort table.now.datatypes) (param_sorts params.now)) }
     requires depth { 1 ≤ depth }
-    requires room { length circuit.old + sum (map (open_gates table.now depth) (param_sorts params.now)) ≤ 2 ^ 30 }
+    requires room { length circuit.old + sum (map (opened_gates D.sense table.now depth) (param_sorts params.now)) ≤ 2 ^ 30 }
     ensures moves { Moves D.sense table.now domain.old circuit.old domain.new circuit.new
-        (sum (map (open_gates table.now depth) (param_sorts params.now))) }
+        (sum (map (opened_gates D.sense table.now depth) (param_sorts params.now))) }
     ensures answer { IfOk result (λ rs. AreUnknown D.sense table.now domain.old circuit.old domain.new circuit.new
         (param_sorts params.now) depth rs) }
 {
@@ -50,12 +49,11 @@ pub(crate) fn unknown_symbol<D: Domain>(
     sort: Sort,
     height: u32,
 ) -> Result<Symbol<D::Tree>, NoMemory>
-    requires exact { D.sense.exact ≡ true }
     requires fits { D.sense.Fits table.now domain.old circuit.old }
     requires sort { IsTrue (is_sort table.now.datatypes sort) }
-    requires room { length circuit.old + open_gates table.now height sort ≤ 2 ^ 30 }
+    requires room { length circuit.old + opened_gates D.sense table.now height sort ≤ 2 ^ 30 }
     ensures moves { Moves D.sense table.now domain.old circuit.old domain.new circuit.new
-        (open_gates table.now height sort) }
+        (opened_gates D.sense table.now height sort) }
     ensures answer { IfOk result (λ r. IsUnknownSymbol D.sense table.now domain.old circuit.old domain.new
         circuit.new sort height r) }
 {

@@ -1,6 +1,10 @@
 -- Words that stand for what an operator makes of a number, and the comparison of two numbers of a measure.
-use Rattle.std.proofs.Common.{◌≡◌, ℕ, ℤ, List, Bool, not, Ok, sym, ap, ◌∙◌}
-use Rattle.std.specs.Prelude.{pos, ◌&&◌, int_le, int_lt}
+use Rattle.std.proofs.Common.{◌≡◌, ℕ, ℤ, List, Bool, true, false, if◌then◌else◌, arith, not, Ok, refl, sym, ap, ◌∙◌}
+use Rattle.std.specs.Prelude.{pos, ◌&&◌, ◌↔◌, ◌≢◌, int_le, int_lt}
+use Rattle.std.specs.Int.{int_wrap}
+use Rattle.std.specs.Int.RustNames.{int_div, int_rem}
+use Rattle.std.proofs.lemmas.Bool.{false≢true}
+use Rattle.std.proofs.lemmas.Int.{ints, quot-rem}
 use Rattle.std.specs.Int.{w32}
 use Rattle.pp_prog.specs.declared.expr.UnaryOp.TheVariants.{Neg, Flip}
 use Rattle.pp_prog.specs.declared.value.Value.{Value}
@@ -9,11 +13,11 @@ use Rattle.pp_prog.specs.declared.value.Value.TheVariants.{outs-Int, outs-Bool}
 use Rattle.pp_prog.specs.declared.value.Value.TheViews.{out-Value}
 use Rattle.pp_clause.specs.Literal.{Literal, lit_value, opposite}
 use Rattle.pp_gate.specs.declared.gate.Gate.{Gate}
-use Rattle.pp_gate.specs.Circuit.{StandsFor}
+use Rattle.pp_gate.specs.Circuit.{Gives, StandsFor}
 use Rattle.pp_gate.specs.Growth.{AddsGates}
 use Rattle.pp_bits.proofs.Growing.{Gives_before}
 use Rattle.pp_bits.proofs.Numbers.{lit_value_negated}
-use Rattle.pp_word.specs.Word.{word_neg, word_not, word_less}
+use Rattle.pp_word.specs.Word.{word_div, word_rem, word_neg, word_not, word_less}
 use Rattle.pp_wordgate.specs.Meaning.{word_of, StandsForWord}
 use Rattle.pp_eval.specs.Operators.{unary}
 use Rattle.pp_eval.specs.Part.{Part}
@@ -63,3 +67,51 @@ down_number fs gs hs ks i j k new old zero negative turned less r isZero first i
           both.value s gives ∙ ap (λ (b : Bool). b && lit_value s less) sign
           ∙ ap (λ (b : Bool). int_le (pos 0) (word_of w32 s new) && b) (isLess.value s before);
     }
+
+-- ---- quotients
+
+q_zero : (a : ℤ) → int_div a (pos 0) ≡ pos 0
+q_zero a = grind (arith, ints)
+
+r_zero : (a : ℤ) → int_rem a (pos 0) ≡ a
+r_zero a = let e = quot-rem a (pos 0) in grind (arith, ints)
+
+pub word_rem_zero : (a : ℤ) → word_rem w32 a (pos 0) ≡ a
+unfolding word_rem
+word_rem_zero a = r_zero a
+
+pub word_div_zero : (a : ℤ) → word_div w32 a (pos 0) ≡ pos 0
+unfolding word_div int_wrap
+word_div_zero a = ap (int_wrap w32) (q_zero a)
+
+-- a word that is made where the divisor isn't 0, and another one where it is
+pub total_word : (go : ℤ → ℤ → ℤ) (es fs hs ks : List Gate) (i j k : ℕ) (a b zero other plain r : List Literal)
+    (none : Literal)
+    → ((s : ℕ → Bool) → Gives s es → word_of w32 s b ≢ pos 0
+    → word_of w32 s plain ≡ go (word_of w32 s a) (word_of w32 s b))
+    → AddsGates es fs i → StandsForWord w32 fs zero (λ s. pos 0) → AddsGates fs hs j
+    → ((s : ℕ → Bool) → Gives s hs → (lit_value s none ≡ true) ↔ (word_of w32 s b ≡ word_of w32 s zero))
+    → AddsGates hs ks k
+    → StandsForWord w32 ks r (λ s. if lit_value s none then word_of w32 s other else word_of w32 s plain)
+    → ((s : ℕ → Bool) → word_of w32 s zero ≡ pos 0 → word_of w32 s other ≡ go (word_of w32 s a) (pos 0))
+    → StandsForWord w32 ks r (λ s. go (word_of w32 s a) (word_of w32 s b))
+total_word go es fs hs ks i j k a b zero other plain r none divided first is_zero second test third chosen otherwise =
+    record {
+      len = chosen.len;
+      of = chosen.of;
+      value = λ s gives.
+          let late = Gives_before hs ks k third s gives in
+          let here = Gives_before fs hs j second s late in
+          let early = Gives_before es fs i first s here in
+          let null = is_zero.value s here in
+          let both = test s late in
+          chosen.value s gives ∙ by s early null both (lit_value s none) refl;
+    }
+  where
+    by : (s : ℕ → Bool) → Gives s es → word_of w32 s zero ≡ pos 0
+        → ((lit_value s none ≡ true) ↔ (word_of w32 s b ≡ word_of w32 s zero)) → (c : Bool) → lit_value s none ≡ c
+        → (if c then word_of w32 s other else word_of w32 s plain) ≡ go (word_of w32 s a) (word_of w32 s b)
+    by s early null both true e =
+        otherwise s null ∙ ap (go (word_of w32 s a)) (sym (both.0 e ∙ null))
+    by s early null both false e =
+        divided s early (λ is. false≢true (sym e ∙ both.1 (is ∙ sym null)))

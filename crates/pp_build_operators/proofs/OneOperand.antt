@@ -1,5 +1,5 @@
 -- Operators with one operand on symbols.
-use Rattle.std.proofs.Common.{◌≡◌, ℕ, List, false, sym, ap, ◌∙◌, subst}
+use Rattle.std.proofs.Common.{◌≡◌, ℕ, List, [], ◌∷◌, false, sym, ap, ◌∙◌, subst}
 use Rattle.std.specs.Int.{w32}
 use Rattle.pp_prog.specs.declared.expr.UnaryOp.{UnaryOp}
 use Rattle.pp_prog.specs.declared.sort.Sort.{Sort}
@@ -32,8 +32,8 @@ module _ {D T : Type 0} (m : Sense D T) (types : TypeTable) (law : Lawful m) whe
   number_unary op d gs hs k a r fits adds is = λ s u of h.
       let sorted = operand_sorted m types op d gs s u (symbol.Word a) of h in
       let same = sym (unary_number_sort op u sorted) in (
-        subst (λ t. IsMade m types d gs d hs t (symbol.Word r)) same
-            (number_made m types law d gs hs k r fits adds is.len is.of),
+        subst (λ t. IsMade m types d gs (symbol.Word a ∷ []) d hs t (symbol.Word r)) same
+            (number_made m types law (symbol.Word a ∷ []) d gs hs k r fits adds is.len is.of),
         λ n e v good stands.
             subst (λ t. StandsAs m types d e n t (symbol.Word r) (value_or (Truth false) (unary op v))) same
             (number_of_part m types d e n hs r _ (unary op v) is good.gates
@@ -45,8 +45,8 @@ module _ {D T : Type 0} (m : Sense D T) (types : TypeTable) (law : Lawful m) whe
   truth_unary op d gs a r fits is = λ s u of h.
       let sorted = operand_sorted m types op d gs s u (symbol.Bit a) of h in
       let same = sym (unary_truth_sort op u sorted) in (
-        subst (λ t. IsMade m types d gs d gs t (symbol.Bit r)) same
-            (truth_made m types law d gs gs 0 r fits (AddsGates_none gs 0 (law.circuit types d gs fits))
+        subst (λ t. IsMade m types d gs (symbol.Bit a ∷ []) d gs t (symbol.Bit r)) same
+            (truth_made m types law (symbol.Bit a ∷ []) d gs gs 0 r fits (AddsGates_none gs 0 (law.circuit types d gs fits))
             (subst (λ (l : Literal). IsOf gs l) (sym is) (IsOf_opposite gs a (bit_of_circuit d gs s a of)))),
         λ n e v good stands.
             let part = ap (unary op) stands.stands ∙ unary_makes_truth op u (lit_value e a) sorted in

@@ -21,6 +21,7 @@ use Rattle.pp_gate.specs.Growth.{AddsGates}
 use Rattle.pp_bits.specs.Number.{nat_of}
 use Rattle.pp_bits.proofs.Numbers.{nat_of_within}
 use Rattle.pp_wordgate.specs.Meaning.{word_of}
+use Rattle.pp_domain.specs.declared.symbol.Symbol.{Symbol}
 use Rattle.pp_domain.specs.declared.symbol.Symbol.TheVariants as symbol
 use Rattle.pp_domain.specs.Laws.{Lawful}
 use Rattle.pp_domain.specs.Naming.{Naming}
@@ -91,18 +92,20 @@ module _ {D T : Type 0} (m : Sense D T) (types : TypeTable) where
       (ap (λ (p : Part Value). value_or (Truth false) p) (same ∙ made.is)
       ∙ ap Truth (sym (is.value a made.truth gives made.is)))
 
-  pub number_made : Lawful m → (d : D) (gs hs : List Gate) (k : ℕ) (r : List Literal) → m.Fits types d gs
-      → AddsGates gs hs k → length r ≡ 32 → All (IsOf hs) r → IsMade m types d gs d hs sort.Int (symbol.Word r)
-  number_made law d gs hs k r fits adds len of = record {
+  pub number_made : Lawful m → (xs : List (Symbol T)) (d : D) (gs hs : List Gate) (k : ℕ) (r : List Literal) → m.Fits types d gs
+      → AddsGates gs hs k → length r ≡ 32 → All (IsOf hs) r → IsMade m types d gs xs d hs sort.Int (symbol.Word r)
+  number_made law xs d gs hs k r fits adds len of = record {
     of = (len, of);
     low = refl;
-    extends = λ n a good. Extended_grown m types law d gs hs k n a a fits adds.grows adds.circuit good;
+    looks = λ inexact. record { looks = refl; compares = refl };
+    extends = λ n a good any. Extended_grown m types law d gs hs k n a a fits adds.grows adds.circuit good;
   }
 
-  pub truth_made : Lawful m → (d : D) (gs hs : List Gate) (k : ℕ) (r : Literal) → m.Fits types d gs
-      → AddsGates gs hs k → IsOf hs r → IsMade m types d gs d hs sort.Bool (symbol.Bit r)
-  truth_made law d gs hs k r fits adds of = record {
+  pub truth_made : Lawful m → (xs : List (Symbol T)) (d : D) (gs hs : List Gate) (k : ℕ) (r : Literal) → m.Fits types d gs
+      → AddsGates gs hs k → IsOf hs r → IsMade m types d gs xs d hs sort.Bool (symbol.Bit r)
+  truth_made law xs d gs hs k r fits adds of = record {
     of = of;
     low = refl;
-    extends = λ n a good. Extended_grown m types law d gs hs k n a a fits adds.grows adds.circuit good;
+    looks = λ inexact. record { looks = refl; compares = refl };
+    extends = λ n a good any. Extended_grown m types law d gs hs k n a a fits adds.grows adds.circuit good;
   }

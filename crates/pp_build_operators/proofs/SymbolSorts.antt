@@ -1,5 +1,5 @@
 -- A symbol tells its sort, and so the gates of an operator on it.
-use Rattle.std.proofs.Common.{◌≡◌, List, Some, refl, ap, ◌∙◌}
+use Rattle.std.proofs.Common.{◌≡◌, ◌+◌, ◌*◌, Bool, false, if◌then◌else◌, List, Some, refl, ap, ◌∙◌}
 use Rattle.std.specs.Prelude.{min}
 use Rattle.pp_prog.specs.declared.expr.BinaryOp.{BinaryOp}
 use Rattle.pp_prog.specs.declared.expr.UnaryOp.{UnaryOp}
@@ -12,9 +12,12 @@ use Rattle.pp_domain.specs.declared.symbol.Symbol.{Symbol}
 use Rattle.pp_domain.specs.declared.symbol.Symbol.TheVariants as symbol
 use Rattle.pp_domain.specs.Sense.{Sense}
 use Rattle.pp_domain.specs.Symbols.{IsSymbol, symbol_height}
-use Rattle.pp_steps.specs.Gates.{binary_gates, descent_gates}
+use Rattle.pp_prog.specs.Sizes.{by_sort}
+use Rattle.pp_domain.specs.Allowance.{bits_at}
+use Rattle.pp_domain.specs.AnySort.{compare_gates}
+use Rattle.pp_steps.specs.Gates.{binary_gates}
 use Rattle.pp_steps.specs.Sorted.{operated_sort}
-use Rattle.pp_build_operators.specs.Budget.{goes_down_gates, operator_gates, symbol_sort}
+use Rattle.pp_build_operators.specs.Budget.{is_equality, operator_gates, symbol_sort}
 
 module _ {D T : Type 0} (m : Sense D T) (types : TypeTable) where
   pub symbol_sort_is : (d : D) (gs : List Gate) (s : Sort) (x : Symbol T) → IsSymbol m d gs s x
@@ -41,13 +44,29 @@ module _ {D T : Type 0} (m : Sense D T) (types : TypeTable) where
       ap (λ (r : Sort). operated_sort op (Some r) (Some (symbol_sort m types d y))) (symbol_sort_is d gs s x is)
       ∙ ap (λ (r : Sort). operated_sort op (Some s) (Some r)) (symbol_sort_is d gs t y other) ∙ sorted
 
-  pub operator_gates_are : (op : BinaryOp) (d : D) (gs : List Gate) (s : Sort) (x y : Symbol T) → IsSymbol m d gs s x
-      → operator_gates m types op d x y ≡ binary_gates types op (min (symbol_height m d x) (symbol_height m d y)) s
-  operator_gates_are op d gs s x y is =
-      ap (λ (r : Sort). binary_gates types op (min (symbol_height m d x) (symbol_height m d y)) r)
-      (symbol_sort_is d gs s x is)
+  -- an operator that is no equality
+  pub plain_gates : (op : BinaryOp) (d : D) (x y : Symbol T) → is_equality op ≡ false
+      → operator_gates m types op d x y ≡ binary_gates types op 0 (symbol_sort m types d x)
+  plain_gates op d x y other =
+      ap (λ (b : Bool). if b then compare_gates m types d x y else binary_gates types op 0 (symbol_sort m types d x))
+      other
 
-  pub goes_down_gates_are : (d : D) (gs : List Gate) (s : Sort) (x y : Symbol T) → IsSymbol m d gs s x
-      → goes_down_gates m types d x y ≡ descent_gates types (symbol_height m d x) (symbol_height m d y) s
-  goes_down_gates_are d gs s x y is =
-      ap (λ (r : Sort). descent_gates types (symbol_height m d x) (symbol_height m d y) r) (symbol_sort_is d gs s x is)
+  pub compare_gates_are : (d : D) (gs : List Gate) (s : Sort) (x y : Symbol T) → IsSymbol m d gs s x
+      → IsSymbol m d gs s y → compare_gates m types d x y
+      ≡ by_sort 64 1 (λ of. 4 * (32 + bits_at m types of (min (symbol_height m d x) (symbol_height m d y)))) s
+  compare_gates_are d gs sort.Int (symbol.Word v) (symbol.Word w) is other = refl
+  compare_gates_are d gs sort.Bool (symbol.Bit k) (symbol.Bit l) is other = refl
+  compare_gates_are d gs (sort.Tree of) (symbol.Tree t) (symbol.Tree u) is other =
+      ap (λ e. 4 * (32 + bits_at m types e (min (m.height d t) (m.height d u)))) is.1
+  compare_gates_are d gs sort.Int (symbol.Bit l) y is other = absurd is
+  compare_gates_are d gs sort.Int (symbol.Tree t) y is other = absurd is
+  compare_gates_are d gs sort.Bool (symbol.Word w) y is other = absurd is
+  compare_gates_are d gs sort.Bool (symbol.Tree t) y is other = absurd is
+  compare_gates_are d gs (sort.Tree of) (symbol.Word w) y is other = absurd is
+  compare_gates_are d gs (sort.Tree of) (symbol.Bit l) y is other = absurd is
+  compare_gates_are d gs sort.Int (symbol.Word w) (symbol.Bit l) is other = absurd other
+  compare_gates_are d gs sort.Int (symbol.Word w) (symbol.Tree t) is other = absurd other
+  compare_gates_are d gs sort.Bool (symbol.Bit l) (symbol.Word w) is other = absurd other
+  compare_gates_are d gs sort.Bool (symbol.Bit l) (symbol.Tree t) is other = absurd other
+  compare_gates_are d gs (sort.Tree of) (symbol.Tree t) (symbol.Word w) is other = absurd other
+  compare_gates_are d gs (sort.Tree of) (symbol.Tree t) (symbol.Bit l) is other = absurd other

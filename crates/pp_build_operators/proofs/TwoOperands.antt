@@ -1,5 +1,5 @@
 -- Operators with two operands on symbols.
-use Rattle.std.proofs.Common.{◌≡◌, ℕ, List, true, false, not, Some, None, refl, sym, ap, ◌∙◌, subst}
+use Rattle.std.proofs.Common.{◌≡◌, ℕ, Bool, List, [], ◌∷◌, true, false, not, Some, None, refl, sym, ap, ◌∙◌, subst}
 use Rattle.std.specs.Int.{w32}
 use Rattle.pp_prog.specs.declared.expr.BinaryOp.{BinaryOp}
 use Rattle.pp_prog.specs.declared.expr.BinaryOp.TheVariants.{Equal, Differ}
@@ -18,21 +18,22 @@ use Rattle.pp_domain.specs.declared.symbol.Symbol.{Symbol}
 use Rattle.pp_domain.specs.declared.symbol.Symbol.TheVariants as symbol
 use Rattle.pp_domain.specs.AnySort.{IsSame}
 use Rattle.pp_domain.specs.Laws.{Lawful}
-use Rattle.pp_domain.specs.Moves.{Moves}
+use Rattle.pp_domain.specs.Moves.{Moves, SameLooks}
+use Rattle.pp_domain.specs.Naming.{Naming}
 use Rattle.pp_domain.specs.Sense.{Sense}
+use Rattle.pp_domain.specs.Symbols.{SymbolStands, SymbolsStand}
 use Rattle.pp_domain.proofs.AnySort.{Moves_gates}
 use Rattle.pp_eval.specs.Equality.{equal}
 use Rattle.pp_eval.specs.Operators.{on_numbers, on_truths}
 use Rattle.pp_eval.proofs.Trees.{one_answer, trees}
-use Rattle.pp_steps.specs.Known.{IsDefined}
 use Rattle.pp_steps.specs.Meaning.{applied, value_or}
 use Rattle.pp_steps.specs.Sorted.{operated_sort}
 use Rattle.pp_build_operators.specs.Budget.{is_equality, is_order, number_gates, operator_gates, symbol_sort}
 use Rattle.pp_build_operators.specs.Operated.{CanOperate, IsMade, StandsAs, IsBinary}
-use Rattle.pp_build_operators.specs.Plain.{IsNumberOf, IsTruthOf}
+use Rattle.pp_build_operators.specs.Plain.{IsNumberOf, IsTruthOf, applied_number}
 use Rattle.pp_build_operators.proofs.Results.{number_made, number_of_part, truth_made, truth_of_part, truth_stands}
-use Rattle.pp_build_operators.proofs.SymbolSorts.{operands_sorted}
-use Rattle.pp_build_operators.proofs.Values.{applied_numbers, applied_truths, equality_sort, makes_number}
+use Rattle.pp_build_operators.proofs.SymbolSorts.{operands_sorted, plain_gates}
+use Rattle.pp_build_operators.proofs.Values.{ordered_number, applied_numbers, applied_truths, equality_sort, makes_number}
 use Rattle.pp_build_operators.proofs.Values.{makes_truth, number_gates_are, number_sort, order_gates}
 use Rattle.pp_build_operators.proofs.Values.{order_makes_truth, order_sort, truth_gates, truth_sort}
 
@@ -51,10 +52,11 @@ module _ {D T : Type 0} (m : Sense D T) (types : TypeTable) (law : Lawful m) whe
       operands_sorted m types op d gs can.left_sort can.right_sort can.result x y can.left_is can.right_is can.sorted
 
   pub order_moves : (op : BinaryOp) (d : D) (gs hs : List Gate) (a b : List Literal) → m.Fits types d gs
-      → is_order op ≡ true → AddsGates gs hs 256
+      → is_equality op ≡ false → is_order op ≡ true → AddsGates gs hs 256
       → Moves m types d gs d hs (operator_gates m types op d (symbol.Word a) (symbol.Word b))
-  order_moves op d gs hs a b fits order adds =
-      subst (λ (k : ℕ). Moves m types d gs d hs k) (sym (order_gates types op _ sort.Int order))
+  order_moves op d gs hs a b fits other order adds =
+      subst (λ (k : ℕ). Moves m types d gs d hs k)
+      (sym (plain_gates m types op d (symbol.Word a) (symbol.Word b) other ∙ order_gates types op 0 sort.Int order))
       (Moves_gates m types law d gs hs 256 fits adds)
 
   pub number_moves : (op : BinaryOp) (d : D) (gs hs : List Gate) (a b : List Literal) → m.Fits types d gs
@@ -63,8 +65,8 @@ module _ {D T : Type 0} (m : Sense D T) (types : TypeTable) (law : Lawful m) whe
       → Moves m types d gs d hs (operator_gates m types op d (symbol.Word a) (symbol.Word b))
   number_moves op d gs hs a b fits other plain can adds =
       subst (λ (k : ℕ). Moves m types d gs d hs k)
-      (sym (number_gates_are types op _ can.result other plain
-      (sort_by_forms op d gs (symbol.Word a) (symbol.Word b) can)))
+      (sym (plain_gates m types op d (symbol.Word a) (symbol.Word b) other ∙ number_gates_are types op 0 can.result
+      other plain (sort_by_forms op d gs (symbol.Word a) (symbol.Word b) can)))
       (Moves_gates m types law d gs hs (number_gates op) fits adds)
 
   pub truth_moves : (op : BinaryOp) (d : D) (gs hs : List Gate) (a b : Literal) → m.Fits types d gs
@@ -72,28 +74,28 @@ module _ {D T : Type 0} (m : Sense D T) (types : TypeTable) (law : Lawful m) whe
       → Moves m types d gs d hs (operator_gates m types op d (symbol.Bit a) (symbol.Bit b))
   truth_moves op d gs hs a b fits other can adds =
       subst (λ (k : ℕ). Moves m types d gs d hs k)
-      (sym (truth_gates types op _ can.result other (sort_by_forms op d gs (symbol.Bit a) (symbol.Bit b) can)))
+      (sym (plain_gates m types op d (symbol.Bit a) (symbol.Bit b) other ∙ truth_gates types op 0 can.result other
+      (sort_by_forms op d gs (symbol.Bit a) (symbol.Bit b) can)))
       (Moves_gates m types law d gs hs 1 fits adds)
 
   -- ---- meanings
 
   pub number_binary : (op : BinaryOp) (d : D) (gs hs : List Gate) (k : ℕ) (a b r : List Literal) → m.Fits types d gs
       → is_equality op ≡ false → is_order op ≡ false → AddsGates gs hs k
-      → IsNumberOf hs r (λ s. on_numbers op None (word_of w32 s a) (word_of w32 s b))
+      → IsNumberOf hs r (λ s. applied_number op (word_of w32 s a) (word_of w32 s b))
       → IsBinary m types op d gs d hs (symbol.Word a) (symbol.Word b) (symbol.Word r)
   number_binary op d gs hs k a b r fits other plain adds is = λ s t u one two h.
       let sorted = operands_sorted m types op d gs s t u (symbol.Word a) (symbol.Word b) one two h in
       let same = sym (number_sort op u other plain sorted) in (
-        subst (λ q. IsMade m types d gs d hs q (symbol.Word r)) same
-            (number_made m types law d gs hs k r fits adds is.len is.of),
-        λ n e v w good first second defined.
+        subst (λ q. IsMade m types d gs (symbol.Word a ∷ symbol.Word b ∷ []) d hs q (symbol.Word r)) same
+            (number_made m types law (symbol.Word a ∷ symbol.Word b ∷ []) d gs hs k r fits adds is.len is.of),
+        λ n e v w good first second.
             let x = word_of w32 e a in
             let y = word_of w32 e b in
-            let here = subst (IsDefined op) second.stands defined in
             subst (λ q. StandsAs m types d e n q (symbol.Word r) (value_or (Truth false) (applied op v w))) same
             (number_of_part m types d e n hs r _ (applied op v w) is good.gates
-            (makes_number op u x y other plain here sorted)
-            (applied_to op v w (Int x) (Int y) first.stands second.stands ∙ applied_numbers op x y other here)),
+            (makes_number op u x y other plain sorted)
+            (applied_to op v w (Int x) (Int y) first.stands second.stands ∙ applied_numbers op x y other)),
       )
 
   pub order_binary : (op : BinaryOp) (d : D) (gs hs : List Gate) (k : ℕ) (a b : List Literal) (r : Literal)
@@ -103,16 +105,16 @@ module _ {D T : Type 0} (m : Sense D T) (types : TypeTable) (law : Lawful m) whe
   order_binary op d gs hs k a b r fits other order adds is = λ s t u one two h.
       let sorted = operands_sorted m types op d gs s t u (symbol.Word a) (symbol.Word b) one two h in
       let same = sym (order_sort op u order sorted) in (
-        subst (λ q. IsMade m types d gs d hs q (symbol.Bit r)) same
-            (truth_made m types law d gs hs k r fits adds is.of),
-        λ n e v w good first second defined.
+        subst (λ q. IsMade m types d gs (symbol.Word a ∷ symbol.Word b ∷ []) d hs q (symbol.Bit r)) same
+            (truth_made m types law (symbol.Word a ∷ symbol.Word b ∷ []) d gs hs k r fits adds is.of),
+        λ n e v w good first second.
             let x = word_of w32 e a in
             let y = word_of w32 e b in
             subst (λ q. StandsAs m types d e n q (symbol.Bit r) (value_or (Truth false) (applied op v w))) same
             (truth_of_part m types d e n hs r _ (applied op v w) is good.gates
             (order_makes_truth op u x y order sorted)
             (applied_to op v w (Int x) (Int y) first.stands second.stands
-            ∙ applied_numbers op x y other (subst (IsDefined op) second.stands defined))),
+            ∙ applied_numbers op x y other ∙ ordered_number op x y order)),
       )
 
   pub truth_binary : (op : BinaryOp) (d : D) (gs hs : List Gate) (k : ℕ) (a b r : Literal) → m.Fits types d gs
@@ -122,9 +124,9 @@ module _ {D T : Type 0} (m : Sense D T) (types : TypeTable) (law : Lawful m) whe
   truth_binary op d gs hs k a b r fits other adds is = λ s t u one two h.
       let sorted = operands_sorted m types op d gs s t u (symbol.Bit a) (symbol.Bit b) one two h in
       let same = sym (truth_sort op u other sorted) in (
-        subst (λ q. IsMade m types d gs d hs q (symbol.Bit r)) same
-            (truth_made m types law d gs hs k r fits adds is.of),
-        λ n e v w good first second defined.
+        subst (λ q. IsMade m types d gs (symbol.Bit a ∷ symbol.Bit b ∷ []) d hs q (symbol.Bit r)) same
+            (truth_made m types law (symbol.Bit a ∷ symbol.Bit b ∷ []) d gs hs k r fits adds is.of),
+        λ n e v w good first second.
             let x = lit_value e a in
             let y = lit_value e b in
             subst (λ q. StandsAs m types d e n q (symbol.Bit r) (value_or (Truth false) (applied op v w))) same
@@ -133,24 +135,34 @@ module _ {D T : Type 0} (m : Sense D T) (types : TypeTable) (law : Lawful m) whe
             ∙ applied_truths op u x y other sorted)),
       )
 
-module _ {D T : Type 0} (m : Sense D T) (types : TypeTable) (exact : m.exact ≡ true) where
+module _ {D T : Type 0} (m : Sense D T) (types : TypeTable) where
+  pub two_values : (d : D) (a : ℕ → Bool) (n : Naming) (x y : Symbol T) (vs : List Value)
+      → SymbolsStand m d a n (x ∷ y ∷ []) vs
+      → (v w : Value) × SymbolStands m d a n x v × SymbolStands m d a n y w
+  two_values d a n x y [] stand = absurd stand
+  two_values d a n x y (v ∷ []) stand = absurd stand.1
+  two_values d a n x y (v ∷ w ∷ []) stand = (v, w, stand.0, stand.1.0)
+  two_values d a n x y (v ∷ w ∷ u ∷ us) stand = absurd stand.1.1
+
   -- a literal that is made from the one of an equality
   from_equality : (d e : D) (gs hs : List Gate) (left right : Symbol T) (l r : Literal)
-      → IsSame m types d gs e hs left right l → IsOf hs r → IsMade m types d gs e hs sort.Bool (symbol.Bit r)
-  from_equality d e gs hs left right l r is of = record {
+      → SameLooks m d e → IsSame m types d gs e hs left right l → IsOf hs r → IsMade m types d gs (left ∷ right ∷ []) e hs sort.Bool (symbol.Bit r)
+  from_equality d e gs hs left right l r looks is of = record {
     of = of;
     low = refl;
-    extends = λ n a good. is.extends n a good (λ inexact. absurd (cc));
+    looks = λ inexact. looks;
+    extends = λ n a good any.
+        is.extends n a good (λ inexact. let o = any inexact in two_values d a n left right o.0 o.1);
   }
 
-  pub equal_binary : (d e : D) (gs hs : List Gate) (left right : Symbol T) (l : Literal)
+  pub equal_binary : (d e : D) (gs hs : List Gate) (left right : Symbol T) (l : Literal) → SameLooks m d e
       → IsSame m types d gs e hs left right l
       → IsBinary m types Equal d gs e hs left right (symbol.Bit l)
-  equal_binary d e gs hs left right l is = λ s t u one two sorted.
+  equal_binary d e gs hs left right l looks is = λ s t u one two sorted.
       let same = sym (equality_sort Equal s t u refl sorted) in (
-        subst (λ q. IsMade m types d gs e hs q (symbol.Bit l)) same
-            (from_equality d e gs hs left right l l is is.of),
-        λ n a v w good first second defined.
+        subst (λ q. IsMade m types d gs (left ∷ right ∷ []) e hs q (symbol.Bit l)) same
+            (from_equality d e gs hs left right l l looks is is.of),
+        λ n a v w good first second.
             subst (λ q. StandsAs m types e a n q (symbol.Bit l) (Truth (equal v w))) same
             (truth_stands m types e a n l (Truth (equal v w))
             (ap Truth (one_answer (v ≡ w) (equal v w) (lit_value a l) (trees.same v w)
@@ -158,14 +170,14 @@ module _ {D T : Type 0} (m : Sense D T) (types : TypeTable) (exact : m.exact ≡
       )
 
   pub differ_binary : (d e : D) (gs hs : List Gate) (left right : Symbol T) (l r : Literal)
-      → IsSame m types d gs e hs left right l → r ≡ opposite l
+      → SameLooks m d e → IsSame m types d gs e hs left right l → r ≡ opposite l
       → IsBinary m types Differ d gs e hs left right (symbol.Bit r)
-  differ_binary d e gs hs left right l r is turned = λ s t u one two sorted.
+  differ_binary d e gs hs left right l r looks is turned = λ s t u one two sorted.
       let same = sym (equality_sort Differ s t u refl sorted) in (
-        subst (λ q. IsMade m types d gs e hs q (symbol.Bit r)) same
-            (from_equality d e gs hs left right l r is
+        subst (λ q. IsMade m types d gs (left ∷ right ∷ []) e hs q (symbol.Bit r)) same
+            (from_equality d e gs hs left right l r looks is
             (subst (λ (q : Literal). IsOf hs q) (sym turned) (IsOf_opposite hs l is.of))),
-        λ n a v w good first second defined.
+        λ n a v w good first second.
             subst (λ q. StandsAs m types e a n q (symbol.Bit r) (Truth (not (equal v w)))) same
             (truth_stands m types e a n r (Truth (not (equal v w)))
             (ap Truth (ap not (one_answer (v ≡ w) (equal v w) (lit_value a l) (trees.same v w)

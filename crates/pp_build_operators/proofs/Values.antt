@@ -1,10 +1,8 @@
 -- What operators make of numbers and truth values: which of them have a value, of which sort, and how many gates they
 -- have.
-use Rattle.std.proofs.Common.{◌≡◌, ℕ, ℤ, Bool, true, false, Some, None, Ok, refl, sym, ap, ◌∙◌, arith}
-use Rattle.std.specs.Prelude.{◌≢◌, pos, not, ◌&&◌, int_le, int_lt}
-use Rattle.std.specs.Ordering.{int_eq}
+use Rattle.std.proofs.Common.{◌≡◌, ℕ, ℤ, Bool, true, false, Some, None, Ok, refl, ap, ◌∙◌, arith}
+use Rattle.std.specs.Prelude.{pos, not, ◌&&◌, int_le, int_lt}
 use Rattle.std.specs.Int.{w32}
-use Rattle.std.proofs.lemmas.Bool.Decides.{Decides-int_eq}
 use Rattle.std.proofs.lemmas.Int.{ints}
 use Rattle.pp_word.specs.Word.{word_div, word_rem, word_neg, word_not}
 use Rattle.pp_prog.specs.declared.expr.BinaryOp.{BinaryOp}
@@ -23,13 +21,13 @@ use Rattle.pp_prog.specs.declared.value.Value.TheViews.{out-Value}
 use Rattle.pp_prog.specs.ExprSorts.{sort_if, then_sort, unary_sort}
 use Rattle.pp_prog.specs.Sorts.{same_sort}
 use Rattle.pp_eval.specs.Measure.{goes_down, layer_down}
-use Rattle.pp_eval.specs.Operators.{divided, number, number_in, on_layers, on_numbers, on_truths, truth, truth_in}
+use Rattle.pp_eval.specs.Operators.{number, number_in, on_layers, on_numbers, on_truths, truth, truth_in}
 use Rattle.pp_eval.specs.Operators.{unary}
-use Rattle.pp_eval.specs.Part.{Part, and_then, either, failed}
+use Rattle.pp_eval.specs.Part.{Part, and_then}
 use Rattle.pp_steps.specs.Gates.{binary_gates}
-use Rattle.pp_steps.specs.Known.{IsDefined}
 use Rattle.pp_steps.specs.Meaning.{applied}
 use Rattle.pp_steps.specs.Sorted.{operated_sort}
+use Rattle.pp_build_operators.specs.Plain.{applied_number}
 use Rattle.pp_build_operators.specs.Budget.{is_equality, is_order, number_gates}
 
 number_int : (x : ℤ) → number (Int x) ≡ Ok x
@@ -95,31 +93,26 @@ truths_of op x y =
     ap (λ (o : layer.Value-F Value). on_layers op None o (out-Value (Truth y))) (outs-Bool x)
     ∙ ap (λ (o : layer.Value-F Value). on_layers op None (layer.Bool x) o) (outs-Bool y)
 
-differs : (x : ℤ) → Int x ≢ Int (pos 0) → int_eq x (pos 0) ≡ false
-differs x d = differs_at (int_eq x (pos 0)) refl
-  where
-    differs_at : (t : Bool) → int_eq x (pos 0) ≡ t → t ≡ false
-    differs_at true e = absurd (d (ap Int ((Decides-int_eq x (pos 0)).0 e)))
-    differs_at false e = refl
-
-divided_is : (y z : ℤ) → Int y ≢ Int (pos 0) → divided None y z ≡ Ok (Int z)
-divided_is y z d = ap (λ (t : Bool). either t (failed None) (Ok (Int z))) (differs y d)
-
-quotient_of : (go : ℤ → ℤ → ℤ) (x y : ℤ) → Int y ≢ Int (pos 0)
-    → and_then (number (Int x)) (λ a. and_then (number (Int y)) (λ b. Ok (Int (go a b)))) ≡ divided None y (go x y)
-quotient_of go x y d =
+quotient_of : (go : ℤ → ℤ → ℤ) (x y : ℤ)
+    → and_then (number (Int x)) (λ a. and_then (number (Int y)) (λ b. Ok (Int (go a b)))) ≡ Ok (Int (go x y))
+quotient_of go x y =
     ap (λ (p : Part ℤ). and_then p (λ a. and_then (number (Int y)) (λ b. Ok (Int (go a b))))) (number_int x)
     ∙ ap (λ (p : Part ℤ). and_then p (λ b. Ok (Int (go x b)))) (number_int y)
-    ∙ sym (divided_is y (go x y) d)
 
--- in steps as in evaluation, where a divisor isn't 0
-pub applied_numbers : (op : BinaryOp) (x y : ℤ) → is_equality op ≡ false → IsDefined op (Int y)
-    → applied op (Int x) (Int y) ≡ on_numbers op None x y
-applied_numbers Equal x y other d = absurd (cc)
-applied_numbers Differ x y other d = absurd (cc)
-applied_numbers Div x y other d = quotient_of (word_div w32) x y d
-applied_numbers Rem x y other d = quotient_of (word_rem w32) x y d
-applied_numbers op x y other d = numbers_of op x y
+pub applied_numbers : (op : BinaryOp) (x y : ℤ) → is_equality op ≡ false
+    → applied op (Int x) (Int y) ≡ applied_number op x y
+applied_numbers Equal x y other = absurd (cc)
+applied_numbers Differ x y other = absurd (cc)
+applied_numbers Div x y other = quotient_of (word_div w32) x y
+applied_numbers Rem x y other = quotient_of (word_rem w32) x y
+applied_numbers op x y other = numbers_of op x y
+
+pub ordered_number : (op : BinaryOp) (x y : ℤ) → is_order op ≡ true → applied_number op x y ≡ on_numbers op None x y
+ordered_number Less x y order = refl
+ordered_number AtMost x y order = refl
+ordered_number More x y order = refl
+ordered_number AtLeast x y order = refl
+ordered_number op x y order = absurd (cc)
 
 pub applied_truths : (op : BinaryOp) (u : Sort) (x y : Bool) → is_equality op ≡ false
     → operated_sort op (Some sort.Bool) (Some sort.Bool) ≡ Some u → applied op (Truth x) (Truth y) ≡ on_truths op x y
@@ -130,20 +123,19 @@ applied_truths Rem u x y other h = absurd (cc)
 applied_truths op u x y other h = truths_of op x y
 
 pub makes_number : (op : BinaryOp) (u : Sort) (x y : ℤ) → is_equality op ≡ false → is_order op ≡ false
-    → IsDefined op (Int y) → operated_sort op (Some sort.Int) (Some sort.Int) ≡ Some u
-    → MakesNumber (on_numbers op None x y)
-makes_number Add u x y other plain d h = record { number = _; is = refl }
-makes_number Sub u x y other plain d h = record { number = _; is = refl }
-makes_number Mul u x y other plain d h = record { number = _; is = refl }
-makes_number Div u x y other plain d h = record { number = _; is = divided_is y _ d }
-makes_number Rem u x y other plain d h = record { number = _; is = divided_is y _ d }
-makes_number And u x y other plain d h = record { number = _; is = refl }
-makes_number Or u x y other plain d h = record { number = _; is = refl }
-makes_number Xor u x y other plain d h = record { number = _; is = refl }
-makes_number Shl u x y other plain d h = record { number = _; is = refl }
-makes_number Shr u x y other plain d h = record { number = _; is = refl }
-makes_number Ushr u x y other plain d h = record { number = _; is = refl }
-makes_number op u x y other plain d h = absurd (cc)
+    → operated_sort op (Some sort.Int) (Some sort.Int) ≡ Some u → MakesNumber (applied_number op x y)
+makes_number Add u x y other plain h = record { number = _; is = refl }
+makes_number Sub u x y other plain h = record { number = _; is = refl }
+makes_number Mul u x y other plain h = record { number = _; is = refl }
+makes_number Div u x y other plain h = record { number = _; is = refl }
+makes_number Rem u x y other plain h = record { number = _; is = refl }
+makes_number And u x y other plain h = record { number = _; is = refl }
+makes_number Or u x y other plain h = record { number = _; is = refl }
+makes_number Xor u x y other plain h = record { number = _; is = refl }
+makes_number Shl u x y other plain h = record { number = _; is = refl }
+makes_number Shr u x y other plain h = record { number = _; is = refl }
+makes_number Ushr u x y other plain h = record { number = _; is = refl }
+makes_number op u x y other plain h = absurd (cc)
 
 pub order_makes_truth : (op : BinaryOp) (u : Sort) (x y : ℤ) → is_order op ≡ true
     → operated_sort op (Some sort.Int) (Some sort.Int) ≡ Some u → MakesTruth (on_numbers op None x y)

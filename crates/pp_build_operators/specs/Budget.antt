@@ -1,6 +1,6 @@
 -- The gates of operators on symbols: those of a step whose operands have the symbols' heights, the left one with the
 -- symbol's sort. Source: own.
-use Rattle.std.specs.Prelude.{ℕ, min, Bool, true, false}
+use Rattle.std.specs.Prelude.{ℕ, Bool, true, false, if◌then◌else◌}
 use Rattle.pp_prog.specs.declared.expr.BinaryOp.{BinaryOp}
 use Rattle.pp_prog.specs.declared.expr.BinaryOp.TheVariants.{Mul, Div, Rem, Equal, Differ, Less, AtMost, More}
 use Rattle.pp_prog.specs.declared.expr.BinaryOp.TheVariants.{AtLeast, And, Or, Xor, Shl, Shr, Ushr}
@@ -10,8 +10,9 @@ use Rattle.pp_prog.specs.declared.types.TypeTable.{TypeTable}
 use Rattle.pp_domain.specs.declared.symbol.Symbol.{Symbol}
 use Rattle.pp_domain.specs.declared.symbol.Symbol.TheVariants as symbol
 use Rattle.pp_domain.specs.Sense.{Sense}
-use Rattle.pp_domain.specs.Symbols.{symbol_height}
-use Rattle.pp_steps.specs.Gates.{binary_gates, descent_gates}
+use Rattle.pp_domain.specs.Allowance.{below_gates}
+use Rattle.pp_domain.specs.AnySort.{compare_gates}
+use Rattle.pp_steps.specs.Gates.{binary_gates}
 
 -- whether the operator compares two values of any sort
 abbrev pub is_equality : BinaryOp → Bool
@@ -50,9 +51,10 @@ module _ {D T : Type 0} (m : Sense D T) (types : TypeTable) where
   -- an operator on two symbols
   abbrev pub operator_gates : BinaryOp → D → Symbol T → Symbol T → ℕ
   operator_gates op d left right =
-      binary_gates types op (min (symbol_height m d left) (symbol_height m d right)) (symbol_sort d left)
+      if is_equality op then compare_gates m types d left right else binary_gates types op 0 (symbol_sort d left)
 
   -- whether a component of a measure goes down from the old symbol to the new one
   abbrev pub goes_down_gates : D → Symbol T → Symbol T → ℕ
-  goes_down_gates d new old =
-      descent_gates types (symbol_height m d new) (symbol_height m d old) (symbol_sort d new)
+  goes_down_gates d (symbol.Word a) (symbol.Word b) = 1024
+  goes_down_gates d (symbol.Tree t) (symbol.Tree u) = if m.exact then below_gates m types d t u else 1
+  goes_down_gates d _ _ = 0

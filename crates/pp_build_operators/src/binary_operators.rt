@@ -5,20 +5,21 @@ ghost use Rattle.std.specs.Int.{w32};
 ghost use Rattle.pp_clause.specs.Literal.{lit_value};
 ghost use Rattle.pp_gate.specs.Circuit.{IsOf};
 ghost use Rattle.pp_gate.specs.Growth.{AddsGates};
-ghost use Rattle.pp_wordgate.specs.Meaning.{word_of};
+ghost use Rattle.pp_word.specs.Word.{word_div, word_rem};
+ghost use Rattle.pp_wordgate.specs.Meaning.{StandsForWord, word_of};
 ghost use Rattle.pp_domain.specs.Moves.{Moves};
 ghost use Rattle.pp_eval.specs.Operators.{on_numbers, on_truths};
 ghost use Rattle.pp_build_operators.specs.Budget as budget;
 ghost use Rattle.pp_build_operators.specs.Budget.{is_equality, number_gates, operator_gates};
 ghost use Rattle.pp_build_operators.specs.Operated.{CanOperate, IsBinary};
-ghost use Rattle.pp_build_operators.specs.Plain.{IsNumberOf, IsTruthOf};
+ghost use Rattle.pp_build_operators.specs.Plain.{IsNumberOf, IsTruthOf, applied_number};
 
 use pp_clause::{Lit, NoMemory};
 use pp_domain::{Domain, Symbol};
 use pp_gate::{Circuit, Word};
 use pp_prog::{BinaryOp, TypeTable};
 
-/// What the operator makes of the two symbols, where a divisor isn't 0.
+/// What the operator makes of the two symbols. A quotient by 0 is 0, and a remainder the dividend.
 pub fn binary<D: Domain>(
     domain: &mut D,
     circuit: &mut Circuit,
@@ -27,7 +28,6 @@ pub fn binary<D: Domain>(
     left: &Symbol<D::Tree>,
     right: &Symbol<D::Tree>,
 ) -> Result<Symbol<D::Tree>, NoMemory>
-    requires exact { D.sense.exact ≡ true }
     requires fits { D.sense.Fits table.now domain.old circuit.old }
     requires sorted { CanOperate D.sense op domain.old circuit.old left.now right.now }
     requires room { length circuit.old + operator_gates D.sense table.now op domain.old left.now right.now ≤ 2 ^ 30 }
@@ -133,14 +133,14 @@ fn arithmetic(circuit: &mut Circuit, op: BinaryOp, a: Word, b: Word) -> Result<W
     requires right { All (IsOf circuit.old) b }
     ensures adds { AddsGates circuit.old circuit.new (number_gates op) }
     ensures stands { IfOk result (λ r. IsNumberOf circuit.new r (λ s.
-        on_numbers op None (word_of w32 s a) (word_of w32 s b))) }
+        applied_number op (word_of w32 s a) (word_of w32 s b))) }
 {
     match op {
         BinaryOp::Add => Ok(pp_wordgate::add(circuit, a, b)?),
         BinaryOp::Sub => Ok(pp_wordgate::sub(circuit, a, b)?),
         BinaryOp::Mul => Ok(pp_wordgate::mul(circuit, a, b)?),
-        BinaryOp::Div => Ok(pp_wordgate::div(circuit, a, b)?),
-        BinaryOp::Rem => Ok(pp_wordgate::rem(circuit, a, b)?),
+        BinaryOp::Div => Ok(quotient(circuit, a, b)?),
+        BinaryOp::Rem => Ok(remainder(circuit, a, b)?),
         BinaryOp::And => Ok(pp_wordgate::and(circuit, a, b)?),
         BinaryOp::Or => Ok(pp_wordgate::or(circuit, a, b)?),
         BinaryOp::Xor => Ok(pp_wordgate::xor(circuit, a, b)?),
@@ -156,6 +156,38 @@ fn arithmetic(circuit: &mut Circuit, op: BinaryOp, a: Word, b: Word) -> Result<W
         | BinaryOp::AndAlso
         | BinaryOp::OrElse => Ok(pp_wordgate::constant(circuit, 0)?),
     }
+}
+
+/// The quotient, and 0 where the divisor is 0.
+fn quotient(circuit: &mut Circuit, a: Word, b: Word) -> Result<Word, NoMemory>
+    requires room { length circuit.old + 16384 ≤ 2 ^ 30 }
+    requires left { All (IsOf circuit.old) a }
+    requires right { All (IsOf circuit.old) b }
+    ensures adds { AddsGates circuit.old circuit.new 16384 }
+    ensures stands { IfOk result (λ r. StandsForWord w32 circuit.new r
+        (λ s. word_div w32 (word_of w32 s a) (word_of w32 s b))) }
+{
+    let plain = pp_wordgate::div(circuit, a, b)?;
+    let zero = pp_wordgate::constant(circuit, 0)?;
+    let none = pp_wordgate::equal(circuit, b, zero)?;
+    let whole = pp_wordgate::choose(circuit, none, zero, plain)?;
+    Ok(whole)
+}
+
+/// The remainder, and the dividend where the divisor is 0.
+fn remainder(circuit: &mut Circuit, a: Word, b: Word) -> Result<Word, NoMemory>
+    requires room { length circuit.old + 16384 ≤ 2 ^ 30 }
+    requires left { All (IsOf circuit.old) a }
+    requires right { All (IsOf circuit.old) b }
+    ensures adds { AddsGates circuit.old circuit.new 16384 }
+    ensures stands { IfOk result (λ r. StandsForWord w32 circuit.new r
+        (λ s. word_rem w32 (word_of w32 s a) (word_of w32 s b))) }
+{
+    let plain = pp_wordgate::rem(circuit, a, b)?;
+    let zero = pp_wordgate::constant(circuit, 0)?;
+    let none = pp_wordgate::equal(circuit, b, zero)?;
+    let whole = pp_wordgate::choose(circuit, none, a, plain)?;
+    Ok(whole)
 }
 
 /// An operator on two truth values, and true where it is none.

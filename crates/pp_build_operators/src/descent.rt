@@ -15,15 +15,17 @@ use pp_domain::{Domain, Symbol};
 use pp_gate::{Circuit, Word};
 use pp_prog::TypeTable;
 
-/// Whether a component of a measure goes down from the old symbol to the new one, of one sort.
+/// Whether a component of a measure goes down from the old symbol to the new one, of one sort. Of trees of a domain
+/// that isn't exact it is a literal that can stand for either.
 pub fn goes_down<D: Domain>(
     domain: &mut D,
     circuit: &mut Circuit,
     table: &TypeTable,
+    exact: bool,
     new: &Symbol<D::Tree>,
     old: &Symbol<D::Tree>,
 ) -> Result<Symbol<D::Tree>, NoMemory>
-    requires exact { D.sense.exact ≡ true }
+    requires exact { exact ≡ D.sense.exact }
     requires fits { D.sense.Fits table.now domain.old circuit.old }
     requires sorted { AreOfOneSort D.sense table.now domain.old circuit.old new.now old.now }
     requires room { length circuit.old + goes_down_gates D.sense table.now domain.old new.now old.now ≤ 2 ^ 30 }
@@ -38,8 +40,13 @@ pub fn goes_down<D: Domain>(
             Ok(Symbol::Bit(down))
         }
         (Symbol::Tree(t), Symbol::Tree(u)) => {
-            let down = domain.below(circuit, table, t, u)?;
-            Ok(Symbol::Bit(down))
+            if exact {
+                let down = domain.below(circuit, table, t, u)?;
+                Ok(Symbol::Bit(down))
+            } else {
+                let free = circuit.input()?;
+                Ok(Symbol::Bit(free))
+            }
         }
         (Symbol::Bit(_), Symbol::Bit(_)) => Ok(Symbol::Bit(circuit.truth().negated())),
         _ => Ok(*new),

@@ -1,4 +1,4 @@
-//! Operators on symbolic values: what a program's operators, and the comparison of measures, are over an exact domain.
+//! Operators on symbolic values: what a program's operators, and the comparison of measures, are over a domain.
 //!
 //! A call answers a number or a truth value, a symbol of its own. Under each good assignment the symbol stands for what
 //! evaluation makes of the values of the operands (`specs/Operated`), and the call adds at most the gates that a step

@@ -25,7 +25,6 @@ pub fn unary<D: Domain>(
     op: UnaryOp,
     x: &Symbol<D::Tree>,
 ) -> Result<Symbol<D::Tree>, NoMemory>
-    requires exact { D.sense.exact ≡ true }
     requires fits { D.sense.Fits table.now domain.old circuit.old }
     requires sorted { CanApply D.sense op domain.old circuit.old x.now }
     requires room { length circuit.old + unary_gates op ≤ 2 ^ 30 }

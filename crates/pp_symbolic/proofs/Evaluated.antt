@@ -1,5 +1,5 @@
 -- Unknown arguments, and the steps behind them: what the registers tell.
-use Rattle.std.proofs.Common.{◌≡◌, ℕ, zero, suc, ◌+◌, ◌≤◌, ◌<◌, ◌^◌, List, [], ◌∷◌, ◌++◌, length, map, drop, Bool, Some}
+use Rattle.std.proofs.Common.{◌≡◌, ℕ, zero, suc, ◌+◌, ◌≤◌, ◌<◌, ◌^◌, List, [], ◌∷◌, ◌++◌, length, map, drop, Bool, true, Some}
 use Rattle.std.proofs.Common.{refl, sym, ap, ◌∙◌, subst, arith, length-append}
 use Rattle.std.specs.Prelude.{slice_get, sum, IsTrue}
 use Rattle.std.proofs.Math.Seq.{drop-append_seam}
@@ -20,9 +20,9 @@ use Rattle.pp_domain.specs.declared.symbol.Symbol.TheVariants as symbol
 use Rattle.pp_domain.specs.Laws.{Lawful}
 use Rattle.pp_domain.specs.Moves.{Moves}
 use Rattle.pp_domain.specs.Naming.{Naming}
-use Rattle.pp_domain.specs.Sense.{Sense, Good, Extended}
-use Rattle.pp_domain.specs.Symbols.{IsSymbol, SymbolsStand, symbol_height}
-use Rattle.pp_domain.proofs.Composition.{Moves_more}
+use Rattle.pp_domain.specs.Sense.{Sense, Good}
+use Rattle.pp_domain.specs.Symbols.{IsSymbol, SymbolsStand}
+use Rattle.pp_domain.proofs.Composition.{Moves_more, Moves_weaker}
 use Rattle.pp_domain.proofs.Symbols.{AreSymbols_later, SymbolsStand_later}
 use Rattle.pp_steps.specs.declared.step.Step.{Step}
 use Rattle.pp_steps.specs.Frames.{numbers, open_step}
@@ -31,11 +31,12 @@ use Rattle.pp_steps.specs.Known.{AllTell}
 use Rattle.pp_steps.specs.Meaning.{Missing, Obeys, Values}
 use Rattle.pp_steps_run.specs.Told.{AreValues}
 use Rattle.pp_steps_run.proofs.Pieces.{obeys_right}
+use Rattle.pp_build.proofs.StepGates.{exact_all_gates, exact_all_opened}
+use Rattle.pp_build.specs.StepGates.{opened_gates}
 use Rattle.pp_build.specs.Built.{CanBuild, IsBuilt}
 use Rattle.pp_build.specs.Registers.{AreRegisters, IsKnown}
-use Rattle.pp_build.specs.Unknown.{AreUnknown, AreUpTo, StandUpTo}
+use Rattle.pp_build.specs.Unknown.{AreUnknown}
 use Rattle.pp_symbolic.specs.Evaluated.{AllKnown, CanEvaluate, IsEvaluated}
-use Rattle.pp_symbolic.specs.declared.frame.Frame.{Frame}
 use Rattle.pp_symbolic.proofs.Arguments.{as_many, height_of, known_from, opens_tell, registers_first, sort_at}
 use Rattle.pp_symbolic.proofs.Arguments.{sorts_from, symbol_of}
 
@@ -61,7 +62,30 @@ module _ {D T : Type 0} (m : Sense D T) where
   literal_of e hs rs k (symbol.Word w) at is = absurd is
   literal_of e hs rs k (symbol.Tree t) at is = absurd is
 
-module _ {D T : Type 0} (m : Sense D T) (types : TypeTable) (d : D) (gs : List Gate) (params : List Sort)
+module _ {D T : Type 0} (m : Sense D T) (types : TypeTable) (exact : m.exact ≡ true) where
+  pub opened_moves : (d : D) (gs : List Gate) (params : List Sort) (depth : ℕ) (e : D) (hs : List Gate)
+      → Moves m types d gs e hs (sum (map (opened_gates m types depth) params))
+      → Moves m types d gs e hs (sum (map (open_gates types depth) params))
+  opened_moves d gs params depth e hs moves =
+      subst (λ n. Moves m types d gs e hs n) (exact_all_opened m types exact (λ k. sort.Int) (λ k. 0) depth params) moves
+
+  -- also where nothing comes after it
+  pub opened_left : (d : D) (gs : List Gate) (params : List Sort) (depth : ℕ) (steps : List Step) (asked : ℕ)
+      (e : D) (hs : List Gate) (most : ℕ) → CanEvaluate types gs params depth steps asked most
+      → Moves m types d gs e hs (sum (map (opened_gates m types depth) params)) → Moves m types d gs e hs most
+  opened_left d gs params depth steps asked e hs most can moves =
+      Moves_weaker m types d e gs hs (sum (map (open_gates types depth) params)) most
+      (opened_moves d gs params depth e hs moves) (let few = can.few in omega arith)
+
+  pub opened_room : (gs : List Gate) (params : List Sort) (depth : ℕ) (steps : List Step) (asked : ℕ)
+      (d : D) (most : ℕ) → CanEvaluate types gs params depth steps asked most
+      → length gs + sum (map (opened_gates m types depth) params) ≤ 2 ^ 30
+  opened_room gs params depth steps asked d most can =
+      let same = exact_all_opened m types exact (λ k. sort.Int) (λ k. 0) depth params in
+      let few = can.few in
+      let room = can.room in omega arith
+
+module _ {D T : Type 0} (m : Sense D T) (types : TypeTable) (exact : m.exact ≡ true) (d : D) (gs : List Gate) (params : List Sort)
     (depth : ℕ) (steps : List Step) (asked most : ℕ) (can : CanEvaluate types gs params depth steps asked most)
   where
     abbrev opens : List Step
@@ -120,7 +144,10 @@ module _ {D T : Type 0} (m : Sense D T) (types : TypeTable) (d : D) (gs : List G
           fewer = less_steps;
           high = subst (λ k. AllHigh types can.sorts can.heights k (drop (length args) steps)) (sym many)
               (subst (λ l. AllHigh types can.sorts can.heights (length params) l) (sym rest_is) can.high);
-          few = let e = gates_same in omega arith;
+          few = subst (λ n. n ≤ rest_gates)
+              (sym (exact_all_gates m types exact can.sorts can.heights (m.looks c) (m.compares c) (length args)
+              (drop (length args) steps)))
+              (let e = gates_same in omega arith);
           room =
               let grown = (length-Grows gs fs opened moved.grows).1 in
               let few = can.few in
@@ -159,7 +186,8 @@ module _ {D T : Type 0} (m : Sense D T) (types : TypeTable) (d : D) (gs : List G
                 subst (λ k. Obeys types.ctors missing ρ k (drop (length args) steps))
                 (zero_plus (length opens) ∙ sym opens_many)
                 (subst (λ l. Obeys types.ctors missing ρ (0 + length opens) l) (sym rest_is) at_rest) in
-                let tell : AllTell ρ K (length args) (drop (length args) steps) = built.known n a ρ missing good from in
+                let tell : AllTell ρ K (length args) (drop (length args) steps) =
+                built.all_known exact n a ρ missing good from in
                 let tell_rest : AllTell ρ K (0 + length params) can.rest =
                 subst (λ k. AllTell ρ K k can.rest) (many ∙ sym (zero_plus (length params)))
                 (subst (λ l. AllTell ρ K (length args) l) rest_is tell) in
@@ -179,7 +207,7 @@ module _ {D T : Type 0} (m : Sense D T) (types : TypeTable) (d : D) (gs : List G
               fails_of = asked_at.of;
               symbols = AreSymbols_later m types c e fs hs rest_gates params args later unknown.symbols;
               bounded = λ n a good.
-                  let b = unknown.bounded n a (later.back n a good) in
+                  let b = unknown.bounded exact n a (later.back n a good) in
                   record {
                     values = b.values;
                     stand = SymbolsStand_later m types c e fs hs rest_gates n a a params args b.values later
@@ -188,8 +216,8 @@ module _ {D T : Type 0} (m : Sense D T) (types : TypeTable) (d : D) (gs : List G
                     are = b.are;
                   };
               chosen = λ n a vs good upto.
-                  let x = unknown.chosen n a vs good upto in
-                  let y = built.extends n x.0.next x.0.good in
+                  let x = unknown.chosen exact n a vs good upto in
+                  let y = built.extends exact n x.0.next x.0.good in
                   let le = (length-Grows gs fs opened moved.grows).0 in (
                     record {
                       next = y.next;

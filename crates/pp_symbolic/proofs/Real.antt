@@ -1,6 +1,6 @@
 -- The frame of a run: what its symbols mean, by the laws of steps.
-use Rattle.std.proofs.Common.{◌≡◌, ◌↔◌, ℕ, zero, suc, ◌+◌, ◌-◌, ◌≤◌, ◌<◌, List, [], ◌∷◌, length, Bool, true, false}
-use Rattle.std.proofs.Common.{Some, refl, sym, ap, ◌∙◌, subst, arith}
+use Rattle.std.proofs.Common.{◌≡◌, ℕ, ◌+◌, ◌<◌, List, length, Bool, true, false}
+use Rattle.std.proofs.Common.{Some, sym, ap, ◌∙◌, subst, arith}
 use Rattle.std.specs.Prelude.{slice_get}
 use Rattle.std.proofs.lemmas.Option.{slice_get_within}
 use Rattle.pp_prog.specs.declared.check.Check.{Check}
@@ -10,16 +10,13 @@ use Rattle.pp_prog.specs.declared.program.Program.{Program}
 use Rattle.pp_prog.specs.declared.value.Value.{Value}
 use Rattle.pp_prog.specs.declared.value.Value.TheVariants.{Bool as Truth}
 use Rattle.pp_prog.specs.Sorts.{param_sorts}
-use Rattle.pp_clause.specs.Literal.{Literal, lit_value}
+use Rattle.pp_clause.specs.Literal.{lit_value}
 use Rattle.pp_gate.specs.declared.gate.Gate.{Gate}
 use Rattle.pp_gate.specs.declared.gate.Gate.TheVariants.{Truth as Constant}
-use Rattle.pp_gate.specs.Circuit.{Gives, IsCircuit, IsOf}
+use Rattle.pp_gate.specs.Circuit.{Gives, IsOf}
 use Rattle.pp_gate.specs.Gate.{gate_value}
-use Rattle.pp_eval.specs.declared.outcome.Outcome.TheVariants.{Fails}
-use Rattle.pp_eval.specs.Runs.{run}
 use Rattle.pp_sound.specs.Counterexample.{AreLow}
 use Rattle.pp_sound.specs.Sound.{IsCalled, IsCheckOf}
-use Rattle.pp_domain.specs.declared.symbol.Symbol.{Symbol}
 use Rattle.pp_domain.specs.declared.symbol.Symbol.TheVariants as symbol
 use Rattle.pp_domain.specs.Answers.{Fresh}
 use Rattle.pp_domain.specs.Laws.{Lawful}
@@ -38,7 +35,7 @@ use Rattle.pp_simplify_laws.proofs.Following.{Follows}
 use Rattle.pp_build.specs.Registers.{IsKnown}
 use Rattle.pp_symbolic.specs.declared.frame.Frame.{Frame}
 use Rattle.pp_symbolic.specs.Evaluated.{IsEvaluated}
-use Rattle.pp_symbolic.specs.Frame.{AreStoodFor, IsFrame, IsFrameOf, IsSupposed, TellsRun}
+use Rattle.pp_symbolic.specs.Frame.{AreStoodFor, IsFrame, IsFrameOf, TellsRun}
 use Rattle.pp_symbolic.proofs.Simplified.{known_first, values_first}
 
 -- any value will do where a value has another constructor

@@ -1,6 +1,6 @@
 -- Folded and pruned steps can be performed where the old ones can.
-use Rattle.std.proofs.Common.{◌≡◌, ℕ, zero, suc, ◌+◌, ◌≤◌, ◌<◌, List, [], ◌∷◌, ◌++◌, length, map, Bool, true, false}
-use Rattle.std.proofs.Common.{Option, Some, None, refl, sym, ap, ◌∙◌, subst, arith, length-append}
+use Rattle.std.proofs.Common.{◌≡◌, ℕ, zero, suc, ◌+◌, ◌≤◌, ◌<◌, List, [], ◌∷◌, length, map}
+use Rattle.std.proofs.Common.{Some, None, refl, sym, ap, ◌∙◌, subst, arith, length-append}
 use Rattle.std.specs.Prelude.{slice_get, sum, All, if◌then◌else◌}
 use Rattle.std.proofs.lemmas.List.{length-map}
 use Rattle.std.proofs.lemmas.List.Elements.{All-cons, All-head, All-nil, All-tail}
@@ -13,7 +13,7 @@ use Rattle.pp_prog.specs.Sizes.{height_at}
 use Rattle.pp_gate.specs.declared.gate.Gate.{Gate}
 use Rattle.pp_steps.specs.declared.step.Step.{Step}
 use Rattle.pp_steps.specs.Frames.{numbers, open_step}
-use Rattle.pp_steps.specs.Gates.{all_gates, open_gates}
+use Rattle.pp_steps.specs.Gates.{open_gates}
 use Rattle.pp_steps.specs.Meaning.{Values}
 use Rattle.pp_steps.specs.Sorted.{Sorts}
 use Rattle.pp_steps_run.specs.Told.{AreValues}

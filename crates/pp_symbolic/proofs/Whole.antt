@@ -1,5 +1,5 @@
 -- The evaluation as a whole: from the steps that were written to the frame's meaning.
-use Rattle.std.proofs.Common.{◌≡◌, ℕ, ◌+◌, ◌-◌, ◌≤◌, ◌<◌, ◌^◌, List, [], length, Result, Ok, Err, IfOk, OnOk, sym}
+use Rattle.std.proofs.Common.{◌≡◌, ℕ, ◌+◌, ◌-◌, ◌≤◌, ◌<◌, ◌^◌, List, length, Result, Ok, Err, IfOk, OnOk, sym}
 use Rattle.std.proofs.Common.{subst, arith}
 use Rattle.pp_prog.specs.declared.expr.Function.{Function}
 use Rattle.pp_prog.specs.declared.id.CheckId.{CheckId}

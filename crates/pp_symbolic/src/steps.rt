@@ -42,7 +42,7 @@ pub(crate) fn evaluate<D: Domain>(
 {
     let arguments = open_all(alloc, domain, circuit, table, params, depth)?;
     let mut registers = copies(alloc, &arguments)?;
-    build(alloc, domain, circuit, table, steps, &mut registers)?;
+    build(alloc, domain, circuit, table, true, steps, &mut registers)?;
     let fails = literal_at(circuit, &registers, asked);
     Ok(Frame {
         arguments,

@@ -19,8 +19,8 @@
 //! | `shl`, `ushr` | 512 | 160 |
 //! | `shr` | 512 | 155 |
 //! | `mul` | 8,192 | 1,954 |
-//! | `div` | 16,384 | 2,418 |
-//! | `rem` | 16,384 | 2,417 |
+//! | `div` | 16,256 | 2,418 |
+//! | `rem` | 16,256 | 2,417 |
 //!
 //! `unknown` is a word of 32 fresh inputs, which can stand for each value, and `value` the one for which a word
 //! stands under an assignment.

@@ -13,20 +13,20 @@ choose-requires-clause-symbols g c =
 
 pub choose-requires-clause-room : goal.choose-requires-clause-room
 choose-requires-clause-room g c =
-    room_for _ _ _ _ _ _ _ (choice_count _ _ g.met.D.Domain.lawful _ _ _ c.requires.fits c.requires.exact _ _ _ _ _
+    room_for _ _ _ _ _ _ _ (choice_count _ _ g.met.D.Domain.lawful _ _ _ c.requires.fits _ _ _ _ _
     c.register-left.ensures c.register-right.ensures) c.requires.can
 
 pub returns-in_err-chosen-clause-moves : goal.returns-in_err-chosen-clause-moves
 returns-in_err-chosen-clause-moves g c =
-    leaves_by _ _ _ _ _ _ _ _ _ (choice_count _ _ g.met.D.Domain.lawful _ _ _ c.requires.fits c.requires.exact _ _ _ _
+    leaves_by _ _ _ _ _ _ _ _ _ (choice_count _ _ g.met.D.Domain.lawful _ _ _ c.requires.fits _ _ _ _
     _ c.register-left.ensures c.register-right.ensures) c.choose.ensures.moves
 
 pub returns-clause-moves : goal.returns-clause-moves
 returns-clause-moves g c =
-    leaves_by _ _ _ _ _ _ _ _ _ (choice_count _ _ g.met.D.Domain.lawful _ _ _ c.requires.fits c.requires.exact _ _ _ _
+    leaves_by _ _ _ _ _ _ _ _ _ (choice_count _ _ g.met.D.Domain.lawful _ _ _ c.requires.fits _ _ _ _
     _ c.register-left.ensures c.register-right.ensures) c.choose.ensures.moves
 
 pub returns-clause-performs : goal.returns-clause-performs
 returns-clause-performs g c =
-    choice_performed _ _ g.met.D.Domain.lawful _ _ _ c.requires.fits c.requires.exact _ _ _ _ _ _ _ _ _
+    choice_performed _ _ g.met.D.Domain.lawful _ _ _ c.requires.fits _ _ _ c.choose.ensures.moves c.choose.ensures.looks _ _ _ _ _ _ _
     c.literal-choice.ensures c.register-left.ensures c.register-right.ensures c.in_ok-chosen.ensures.answer

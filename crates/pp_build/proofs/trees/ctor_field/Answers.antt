@@ -1,6 +1,7 @@
 use Rattle.std.proofs.Common.{sym}
 use Rattle.pp_build.proofs.Operands.{not_other, tree_of}
-use Rattle.pp_build.proofs.TreeSteps.{ctor_field_performed, has_field}
+use Rattle.pp_build.proofs.Performing.{leaves_by, room_for}
+use Rattle.pp_build.proofs.TreeSteps.{ctor_field_count, ctor_field_performed, has_field}
 use Rattle.pp_build.proofs.trees.ctor_field.Goals as goal
 
 pub field-requires-clause-tree : goal.field-requires-clause-tree
@@ -19,7 +20,7 @@ field-requires-clause-place g c = has_field _ _ _ _ _ _ _ _ c.requires.can
 
 pub returns-in_ok-field-in-Tree-clause-performs : goal.returns-in_ok-field-in-Tree-clause-performs
 returns-in_ok-field-in-Tree-clause-performs g c =
-    ctor_field_performed _ _ _ _ _ c.requires.exact _ _ _ _ _ _ _ c.in-Tree.ensures
+    ctor_field_performed _ _ _ _ _ _ _ _ c.in_ok-field-in-Tree.ensures.moves _ _ _ _ _ c.in-Tree.ensures
     c.in_ok-field-in-Tree.ensures.answer
 
 pub returns-in_default : goal.returns-in_default
@@ -27,3 +28,14 @@ returns-in_default g c =
     let can = c.requires.can in
     absurd (not_other _ _ _ can.sorts can.heights _ _ _ _ can.registers c.register.ensures can.sorted.operand
     c.in_default.not-Tree)
+
+pub field-requires-clause-room : goal.field-requires-clause-room
+field-requires-clause-room g c = room_for _ _ _ _ _ _ _ (ctor_field_count _ _ _ _ _ _ _ _ _ c.in-Tree.ensures) c.requires.can
+
+pub returns-in_err-field-in-Tree-clause-moves : goal.returns-in_err-field-in-Tree-clause-moves
+returns-in_err-field-in-Tree-clause-moves g c =
+    leaves_by _ _ _ _ _ _ _ _ _ (ctor_field_count _ _ _ _ _ _ _ _ _ c.in-Tree.ensures) c.in_err-field-in-Tree.ensures.moves
+
+pub returns-in_ok-field-in-Tree-clause-moves : goal.returns-in_ok-field-in-Tree-clause-moves
+returns-in_ok-field-in-Tree-clause-moves g c =
+    leaves_by _ _ _ _ _ _ _ _ _ (ctor_field_count _ _ _ _ _ _ _ _ _ c.in-Tree.ensures) c.in_ok-field-in-Tree.ensures.moves

@@ -1,5 +1,6 @@
 use Rattle.pp_build.proofs.Operands.{not_other, tree_of}
-use Rattle.pp_build.proofs.TreeSteps.{only_datatype, only_field_performed, only_has, only_is}
+use Rattle.pp_build.proofs.Performing.{leaves_by, room_for}
+use Rattle.pp_build.proofs.TreeSteps.{only_field_count, only_datatype, only_field_performed, only_has, only_is}
 use Rattle.pp_build.proofs.trees.only_field.Goals as goal
 
 pub data_of-requires : goal.data_of-requires
@@ -26,10 +27,21 @@ field-requires-clause-place g c =
 pub returns-in_ok-field-in-Tree-clause-performs : goal.returns-in_ok-field-in-Tree-clause-performs
 returns-in_ok-field-in-Tree-clause-performs g c =
     only_field_performed _ _ _ _ _ _ _ _ _ c.data_of.ensures c.in-Tree.ensures _ c.datatype.ensures
-    c.requires.exact _ _ _ c.in_ok-field-in-Tree.ensures.answer
+    _ _ _ c.in_ok-field-in-Tree.ensures.moves _ c.in_ok-field-in-Tree.ensures.answer
 
 pub returns-in_default : goal.returns-in_default
 returns-in_default g c =
     let can = c.requires.can in
     absurd (not_other _ _ _ can.sorts can.heights _ _ _ _ can.registers c.register.ensures can.sorted.operand
     c.in_default.not-Tree)
+
+pub field-requires-clause-room : goal.field-requires-clause-room
+field-requires-clause-room g c = room_for _ _ _ _ _ _ _ (only_field_count _ _ _ _ _ _ _ _ c.in-Tree.ensures) c.requires.can
+
+pub returns-in_err-field-in-Tree-clause-moves : goal.returns-in_err-field-in-Tree-clause-moves
+returns-in_err-field-in-Tree-clause-moves g c =
+    leaves_by _ _ _ _ _ _ _ _ _ (only_field_count _ _ _ _ _ _ _ _ c.in-Tree.ensures) c.in_err-field-in-Tree.ensures.moves
+
+pub returns-in_ok-field-in-Tree-clause-moves : goal.returns-in_ok-field-in-Tree-clause-moves
+returns-in_ok-field-in-Tree-clause-moves g c =
+    leaves_by _ _ _ _ _ _ _ _ _ (only_field_count _ _ _ _ _ _ _ _ c.in-Tree.ensures) c.in_ok-field-in-Tree.ensures.moves

@@ -34,5 +34,5 @@ returns-in_ok-bit-in-Bool-clause-answer g c = rw c.in-Bool.is
 
 pub returns-in_ok-tree-in-Tree-clause-answer : goal.returns-in_ok-tree-in-Tree-clause-answer
 returns-in_ok-tree-in-Tree-clause-answer g c = rw c.in-Tree.is
-    (unknown_tree _ _ g.met.D.Domain.lawful _ _ _ c.requires.fits c.requires.exact _ _ _ _ _
-    c.in_ok-tree-in-Tree.ensures.moves c.in_ok-tree-in-Tree.ensures.answer)
+    (unknown_tree _ _ g.met.D.Domain.lawful _ _ _ c.requires.fits _ _ _ _ _
+    c.in_ok-tree-in-Tree.ensures.moves c.in_ok-tree-in-Tree.ensures.looks c.in_ok-tree-in-Tree.ensures.answer)

@@ -3,8 +3,10 @@ use Rattle.pp_build_operators.proofs.binary_operators.binary.Goals as goal
 
 pub returns-in_ok-same-in-Equal-clause-answer : goal.returns-in_ok-same-in-Equal-clause-answer
 returns-in_ok-same-in-Equal-clause-answer g c = rw c.in-Equal.is
-    (equal_binary _ _ c.requires.exact _ _ _ _ _ _ _ c.in_ok-same-in-Equal.ensures.answer)
+    (equal_binary _ _ _ _ _ _ _ _ _ c.in_ok-same-in-Equal.ensures.looks
+    c.in_ok-same-in-Equal.ensures.answer)
 
 pub returns-in_ok-same-in-Differ-clause-answer : goal.returns-in_ok-same-in-Differ-clause-answer
 returns-in_ok-same-in-Differ-clause-answer g c = rw c.in-Differ.is
-    (differ_binary _ _ c.requires.exact _ _ _ _ _ _ _ _ c.in_ok-same-in-Differ.ensures.answer c.negated.ensures)
+    (differ_binary _ _ _ _ _ _ _ _ _ _ c.in_ok-same-in-Differ.ensures.looks
+    c.in_ok-same-in-Differ.ensures.answer c.negated.ensures)

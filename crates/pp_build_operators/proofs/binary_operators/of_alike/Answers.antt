@@ -6,7 +6,7 @@ use Rattle.pp_build_operators.proofs.binary_operators.of_alike.Goals as goal
 
 pub returns-in_err-bit-in-Word-Word-clause-moves : goal.returns-in_err-bit-in-Word-Word-clause-moves
 returns-in_err-bit-in-Word-Word-clause-moves g c = rw (c.in-Word-Word.is-0, c.in-Word-Word.is-1)
-    (order_moves _ _ g.met.D.Domain.lawful _ _ _ _ c.in-Word-Word.a c.in-Word-Word.b c.requires.fits
+    (order_moves _ _ g.met.D.Domain.lawful _ _ _ _ c.in-Word-Word.a c.in-Word-Word.b c.requires.fits c.requires.other
     (sym c.is_order.ensures ∙ c.if-is_order.true) c.in_err-bit-in-Word-Word.ensures.adds)
 
 pub returns-in_err-word-in-Word-Word-clause-moves : goal.returns-in_err-word-in-Word-Word-clause-moves
@@ -22,7 +22,7 @@ returns-in_err-bit-in-Bit-Bit-clause-moves g c = rw (c.in-Bit-Bit.is-0, c.in-Bit
 
 pub returns-in_ok-bit-in-Word-Word-clause-moves : goal.returns-in_ok-bit-in-Word-Word-clause-moves
 returns-in_ok-bit-in-Word-Word-clause-moves g c = rw (c.in-Word-Word.is-0, c.in-Word-Word.is-1)
-    (order_moves _ _ g.met.D.Domain.lawful _ _ _ _ c.in-Word-Word.a c.in-Word-Word.b c.requires.fits
+    (order_moves _ _ g.met.D.Domain.lawful _ _ _ _ c.in-Word-Word.a c.in-Word-Word.b c.requires.fits c.requires.other
     (sym c.is_order.ensures ∙ c.if-is_order.true) c.in_ok-bit-in-Word-Word.ensures.adds)
 
 pub returns-in_ok-bit-in-Word-Word-clause-answer : goal.returns-in_ok-bit-in-Word-Word-clause-answer

@@ -1,16 +1,14 @@
-use Rattle.std.proofs.Common.{◌≡◌, ◌≤◌, ℕ, ◌-◌, ◌<◌, ◌^◌, List, [], length, Ok, Err, sym, ◌∙◌, subst, arith}
+use Rattle.std.proofs.Common.{◌≡◌, ◌-◌, ◌<◌, ◌^◌, List, length, sym, ◌∙◌, subst, arith}
 use Rattle.std.proofs.lemmas.Bool.Decides.{nat_tests}
 use Rattle.std.proofs.lemmas.List.{length-map}
 use Rattle.pp_prog.specs.declared.expr.Function.{Function}
 use Rattle.pp_prog.specs.Sorts.{param_sorts, sort_of_param}
 use Rattle.pp_estimate.specs.Estimates.{estimate}
 use Rattle.pp_compile.specs.Written.{IsRunOf}
-use Rattle.pp_domain.specs.Moves.{Moves}
 use Rattle.pp_simplify.specs.Folded.{all_folded}
 use Rattle.pp_simplify.specs.Pruned.{IsPruned}
 use Rattle.pp_steps.specs.Frames.{run_steps}
-use Rattle.pp_symbolic.specs.Evaluated.{CanEvaluate, IsEvaluated}
-use Rattle.pp_symbolic.proofs.Whole.{StepLaws, can_new, can_run, few_arguments, frame_run, if_ok, moves_run}
+use Rattle.pp_symbolic.proofs.Whole.{StepLaws, can_new, can_run, frame_run, if_ok, moves_run}
 use Rattle.pp_symbolic.proofs.Whole.{name_in, on_ok, size_run}
 use Rattle.pp_symbolic.proofs.evaluating.symbolic.Goals as goal
 

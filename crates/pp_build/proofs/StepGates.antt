@@ -1,0 +1,255 @@
+-- The gates of steps: in an exact domain those by heights, in another one no more after fewer looks.
+use Rattle.std.proofs.Common.{◌≡◌, ℕ, suc, ◌+◌, ◌*◌, ◌≤◌, max, min, nat_eq, Bool, true, false, ◌&&◌, if◌then◌else◌, List, []}
+use Rattle.std.proofs.Common.{◌∷◌, ◌++◌, drop, map, sum, Some, slice_get, refl, sym, ap, ◌∙◌, subst, arith, inl, inr, ◌⊎◌}
+use Rattle.pp_prog.specs.declared.expr.BinaryOp.{BinaryOp}
+use Rattle.pp_prog.specs.declared.expr.BinaryOp.TheVariants.{Add, Sub, Mul, Div, Rem, Equal, Differ, Less, AtMost, More}
+use Rattle.pp_prog.specs.declared.expr.BinaryOp.TheVariants.{AtLeast, AndAlso, OrElse, And, Or, Xor, Shl, Shr, Ushr}
+use Rattle.pp_prog.specs.declared.id.DataId.{DataId}
+use Rattle.pp_prog.specs.declared.sort.Sort.{Sort}
+use Rattle.pp_prog.specs.declared.sort.Sort.TheVariants as sort
+use Rattle.pp_prog.specs.declared.types.TypeTable.{TypeTable}
+use Rattle.pp_prog.specs.Sizes.{bits, by_sort, flat, nodes}
+use Rattle.pp_domain.specs.Allowance.{bits_at, look_gates, nodes_at, times}
+use Rattle.pp_domain.specs.Moves.{FirstLook, LooksAt, SameLooks}
+use Rattle.pp_domain.specs.Sense.{Sense}
+use Rattle.pp_gate.specs.declared.gate.Gate.{Gate}
+use Rattle.pp_steps.specs.declared.step.Step.{Step}
+use Rattle.pp_steps.specs.declared.step.Step.TheVariants as steps
+use Rattle.pp_steps.specs.Gates.{Heights, all_gates, gates_of, open_gates}
+use Rattle.pp_steps.specs.Sorted.{Sorts}
+use Rattle.pp_build.proofs.StepLists.{drop_at}
+use Rattle.pp_build.specs.StepGates.{AtMostIn, KeepsLooks, all_step_gates, looked, one_look, opened_gates, step_gates}
+
+-- ---- fewer looks
+
+more_times : (d e : DataId) (xs : List DataId) → times d xs ≤ times d (e ∷ xs)
+more_times d e xs = by (nat_eq e.0 d.0)
+  where
+    by : (b : Bool) → times d xs ≤ (if b then 1 + times d xs else times d xs)
+    by true = omega arith
+    by false = omega arith
+
+same_times : (d e : DataId) (xs ys : List DataId) → times d xs ≤ times d ys → times d (e ∷ xs) ≤ times d (e ∷ ys)
+same_times d e xs ys le = by (nat_eq e.0 d.0)
+  where
+    by : (b : Bool) → (if b then 1 + times d xs else times d xs) ≤ (if b then 1 + times d ys else times d ys)
+    by true = omega arith
+    by false = le
+
+pub fewer_after : (fs xs ys : List DataId) → AtMostIn xs ys → AtMostIn (fs ++ xs) (fs ++ ys)
+fewer_after [] xs ys fewer = fewer
+fewer_after (f ∷ fs) xs ys fewer = λ d. same_times d f (fs ++ xs) (fs ++ ys) (fewer_after fs xs ys fewer d)
+
+product_le : (a b c : ℕ) → a ≤ b → a * c ≤ b * c
+product_le a b c le = grind (arith)
+
+look_le : (types : TypeTable) (xs ys : List DataId) (j k : ℕ) (d : DataId) → AtMostIn xs ys → j ≤ k
+    → look_gates types xs j d ≤ look_gates types ys k d
+look_le types xs ys j k d fewer le =
+    let p = product_le (times d xs) (times d ys) (64 + 4 * flat types d) (fewer d) in omega arith
+
+module _ {D T : Type 0} (m : Sense D T) (types : TypeTable) where
+  one_look_le : (xs ys : List DataId) (j k : ℕ) (d : DataId) → AtMostIn xs ys → j ≤ k
+      → one_look m types xs j d ≤ one_look m types ys k d
+  one_look_le xs ys j k d fewer le = by m.exact
+    where
+      by : (b : Bool) → (if b then 0 else look_gates types xs j d) ≤ (if b then 0 else look_gates types ys k d)
+      by true = omega arith
+      by false = look_le types xs ys j k d fewer le
+
+  sort_look_le : (xs ys : List DataId) (j k : ℕ) (s : Sort) → AtMostIn xs ys → j ≤ k
+      → by_sort 0 0 (one_look m types xs j) s ≤ by_sort 0 0 (one_look m types ys k) s
+  sort_look_le xs ys j k sort.Int fewer le = omega arith
+  sort_look_le xs ys j k sort.Bool fewer le = omega arith
+  sort_look_le xs ys j k (sort.Tree d) fewer le = one_look_le xs ys j k d fewer le
+
+  module _ (σ : Sorts) (η : Heights) where
+    pub step_gates_le : (xs ys : List DataId) (j k i : ℕ) (s : Step) → AtMostIn xs ys → j ≤ k
+        → step_gates m types σ η xs j i s ≤ step_gates m types σ η ys k i s
+    step_gates_le xs ys j k i (steps.Open s) fewer le = omega arith
+    step_gates_le xs ys j k i (steps.Int n) fewer le = omega arith
+    step_gates_le xs ys j k i (steps.Bool b) fewer le = omega arith
+    step_gates_le xs ys j k i (steps.Not a) fewer le = omega arith
+    step_gates_le xs ys j k i (steps.Both a b) fewer le = omega arith
+    step_gates_le xs ys j k i (steps.Choose c a b) fewer le = omega arith
+    step_gates_le xs ys j k i (steps.Unary op a) fewer le = omega arith
+    step_gates_le xs ys j k i (steps.Binary op a b) fewer le = omega arith
+    step_gates_le xs ys j k i (steps.Construct c fields) fewer le = sort_look_le xs ys j k (σ i) fewer le
+    step_gates_le xs ys j k i (steps.IsCtor c n a) fewer le = sort_look_le xs ys j k (σ a) fewer le
+    step_gates_le xs ys j k i (steps.CtorField c n a) fewer le = sort_look_le xs ys j k (σ a) fewer le
+    step_gates_le xs ys j k i (steps.Field a n) fewer le = sort_look_le xs ys j k (σ a) fewer le
+    step_gates_le xs ys j k i (steps.IsAlike a b) fewer le = omega arith
+    step_gates_le xs ys j k i (steps.GoesDown a b) fewer le = omega arith
+
+    pub all_step_gates_le : (xs ys : List DataId) (j k i : ℕ) (ss : List Step) → AtMostIn xs ys → j ≤ k
+        → all_step_gates m types σ η xs j i ss ≤ all_step_gates m types σ η ys k i ss
+    all_step_gates_le xs ys j k i [] fewer le = omega arith
+    all_step_gates_le xs ys j k i (s ∷ ss) fewer le =
+        let one = step_gates_le xs ys j k i s fewer le in
+        let rest = all_step_gates_le (looked σ i s ++ xs) (looked σ i s ++ ys) j k (suc i) ss
+        (fewer_after (looked σ i s) xs ys fewer) le in
+        omega arith
+
+  -- what a call that looks at a tree leaves
+  pub looked_once : (d e : D) (gs hs : List Gate) (t : T) (of : DataId) → LooksAt m d gs e hs t of
+      → AtMostIn (m.looks e) (of ∷ m.looks d)
+  looked_once d e gs hs t of at = by at.once
+    where
+      by : (SameLooks m d e × (hs ≡ gs)) ⊎ FirstLook m d e t of → AtMostIn (m.looks e) (of ∷ m.looks d)
+      by (inl same) = λ x. subst (λ l. times x l ≤ times x (of ∷ m.looks d)) (sym same.0.looks) (more_times x of (m.looks d))
+      by (inr first) = λ x. subst (λ l. times x l ≤ times x (of ∷ m.looks d)) (sym first.looks) (omega arith)
+
+  more_times_all : (d : DataId) (fs xs ys : List DataId) → times d xs ≤ times d ys → times d xs ≤ times d (fs ++ ys)
+  more_times_all d [] xs ys le = le
+  more_times_all d (f ∷ fs) xs ys le =
+      let rest = more_times_all d fs xs ys le in let one = more_times d f (fs ++ ys) in omega arith
+
+  -- a step that looks at no tree
+  pub keeps_same : (d e : D) (σ : Sorts) (k : ℕ) (s : Step) → (m.exact ≡ false → SameLooks m d e)
+      → KeepsLooks m d e σ k s
+  keeps_same d e σ k s same = record {
+    looks = λ inexact x. more_times_all x (looked σ k s) (m.looks e) (m.looks d)
+        (subst (λ l. times x l ≤ times x (m.looks d)) (sym (same inexact).looks) (omega arith));
+    compares = λ inexact. (let c = (same inexact).compares in omega arith);
+  }
+
+  -- a step that looks at one
+  pub keeps_look : (d e : D) (gs hs : List Gate) (t : T) (of : DataId) (σ : Sorts) (k : ℕ) (s : Step)
+      → LooksAt m d gs e hs t of → looked σ k s ≡ of ∷ [] → KeepsLooks m d e σ k s
+  keeps_look d e gs hs t of σ k s at is = record {
+    looks = λ inexact. subst (λ l. AtMostIn (m.looks e) (l ++ m.looks d)) (sym is) (looked_once d e gs hs t of at);
+    compares = λ inexact. by at.once;
+  }
+    where
+      by : (SameLooks m d e × (hs ≡ gs)) ⊎ FirstLook m d e t of → m.compares e ≤ m.compares d
+      by (inl same) = (let c = same.0.compares in omega arith)
+      by (inr first) = (let c = first.compares in omega arith)
+
+-- ---- an exact domain
+
+module _ {D T : Type 0} (m : Sense D T) (types : TypeTable) (exact : m.exact ≡ true) (σ : Sorts) (η : Heights) where
+  pub exact_opened : (h : ℕ) (s : Sort) → opened_gates m types h s ≡ open_gates types h s
+  exact_opened h sort.Int = refl
+  exact_opened h sort.Bool = refl
+  exact_opened h (sort.Tree of) =
+      ap (λ (b : Bool). if b && nat_eq h 0 then 0
+      else 4 * (32 + (if b then bits types h (sort.Tree of) else 0))) exact
+
+  -- and of all arguments
+  each_opened : (h : ℕ) (ss : List Sort) → map (opened_gates m types h) ss ≡ map (open_gates types h) ss
+  each_opened h [] = refl
+  each_opened h (s ∷ ss) =
+      ap (λ n. n ∷ map (opened_gates m types h) ss) (exact_opened h s)
+      ∙ ap (λ ns. open_gates types h s ∷ ns) (each_opened h ss)
+
+  pub exact_all_opened : (h : ℕ) (ss : List Sort)
+      → sum (map (opened_gates m types h) ss) ≡ sum (map (open_gates types h) ss)
+  exact_all_opened h ss = ap (λ ns. sum ns) (each_opened h ss)
+
+  no_look : (looks : List DataId) (compares : ℕ) (s : Sort) → by_sort 0 0 (one_look m types looks compares) s ≡ 0
+  no_look looks compares sort.Int = refl
+  no_look looks compares sort.Bool = refl
+  no_look looks compares (sort.Tree of) =
+      ap (λ (b : Bool). if b then 0 else look_gates types looks compares of) exact
+
+  bits_are : (of : DataId) (h : ℕ) → bits_at m types of h ≡ bits types h (sort.Tree of)
+  bits_are of h = ap (λ (b : Bool). if b then bits types h (sort.Tree of) else 0) exact
+
+  pub exact_gates : (looks : List DataId) (compares k : ℕ) (s : Step)
+      → step_gates m types σ η looks compares k s ≡ gates_of types σ η k s
+  exact_gates looks compares k (steps.Open s) = exact_opened 0 s
+  exact_gates looks compares k (steps.Int n) = refl
+  exact_gates looks compares k (steps.Bool b) = refl
+  exact_gates looks compares k (steps.Not a) = refl
+  exact_gates looks compares k (steps.Both a b) = refl
+  exact_gates looks compares k (steps.Choose c a b) = chosen (σ k)
+    where
+      chosen : (q : Sort) → by_sort 32 1 (λ of. 32 + bits_at m types of (max (η a) (η b))) q
+          ≡ by_sort 32 1 (λ of. 32 + bits types (max (η a) (η b)) (sort.Tree of)) q
+      chosen sort.Int = refl
+      chosen sort.Bool = refl
+      chosen (sort.Tree of) = ap (λ n. 32 + n) (bits_are of (max (η a) (η b)))
+  exact_gates looks compares k (steps.Unary op a) = refl
+  exact_gates looks compares k (steps.Binary op a b) = by op
+    where
+      h : ℕ
+      h = min (η a) (η b)
+
+      compared : (q : Sort) → by_sort 64 1 (λ of. 4 * (32 + bits_at m types of h)) q
+          ≡ by_sort 64 1 (λ of. 4 * (32 + bits types h (sort.Tree of))) q
+      compared sort.Int = refl
+      compared sort.Bool = refl
+      compared (sort.Tree of) = ap (λ n. 4 * (32 + n)) (bits_are of h)
+
+      by : (o : BinaryOp)
+          → step_gates m types σ η looks compares k (steps.Binary o a b) ≡ gates_of types σ η k (steps.Binary o a b)
+      by Equal = compared (σ a)
+      by Differ = compared (σ a)
+      by Add = refl
+      by Sub = refl
+      by Mul = refl
+      by Div = refl
+      by Rem = refl
+      by Less = refl
+      by AtMost = refl
+      by More = refl
+      by AtLeast = refl
+      by AndAlso = refl
+      by OrElse = refl
+      by And = refl
+      by Or = refl
+      by Xor = refl
+      by Shl = refl
+      by Shr = refl
+      by Ushr = refl
+  exact_gates looks compares k (steps.Construct c fields) = no_look looks compares (σ k)
+  exact_gates looks compares k (steps.IsCtor c n a) = no_look looks compares (σ a)
+  exact_gates looks compares k (steps.CtorField c i a) = no_look looks compares (σ a)
+  exact_gates looks compares k (steps.Field a i) = no_look looks compares (σ a)
+  exact_gates looks compares k (steps.IsAlike a b) = refl
+  exact_gates looks compares k (steps.GoesDown a b) = down (σ a)
+    where
+      down : (q : Sort) → by_sort 1024 0 (λ of.
+          if m.exact then 64 + 4 * (32 + bits_at m types of (η a)) * (1 + nodes_at m types of (η b)) else 1) q
+          ≡ by_sort 1024 0 (λ of. 64 + 4 * (32 + bits types (η a) (sort.Tree of)) * (1 + nodes types (η b) (sort.Tree of)))
+          q
+      down sort.Int = refl
+      down sort.Bool = refl
+      down (sort.Tree of) =
+          ap (λ (z : Bool). if z then 64 + 4 * (32 + (if z then bits types (η a) (sort.Tree of) else 0))
+          * (1 + (if z then nodes types (η b) (sort.Tree of) else 0)) else 1) exact
+
+  -- so are those of all steps
+  pub exact_all_gates : (looks : List DataId) (compares k : ℕ) (ss : List Step)
+      → all_step_gates m types σ η looks compares k ss ≡ all_gates types σ η k ss
+  exact_all_gates looks compares k [] = refl
+  exact_all_gates looks compares k (s ∷ ss) =
+      ap (λ n. n + all_step_gates m types σ η (looked σ k s ++ looks) compares (suc k) ss)
+      (exact_gates looks compares k s)
+      ∙ ap (λ n. gates_of types σ η k s + n) (exact_all_gates (looked σ k s ++ looks) compares (suc k) ss)
+
+-- ---- a step at a time
+
+module _ {D T : Type 0} (m : Sense D T) (types : TypeTable) (σ : Sorts) (η : Heights) where
+  -- the gates of the steps from a place on
+  pub step_gates_at : (looks : List DataId) (compares : ℕ) (ss : List Step) (i : ℕ) (s : Step)
+      → slice_get ss i ≡ Some s
+      → all_step_gates m types σ η looks compares i (drop i ss) ≡ step_gates m types σ η looks compares i s
+      + all_step_gates m types σ η (looked σ i s ++ looks) compares (suc i) (drop (suc i) ss)
+  step_gates_at looks compares ss i s at = ap (all_step_gates m types σ η looks compares i) (drop_at ss i s at)
+
+  -- after a step no more is left than was counted before it
+  pub left_gates : (d e : D) (k : ℕ) (s : Step) (i : ℕ) (ss : List Step) → KeepsLooks m d e σ k s
+      → all_step_gates m types σ η (m.looks e) (m.compares e) i ss
+      ≤ all_step_gates m types σ η (looked σ k s ++ m.looks d) (m.compares d) i ss
+  left_gates d e k s i ss keeps = by m.exact refl
+    where
+      by : (b : Bool) → m.exact ≡ b → all_step_gates m types σ η (m.looks e) (m.compares e) i ss
+          ≤ all_step_gates m types σ η (looked σ k s ++ m.looks d) (m.compares d) i ss
+      by true exact =
+          let one = exact_all_gates m types exact σ η (m.looks e) (m.compares e) i ss in
+          let other = exact_all_gates m types exact σ η (looked σ k s ++ m.looks d) (m.compares d) i ss in
+          omega arith
+      by false inexact =
+          all_step_gates_le m types σ η (m.looks e) (looked σ k s ++ m.looks d) (m.compares e) (m.compares d) i ss
+          (keeps.looks inexact) (keeps.compares inexact)

@@ -1,0 +1,74 @@
+-- How many gates and inputs a step may take: of an exact domain by the heights of its operands, of another one by the
+-- datatypes of the trees that were looked at so far. Source: own.
+use Rattle.std.specs.Prelude.{◌≡◌, false, ℕ, suc, ◌+◌, ◌*◌, ◌≤◌, max, min, if◌then◌else◌, List, [], ◌∷◌, ◌++◌}
+use Rattle.pp_prog.specs.declared.id.DataId.{DataId}
+use Rattle.pp_prog.specs.declared.sort.Sort.{Sort}
+use Rattle.pp_prog.specs.declared.sort.Sort.TheVariants as sort
+use Rattle.pp_prog.specs.declared.types.TypeTable.{TypeTable}
+use Rattle.pp_prog.specs.Sizes.{by_sort}
+use Rattle.pp_domain.specs.Allowance.{bits_at, look_gates, nodes_at, times}
+use Rattle.pp_domain.specs.AnySort.{fresh_gates}
+use Rattle.pp_domain.specs.Sense.{Sense}
+use Rattle.pp_steps.specs.declared.step.Step.{Step}
+use Rattle.pp_steps.specs.declared.step.Step.TheVariants as steps
+use Rattle.pp_steps.specs.Gates.{Heights, binary_gates, unary_gates}
+use Rattle.pp_steps.specs.Sorted.{Sorts}
+use Rattle.pp_build_operators.specs.Budget.{is_equality}
+
+-- the datatype, if it is one
+abbrev pub tree_of : Sort → List DataId
+tree_of sort.Int = []
+tree_of sort.Bool = []
+tree_of (sort.Tree of) = of ∷ []
+
+-- the datatype of the tree that step number k looks at
+abbrev pub looked : Sorts → ℕ → Step → List DataId
+looked σ k (steps.Construct c fields) = tree_of (σ k)
+looked σ k (steps.IsCtor c n a) = tree_of (σ a)
+looked σ k (steps.CtorField c i a) = tree_of (σ a)
+looked σ k (steps.Field a i) = tree_of (σ a)
+looked σ k s = []
+
+-- no datatype stands in the first list more often than in the second
+abbrev pub AtMostIn : List DataId → List DataId → Type 0
+AtMostIn xs ys = (d : DataId) → times d xs ≤ times d ys
+
+-- the step looks at the tree that it names and at no other; in an exact domain nothing is asked
+pub record KeepsLooks {D T : Type 0} (m : Sense D T) (d e : D) (σ : Sorts) (k : ℕ) (s : Step) : Type 0 where
+  pub looks : m.exact ≡ false → AtMostIn (m.looks e) (looked σ k s ++ m.looks d)
+  pub compares : m.exact ≡ false → m.compares e ≤ m.compares d
+
+module _ {D T : Type 0} (m : Sense D T) (types : TypeTable) where
+  -- a symbol of which nothing is known
+  abbrev pub opened_gates : ℕ → Sort → ℕ
+  opened_gates h s = fresh_gates m types s h
+
+  -- one more look, at a tree of this datatype
+  abbrev pub one_look : List DataId → ℕ → DataId → ℕ
+  one_look looks compares of = if m.exact then 0 else look_gates types looks compares of
+
+  module _ (σ : Sorts) (η : Heights) where
+    -- step number k, after these looks and comparisons
+    abbrev pub step_gates : List DataId → ℕ → ℕ → Step → ℕ
+    step_gates looks compares k (steps.Open s) = opened_gates 0 s
+    step_gates looks compares k (steps.Both a b) = 1
+    step_gates looks compares k (steps.Choose c a b) =
+        by_sort 32 1 (λ of. 32 + bits_at m types of (max (η a) (η b))) (σ k)
+    step_gates looks compares k (steps.Unary op a) = unary_gates op
+    step_gates looks compares k (steps.Binary op a b) =
+        if is_equality op then by_sort 64 1 (λ of. 4 * (32 + bits_at m types of (min (η a) (η b)))) (σ a)
+        else binary_gates types op 0 (σ a)
+    step_gates looks compares k (steps.Construct c fields) = by_sort 0 0 (one_look looks compares) (σ k)
+    step_gates looks compares k (steps.IsCtor c n a) = by_sort 0 0 (one_look looks compares) (σ a)
+    step_gates looks compares k (steps.CtorField c i a) = by_sort 0 0 (one_look looks compares) (σ a)
+    step_gates looks compares k (steps.Field a i) = by_sort 0 0 (one_look looks compares) (σ a)
+    step_gates looks compares k (steps.GoesDown a b) =
+        by_sort 1024 0 (λ of.
+        if m.exact then 64 + 4 * (32 + bits_at m types of (η a)) * (1 + nodes_at m types of (η b)) else 1) (σ a)
+    step_gates looks compares k s = 0
+
+    -- all steps, the first of which has the number k
+    abbrev pub all_step_gates : List DataId → ℕ → ℕ → List Step → ℕ
+    all_step_gates looks compares k [] = 0
+    all_step_gates looks compares k (s ∷ ss) =
+        step_gates looks compares k s + all_step_gates (looked σ k s ++ looks) compares (suc k) ss
