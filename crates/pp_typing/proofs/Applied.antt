@@ -1,11 +1,10 @@
 -- The application of a name that is found, and its arguments one at a time.
 use Rattle.std.proofs.Common.{◌≡◌, ◌∙◌, ℕ, List, [], ◌∷◌, ◌++◌, ◌+◌, ◌<◌, drop, get_or, length, map, Ok, Err, Result}
-use Rattle.std.proofs.Common.{Option, Some, None, option_map, refl, sym, ap, subst, nat_eq, eq-eqb}
+use Rattle.std.proofs.Common.{Some, sym, ap, subst, nat_eq, eq-eqb}
 use Rattle.std.proofs.lemmas.List.{get_or_default}
 use Rattle.pp_fault.specs.declared.Halt.{Halt}
-use Rattle.pp_fault.specs.declared.Halt.TheVariants.{Memory, Broken}
 use Rattle.pp_fault.specs.declared.Rule.TheVariants.{Arity}
-use Rattle.pp_fault.specs.Part.{Part, Tells, and_then}
+use Rattle.pp_fault.specs.Part.{Part, and_then}
 use Rattle.pp_generic.specs.declared.expected.Expected.{Expected}
 use Rattle.pp_generic.specs.Expected.{Found}
 use Rattle.pp_rules.specs.declared.callee.Callee.{Callee}

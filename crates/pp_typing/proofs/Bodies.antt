@@ -8,7 +8,6 @@ use Rattle.pp_generic.specs.declared.expected.Expected.TheVariants as expected
 use Rattle.pp_rules.specs.Bodies.{elab_conditions, elab_measure}
 use Rattle.pp_rules.specs.Elab.{condition, name_at}
 use Rattle.pp_tree.specs.declared.expr.Expr.{Expr}
-use Rattle.pp_tree.specs.Plain.{Tree}
 use Rattle.pp_tree.specs.Shown.{tree_of}
 use Rattle.pp_typed.specs.declared.expr.TypedExpr.{TypedExpr}
 use Rattle.pp_typing.proofs.Turns.{stop, turn}

@@ -1,6 +1,6 @@
 -- The pattern of a constructor that is found, at type arguments that are known.
-use Rattle.std.proofs.Common.{◌≡◌, ◌∙◌, ℕ, List, [], length, map, Ok, Err, Result, Option, Some, Bool, true, false}
-use Rattle.std.proofs.Common.{refl, sym, ap, subst, nat_eq, eq-eqb}
+use Rattle.std.proofs.Common.{◌≡◌, ◌∙◌, ℕ, List, [], length, map, Ok, Err, Result, Option, Some}
+use Rattle.std.proofs.Common.{sym, ap, subst, nat_eq, eq-eqb}
 use Rattle.std.specs.Prelude.{slice_get}
 use Rattle.pp_fault.specs.declared.Fault.{Fault}
 use Rattle.pp_fault.specs.declared.Halt.{Halt}

@@ -1,5 +1,5 @@
 -- Lists of locals and of children.
-use Rattle.std.proofs.Common.{◌≡◌, ℕ, zero, suc, ◌+◌, ◌<◌, List, [], ◌∷◌, length, get_or, drop, take, map, refl, ap}
+use Rattle.std.proofs.Common.{◌≡◌, ℕ, zero, suc, ◌+◌, ◌<◌, List, [], ◌∷◌, length, get_or, drop, take, refl, ap}
 use Rattle.std.proofs.Common.{sym, ◌∙◌, arith, drop-cons}
 use Rattle.pp_typing.specs.declared.scope.Local.{Local}
 use Rattle.pp_typing.specs.Views.{scope_of}

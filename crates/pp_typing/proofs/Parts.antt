@@ -1,6 +1,6 @@
 -- Lists of arguments and of patterns, one element at a time.
-use Rattle.std.proofs.Common.{◌≡◌, ◌∙◌, ℕ, suc, ◌+◌, ◌<◌, ◌≤◌, List, [], ◌∷◌, ◌++◌, length, map, drop, get_or, Ok, Err}
-use Rattle.std.proofs.Common.{Result, refl, sym, ap, arith}
+use Rattle.std.proofs.Common.{◌≡◌, ℕ, suc, ◌+◌, ◌<◌, ◌≤◌, List, [], ◌∷◌, ◌++◌, length, map, drop, get_or, Ok, Err}
+use Rattle.std.proofs.Common.{refl, ap, arith}
 use Rattle.pp_fault.specs.declared.Halt.{Halt}
 use Rattle.pp_fault.specs.Part.{Part, and_then}
 use Rattle.pp_generic.specs.Expected.{Found, expect}

@@ -1,6 +1,6 @@
 -- What calls that may be out of memory tell, along equations.
-use Rattle.std.proofs.Common.{◌≡◌, ◌∙◌, ℕ, suc, List, [], ◌∷◌, length, map, Ok, Err, Result, Option, Some, None, Bool}
-use Rattle.std.proofs.Common.{true, false, refl, sym, ap, subst, nat_eq, eq-eqb, ◌==◌}
+use Rattle.std.proofs.Common.{◌≡◌, ◌∙◌, ℕ, suc, List, [], ◌∷◌, length, map, Ok, Err, Result, Some, Bool}
+use Rattle.std.proofs.Common.{true, false, refl, ap, subst, nat_eq, eq-eqb, ◌==◌}
 use Rattle.std.proofs.lemmas.Bool.{eqb-true}
 use Rattle.pp_fault.specs.declared.Halt.{Halt}
 use Rattle.pp_fault.specs.declared.Halt.TheVariants.{Memory, Broken}
@@ -17,7 +17,6 @@ use Rattle.pp_rules.specs.Scope.{Env}
 use Rattle.pp_rules.specs.Shapes.{application, field_place, field_sort, only_ctor}
 use Rattle.pp_rules.specs.Written.{written_from}
 use Rattle.pp_sorts.proofs.Sizes.{count_of}
-use Rattle.pp_sorts.specs.IsSort.{count as count_types}
 use Rattle.pp_sorts.specs.SortOf.{sort_of, sorts_from}
 use Rattle.pp_tree.specs.declared.type_text.TypeText.{TypeText}
 use Rattle.pp_tree.specs.Plain.{TypeTree, TypeTrees}

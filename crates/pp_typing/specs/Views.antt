@@ -15,6 +15,8 @@ use Rattle.pp_tree.specs.Shown.{case_of, case_trees, pattern_of, tree_of, trees}
 use Rattle.pp_typed.specs.declared.declared.Signature.{Signature}
 use Rattle.pp_typed.specs.declared.expr.TypedCase.{TypedCase}
 use Rattle.pp_typed.specs.declared.expr.TypedExpr.{TypedExpr}
+use Rattle.pp_typed.specs.declared.expr.TypedKind.TheViews.{roll-TypedCase}
+use Rattle.pp_typed.specs.declared.pattern.TypedPattern.{TypedPattern}
 use Rattle.pp_typed.specs.declared.sort.GenericSort.{GenericSort}
 use Rattle.pp_typed.specs.declared.typed.TypedDef.{TypedDef}
 use Rattle.pp_rules.specs.Bodies.{elab_conditions, elab_measure, elab_post, typed_def}
@@ -58,6 +60,10 @@ abbrev pub Leaves : {B : Type 0} → Result (Unit {0}) Halt → B → Part B →
 Leaves (Ok a) b part = part ≡ Ok b
 Leaves (Err Memory) b part = Unit {0}
 Leaves (Err (Broken f)) b part = part ≡ Err f
+
+-- the case of a pattern, a guard and a body
+abbrev pub case_with : TypedPattern → Option TypedExpr → TypedExpr → TypedCase
+case_with p guard body = roll-TypedCase (record { pattern = p; guard = guard; body = body })
 
 -- a name that may be missing
 abbrev pub word_of : Option (Bor (List ℕ)) → Option Word

@@ -11,7 +11,7 @@ use crate::checks::{agreed, all_written, flaw, typed};
 use crate::lookup::application;
 use pp_fault::{Halt, Rule};
 use pp_generic::{Expected, Found, all_found, are_same, exact, known, learn, none_found, put};
-use pp_list::Items;
+use pp_list::{Boxed, Items};
 use pp_rules::Callee;
 use pp_tree::TypeText;
 use pp_typed::{GenericSort, GenericSorts, NoMemory, TypedExpr, TypedExprs};
@@ -60,16 +60,16 @@ pub(crate) fn taken(
     param: &GenericSort,
     name: &str,
     found: &mut Found,
-    arg: TypedExpr,
-) -> Result<TypedExpr, Halt>
+    arg: Boxed<TypedExpr>,
+) -> Result<Boxed<TypedExpr>, Halt>
     ensures { TellsBoth result found.new (taken (env_of context.now) param.now name.now found.old arg) }
 {
-    let actual = exact(alloc, &arg.of)?;
+    let actual = exact(alloc, &arg.get().of)?;
     learn(alloc, param, &actual, found)?;
     let wanted = known(alloc, found.as_slice(), param)?;
     match &wanted {
-        Some(wanted) if are_same(wanted, &arg.of) => Ok(arg),
-        _ => flaw(alloc, context, Rule::Mismatch, name, arg.at),
+        Some(wanted) if are_same(wanted, &arg.get().of) => Ok(arg),
+        _ => flaw(alloc, context, Rule::Mismatch, name, arg.get().at),
     }
 }
 
@@ -83,7 +83,7 @@ pub(crate) fn finished(
     args: TypedExprs,
     found: Found,
     expected: &Expected,
-) -> Result<TypedExpr, Halt>
+) -> Result<Boxed<TypedExpr>, Halt>
     ensures { Tells result (finished (env_of context.now) at expected.now name.now callee (args, found)) }
 {
     match all_found(alloc, found.as_slice())? {
@@ -91,7 +91,8 @@ pub(crate) fn finished(
         Some(sorts) => {
             let of = put(alloc, sorts.as_slice(), &callee.result)?;
             let kind = application(callee.target, sorts, args);
-            agreed(alloc, context, expected, name, typed(context, at, of, kind))
+            let e = typed(alloc, context, at, of, kind)?;
+            agreed(alloc, context, expected, name, e)
         }
     }
 }

@@ -14,7 +14,7 @@ use crate::scope::depth;
 use crate::{Context, Local};
 use pp_fault::{Halt, Rule};
 use pp_generic::{are_same, copy, exact};
-use pp_list::Items;
+use pp_list::{Boxed, Items};
 use pp_names::{Names, is_reserved};
 use pp_tree::{DefDecl, Expr, Post, TypeText};
 use pp_typed::{GenericSort, Signature, TypedDef, TypedExpr, TypedExprs, TypedPost};
@@ -33,7 +33,7 @@ fn conditions<'a>(
     let mut done = Items::new(alloc);
     for i in 0..es.len() {
         let test = condition(alloc, context, &es[i], scope)?;
-        done.push(test)?;
+        done.push(test.into_inner())?;
     }
     Ok(done)
 }
@@ -51,7 +51,7 @@ fn components<'a>(
     let mut done = Items::new(alloc);
     for i in 0..es.len() {
         let component = part(alloc, context, &es[i], scope)?;
-        done.push(component)?;
+        done.push(component.into_inner())?;
     }
     Ok(done)
 }
@@ -63,7 +63,7 @@ fn body<'a>(
     e: &Expr<'a>,
     scope: &mut Items<Local<'a>>,
     sort: &GenericSort,
-) -> Result<TypedExpr, Halt>
+) -> Result<Boxed<TypedExpr>, Halt>
     ensures told { Tells result (part_typing context.now scope.old (exact sort.now) (tree_of e.now)) }
     ensures kept { OnOk result (scope.new ≡ scope.old) }
 {
@@ -99,7 +99,7 @@ fn post<'a>(
     post: &Option<Post<'a>>,
     scope: &mut Items<Local<'a>>,
     sort: &GenericSort,
-) -> Result<Option<TypedPost>, Halt>
+) -> Result<Option<Boxed<TypedPost>>, Halt>
     ensures { Tells result (elab_post (env_of context.now) (option_map post_of post.now)
         (scope_of scope.old) sort.now) }
 {
@@ -116,7 +116,8 @@ fn post<'a>(
         of,
     })?;
     let claim = condition(alloc, context, &post.claim, scope)?;
-    Ok(Some(TypedPost { at: post.at, claim }))
+    let claim = claim.into_inner();
+    Ok(Some(Boxed::new(alloc, TypedPost { at: post.at, claim })?))
 }
 
 /// Types the body and the postcondition of a function among its parameters.

@@ -1,6 +1,6 @@
 //! What is tested of typed parts, and the refusals.
 
-ghost use Rattle.std.specs.Prelude.{◌≡◌, [], map, option_map};
+ghost use Rattle.std.specs.Prelude.{◌≡◌, [], IfOk, map, option_map};
 ghost use Rattle.pp_fault.specs.Part.{Tells};
 ghost use Rattle.pp_sorts.specs.Words.{words_of};
 ghost use Rattle.pp_tree.specs.Shown.{tree_of, type_of, type_trees};
@@ -11,9 +11,10 @@ ghost use Rattle.pp_typing.specs.Views.{env_of};
 use crate::Context;
 use pp_fault::{Halt, Rule, broken};
 use pp_generic::{Expected, are_same, exact, fits};
+use pp_list::Boxed;
 use pp_sorts::{TypeScope, sort_of, sorts_of};
 use pp_tree::{Expr, ExprKind, TypeText};
-use pp_typed::{GenericSort, GenericSorts, TypedExpr, TypedKind};
+use pp_typed::{GenericSort, GenericSorts, NoMemory, TypedExpr, TypedKind};
 use std::alloc::Global;
 
 /// The types that may be written where an expression stands.
@@ -43,17 +44,26 @@ pub(crate) fn flaw<T>(
     broken(alloc, rule, name, context.source, at)
 }
 
-/// An expression of this sort.
-pub(crate) fn typed(context: &Context, at: u32, of: GenericSort, kind: TypedKind) -> TypedExpr
-    ensures { result ≡ typed (env_of context.now) at of kind }
+/// An expression of this sort. The only error is want of memory.
+pub(crate) fn typed(
+    alloc: Global,
+    context: &Context,
+    at: u32,
+    of: GenericSort,
+    kind: TypedKind,
+) -> Result<Boxed<TypedExpr>, NoMemory>
+    ensures { IfOk result (λ e. e ≡ typed (env_of context.now) at of kind) }
 {
     let source = context.source;
-    TypedExpr {
-        source,
-        at,
-        of,
-        kind,
-    }
+    Boxed::new(
+        alloc,
+        TypedExpr {
+            source,
+            at,
+            of,
+            kind,
+        },
+    )
 }
 
 /// The expression, where its sort is as expected; else a mismatch there.
@@ -62,14 +72,14 @@ pub(crate) fn agreed(
     context: &Context,
     expected: &Expected,
     name: &str,
-    e: TypedExpr,
-) -> Result<TypedExpr, Halt>
+    e: Boxed<TypedExpr>,
+) -> Result<Boxed<TypedExpr>, Halt>
     ensures { Tells result (agreed (env_of context.now) expected.now name.now e) }
 {
-    if fits(expected, &e.of) {
+    if fits(expected, &e.get().of) {
         Ok(e)
     } else {
-        flaw(alloc, context, Rule::Mismatch, name, e.at)
+        flaw(alloc, context, Rule::Mismatch, name, e.get().at)
     }
 }
 
@@ -80,14 +90,14 @@ pub(crate) fn of_sort(
     rule: Rule,
     sort: &GenericSort,
     name: &str,
-    e: TypedExpr,
-) -> Result<TypedExpr, Halt>
+    e: Boxed<TypedExpr>,
+) -> Result<Boxed<TypedExpr>, Halt>
     ensures { Tells result (of_sort (env_of context.now) rule sort.now name.now e) }
 {
-    if are_same(sort, &e.of) {
+    if are_same(sort, &e.get().of) {
         Ok(e)
     } else {
-        flaw(alloc, context, rule, name, e.at)
+        flaw(alloc, context, rule, name, e.get().at)
     }
 }
 

@@ -10,7 +10,7 @@ ghost use Rattle.pp_typing.specs.Views.{TellsBoth, arg_typing, args_typing, arm_
 ghost use Rattle.pp_typing.specs.Views.{part_typing, scope_of, typing};
 
 use crate::apply::{finished, started, taken};
-use crate::arms::{alike, matched, truncate};
+use crate::arms::{alike, guarded, matched, truncate, unguarded};
 use crate::checks::{agreed, flaw, name_at, of_sort, typed, val_expected};
 use crate::lookup::applied_by;
 use crate::name::{named, selected};
@@ -21,7 +21,7 @@ use crate::scope::{clashes, depth};
 use crate::{Context, Local};
 use pp_fault::{Halt, Rule};
 use pp_generic::{Expected, Found, copy, expect};
-use pp_list::Items;
+use pp_list::{Boxed, Items};
 use pp_tree::{BinaryOp, Case, Expr, ExprKind, Pattern, TypeText};
 use pp_typed::{GenericSort, TypedCase, TypedCases, TypedExpr, TypedExprs, TypedKind};
 use std::alloc::Global;
@@ -35,18 +35,18 @@ pub(crate) fn expr<'a>(
     scope: &mut Items<Local<'a>>,
     fresh: usize,
     expected: &Expected,
-) -> Result<TypedExpr, Halt>
+) -> Result<Boxed<TypedExpr>, Halt>
     ensures told { Tells result (typing context.now scope.old fresh expected.now (tree_of e.now)) }
     ensures kept { OnOk result (scope.new ≡ scope.old) }
 {
     let at = e.at;
     match e.kind {
         ExprKind::Int(n) => {
-            let number = typed(context, at, GenericSort::Int, TypedKind::Int(n));
+            let number = typed(alloc, context, at, GenericSort::Int, TypedKind::Int(n))?;
             agreed(alloc, context, expected, context.function, number)
         }
         ExprKind::Bool(b) => {
-            let truth = typed(context, at, GenericSort::Bool, TypedKind::Bool(b));
+            let truth = typed(alloc, context, at, GenericSort::Bool, TypedKind::Bool(b))?;
             agreed(alloc, context, expected, context.function, truth)
         }
         ExprKind::Name(w) => named(alloc, context, at, w, scope.as_slice(), expected),
@@ -91,7 +91,7 @@ pub(crate) fn part<'a>(
     context: &Context<'_, 'a>,
     e: &Expr<'a>,
     scope: &mut Items<Local<'a>>,
-) -> Result<TypedExpr, Halt>
+) -> Result<Boxed<TypedExpr>, Halt>
     ensures told { Tells result (part_typing context.now scope.old expected.Open (tree_of e.now)) }
     ensures kept { OnOk result (scope.new ≡ scope.old) }
 {
@@ -106,7 +106,7 @@ pub(crate) fn condition<'a>(
     context: &Context<'_, 'a>,
     c: &Expr<'a>,
     scope: &mut Items<Local<'a>>,
-) -> Result<TypedExpr, Halt>
+) -> Result<Boxed<TypedExpr>, Halt>
     ensures told { Tells result (condition (env_of context.now) (name_at (env_of context.now) (tree_of c.now))
         (part_typing context.now scope.old expected.Open (tree_of c.now))) }
     ensures kept { OnOk result (scope.new ≡ scope.old) }
@@ -134,20 +134,26 @@ fn binary<'a>(
     b: &Expr<'a>,
     scope: &mut Items<Local<'a>>,
     expected: &Expected,
-) -> Result<TypedExpr, Halt>
+) -> Result<Boxed<TypedExpr>, Halt>
     ensures told { Tells result (part_typing context.now scope.old expected.now (binary at op (tree_of a.now)
         (tree_of b.now))) }
     ensures kept { OnOk result (scope.new ≡ scope.old) }
 {
     let left = part(alloc, context, a, scope)?;
-    if !admits(op, &left.of) {
-        return flaw(alloc, context, Rule::Mismatch, name_at(context, a), left.at);
+    if !admits(op, &left.get().of) {
+        return flaw(
+            alloc,
+            context,
+            Rule::Mismatch,
+            name_at(context, a),
+            left.get().at,
+        );
     }
     let inner = depth(scope.as_slice());
-    let wanted = right_expected(alloc, op, &left.of)?;
+    let wanted = right_expected(alloc, op, &left.get().of)?;
     let right = expr(alloc, context, b, scope, inner, &wanted)?;
     let name = name_at(context, b);
-    let right = of_sort(alloc, context, Rule::Mismatch, &left.of, name, right)?;
+    let right = of_sort(alloc, context, Rule::Mismatch, &left.get().of, name, right)?;
     operated(alloc, context, at, expected, op, left, right)
 }
 
@@ -162,7 +168,7 @@ fn choice<'a>(
     b: &Expr<'a>,
     scope: &mut Items<Local<'a>>,
     expected: &Expected,
-) -> Result<TypedExpr, Halt>
+) -> Result<Boxed<TypedExpr>, Halt>
     ensures told { Tells result (part_typing context.now scope.old expected.now
         (choice at (tree_of c.now) (tree_of a.now) (tree_of b.now))) }
     ensures kept { OnOk result (scope.new ≡ scope.old) }
@@ -187,7 +193,7 @@ fn value<'a>(
     scope: &mut Items<Local<'a>>,
     fresh: usize,
     expected: &Expected,
-) -> Result<TypedExpr, Halt>
+) -> Result<Boxed<TypedExpr>, Halt>
     ensures told { Tells result (typing context.now scope.old fresh expected.now
         (val_in at name.now (option_map type_of text.now) (tree_of a.now) (tree_of b.now))) }
     ensures kept { OnOk result (scope.new ≡ scope.old) }
@@ -198,7 +204,7 @@ fn value<'a>(
     let wanted = val_expected(alloc, context, text)?;
     let inner = depth(scope.as_slice());
     let value = expr(alloc, context, a, scope, inner, &wanted)?;
-    let of = copy(alloc, &value.of)?;
+    let of = copy(alloc, &value.get().of)?;
     scope.push(Local { name, of })?;
     let rest = expr(alloc, context, b, scope, fresh, expected)?;
     let _ = scope.pop();
@@ -214,7 +220,7 @@ fn argument<'a>(
     param: &GenericSort,
     scope: &mut Items<Local<'a>>,
     found: &mut Found,
-) -> Result<TypedExpr, Halt>
+) -> Result<Boxed<TypedExpr>, Halt>
     ensures told { TellsBoth result found.new (arg_typing context.now scope.old (tree_of e.now) param.now found.old) }
     ensures kept { OnOk result (scope.new ≡ scope.old) }
 {
@@ -241,7 +247,7 @@ fn arguments<'a>(
     let mut done = Items::new(alloc);
     for i in 0..es.len() {
         let arg = argument(alloc, context, &es[i], &params[i], scope, found)?;
-        done.push(arg)?;
+        done.push(arg.into_inner())?;
     }
     Ok(done)
 }
@@ -257,7 +263,7 @@ fn application<'a>(
     es: &[Expr<'a>],
     scope: &mut Items<Local<'a>>,
     expected: &Expected,
-) -> Result<TypedExpr, Halt>
+) -> Result<Boxed<TypedExpr>, Halt>
     ensures told { Tells result (part_typing context.now scope.old expected.now
         (apply at name.now (type_trees (map type_of types.now)) (trees (map tree_of es.now)))) }
     ensures kept { OnOk result (scope.new ≡ scope.old) }
@@ -291,7 +297,7 @@ fn plain_arm<'a>(
     sort: &GenericSort,
     scope: &mut Items<Local<'a>>,
     expected: &Expected,
-) -> Result<TypedCase, Halt>
+) -> Result<Boxed<TypedCase>, Halt>
     ensures told { Tells result (elab_arm (env_of context.now) done.now (pattern_of p.now) None (tree_of body.now)
         (scope_of scope.old) expected.now sort.now) }
     ensures kept { OnOk result (scope.new ≡ scope.old) }
@@ -303,11 +309,7 @@ fn plain_arm<'a>(
     let value = expr(alloc, context, body, scope, inner, expected)?;
     let value = alike(alloc, context, done, name_at(context, body), value)?;
     truncate(scope, outer);
-    Ok(TypedCase {
-        pattern,
-        guard: None,
-        body: value,
-    })
+    Ok(unguarded(alloc, pattern, value)?)
 }
 
 /// Types a case with a guard, after these.
@@ -322,7 +324,7 @@ fn guarded_arm<'a>(
     sort: &GenericSort,
     scope: &mut Items<Local<'a>>,
     expected: &Expected,
-) -> Result<TypedCase, Halt>
+) -> Result<Boxed<TypedCase>, Halt>
     ensures told { Tells result (elab_arm (env_of context.now) done.now (pattern_of p.now) (Some (tree_of test.now))
         (tree_of body.now) (scope_of scope.old) expected.now sort.now) }
     ensures kept { OnOk result (scope.new ≡ scope.old) }
@@ -335,11 +337,7 @@ fn guarded_arm<'a>(
     let value = expr(alloc, context, body, scope, inner, expected)?;
     let value = alike(alloc, context, done, name_at(context, body), value)?;
     truncate(scope, outer);
-    Ok(TypedCase {
-        pattern,
-        guard: Some(guard),
-        body: value,
-    })
+    Ok(guarded(alloc, pattern, guard, value)?)
 }
 
 /// Types a case after these: its pattern, its guard and its body, whose sort is that of the bodies before it.
@@ -352,7 +350,7 @@ fn arm<'a>(
     sort: &GenericSort,
     scope: &mut Items<Local<'a>>,
     expected: &Expected,
-) -> Result<TypedCase, Halt>
+) -> Result<Boxed<TypedCase>, Halt>
     ensures told { Tells result (arm_typing context.now scope.old expected.now sort.now done.now case.now) }
     ensures kept { OnOk result (scope.new ≡ scope.old) }
 {
@@ -407,7 +405,7 @@ fn arms<'a>(
             scope,
             expected,
         )?;
-        done.push(arm)?;
+        done.push(arm.into_inner())?;
     }
     Ok(done)
 }
@@ -422,12 +420,12 @@ fn matching<'a>(
     cases: &[Case<'a>],
     scope: &mut Items<Local<'a>>,
     expected: &Expected,
-) -> Result<TypedExpr, Halt>
+) -> Result<Boxed<TypedExpr>, Halt>
     ensures told { Tells result (part_typing context.now scope.old expected.now
         (matching at (tree_of e.now) (case_trees (map case_of cases.now)))) }
     ensures kept { OnOk result (scope.new ≡ scope.old) }
 {
     let value = part(alloc, context, e, scope)?;
-    let arms = arms(alloc, context, cases, &value.of, scope, expected)?;
+    let arms = arms(alloc, context, cases, &value.get().of, scope, expected)?;
     matched(alloc, context, at, value, arms)
 }

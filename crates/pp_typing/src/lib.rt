@@ -7,7 +7,6 @@ mod body;
 mod checks;
 mod context;
 mod expr;
-mod kind;
 mod lookup;
 mod name;
 mod node;

@@ -11,13 +11,12 @@ ghost use Rattle.pp_typing.specs.Views.{env_of, scope_of};
 
 use crate::apply::{finished, started};
 use crate::checks::{agreed, flaw, typed};
-use crate::kind::field_kind;
 use crate::lookup::{field_place, field_sort, named_by, only_ctor};
 use crate::scope::place;
 use crate::{Context, Local};
 use pp_fault::{Halt, Rule};
 use pp_generic::{Expected, copy, put};
-use pp_list::Items;
+use pp_list::{Boxed, Items};
 use pp_typed::{GenericSort, TypedExpr, TypedKind};
 use std::alloc::Global;
 
@@ -39,7 +38,7 @@ pub(crate) fn named(
     name: &str,
     scope: &[Local],
     expected: &Expected,
-) -> Result<TypedExpr, Halt>
+) -> Result<Boxed<TypedExpr>, Halt>
     ensures { Tells result (named (env_of context.now) (scope_of scope.now) at expected.now name.now (place name.now
         (scope_of scope.now))) }
 {
@@ -51,7 +50,7 @@ pub(crate) fn named(
                 None => flaw(alloc, context, Rule::Unknown, name, at),
                 Some(local) => {
                     let of = copy(alloc, &local.of)?;
-                    let local = typed(context, at, of, TypedKind::Local(number));
+                    let local = typed(alloc, context, at, of, TypedKind::Local(number))?;
                     agreed(alloc, context, expected, name, local)
                 }
             }
@@ -66,7 +65,7 @@ fn bare(
     at: u32,
     name: &str,
     expected: &Expected,
-) -> Result<TypedExpr, Halt>
+) -> Result<Boxed<TypedExpr>, Halt>
     ensures { Tells result (applied (env_of context.now) at expected.now name.now no_types 0 (no_args
         (env_of context.now)) (named_by context.now.names.now name.now)) }
 {
@@ -89,13 +88,13 @@ pub(crate) fn selected(
     context: &Context,
     at: u32,
     name: &str,
-    base: TypedExpr,
+    base: Boxed<TypedExpr>,
     expected: &Expected,
-) -> Result<TypedExpr, Halt>
+) -> Result<Boxed<TypedExpr>, Halt>
     ensures { Tells result (selected (env_of context.now) at expected.now name.now base (out-GenericSort base.of)) }
 {
     let declared = context.names.declared();
-    let GenericSort::Root(root, args) = &base.of else {
+    let GenericSort::Root(root, args) = &base.get().of else {
         return flaw(alloc, context, Rule::Mismatch, name, at);
     };
     let Some(ctor) = only_ctor(context.names, *root) else {
@@ -108,6 +107,7 @@ pub(crate) fn selected(
         return flaw(alloc, context, Rule::Unknown, name, at);
     };
     let of = put(alloc, args.as_slice(), sort)?;
-    let kind = field_kind(alloc, base, number(field)?)?;
-    agreed(alloc, context, expected, name, typed(context, at, of, kind))
+    let kind = TypedKind::Field(base, number(field)?);
+    let e = typed(alloc, context, at, of, kind)?;
+    agreed(alloc, context, expected, name, e)
 }

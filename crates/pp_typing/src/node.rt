@@ -7,12 +7,12 @@ ghost use Rattle.pp_typing.specs.Views.{env_of};
 
 use crate::Context;
 use crate::checks::{agreed, flaw, typed};
-use crate::kind::{assert_kind, binary_kind, if_kind, unary_kind, val_kind};
 use crate::operators::{gives, unary_sort};
 use pp_fault::{Halt, Rule};
 use pp_generic::{Expected, are_same, copy};
+use pp_list::Boxed;
 use pp_tree::{BinaryOp, UnaryOp};
-use pp_typed::TypedExpr;
+use pp_typed::{TypedExpr, TypedKind};
 use std::alloc::Global;
 
 /// A prefix operator on an operand of its sort.
@@ -22,12 +22,17 @@ pub(crate) fn negated(
     at: u32,
     expected: &Expected,
     op: UnaryOp,
-    operand: TypedExpr,
-) -> Result<TypedExpr, Halt>
+    operand: Boxed<TypedExpr>,
+) -> Result<Boxed<TypedExpr>, Halt>
     ensures { Tells result (negated (env_of context.now) at expected.now op operand) }
 {
-    let kind = unary_kind(alloc, op, operand)?;
-    let e = typed(context, at, unary_sort(op), kind);
+    let e = typed(
+        alloc,
+        context,
+        at,
+        unary_sort(op),
+        TypedKind::Unary(op, operand),
+    )?;
     agreed(alloc, context, expected, context.function, e)
 }
 
@@ -38,14 +43,13 @@ pub(crate) fn operated(
     at: u32,
     expected: &Expected,
     op: BinaryOp,
-    left: TypedExpr,
-    right: TypedExpr,
-) -> Result<TypedExpr, Halt>
+    left: Boxed<TypedExpr>,
+    right: Boxed<TypedExpr>,
+) -> Result<Boxed<TypedExpr>, Halt>
     ensures { Tells result (operated (env_of context.now) at expected.now op left right) }
 {
-    let of = gives(alloc, op, &left.of)?;
-    let kind = binary_kind(alloc, op, left, right)?;
-    let e = typed(context, at, of, kind);
+    let of = gives(alloc, op, &left.get().of)?;
+    let e = typed(alloc, context, at, of, TypedKind::Binary(op, left, right))?;
     agreed(alloc, context, expected, context.function, e)
 }
 
@@ -54,19 +58,18 @@ pub(crate) fn chosen(
     alloc: Global,
     context: &Context,
     at: u32,
-    test: TypedExpr,
-    first: TypedExpr,
+    test: Boxed<TypedExpr>,
+    first: Boxed<TypedExpr>,
     name: &str,
-    second: TypedExpr,
-) -> Result<TypedExpr, Halt>
+    second: Boxed<TypedExpr>,
+) -> Result<Boxed<TypedExpr>, Halt>
     ensures { Tells result (chosen (env_of context.now) at test first name.now second) }
 {
-    if are_same(&first.of, &second.of) {
-        let of = copy(alloc, &first.of)?;
-        let kind = if_kind(alloc, test, first, second)?;
-        Ok(typed(context, at, of, kind))
+    if are_same(&first.get().of, &second.get().of) {
+        let of = copy(alloc, &first.get().of)?;
+        Ok(typed(alloc, context, at, of, TypedKind::If(test, first, second))?)
     } else {
-        flaw(alloc, context, Rule::Mismatch, name, second.at)
+        flaw(alloc, context, Rule::Mismatch, name, second.get().at)
     }
 }
 
@@ -75,14 +78,13 @@ pub(crate) fn valued(
     alloc: Global,
     context: &Context,
     at: u32,
-    value: TypedExpr,
-    rest: TypedExpr,
-) -> Result<TypedExpr, Halt>
+    value: Boxed<TypedExpr>,
+    rest: Boxed<TypedExpr>,
+) -> Result<Boxed<TypedExpr>, Halt>
     ensures { Tells result (valued (env_of context.now) at value rest) }
 {
-    let of = copy(alloc, &rest.of)?;
-    let kind = val_kind(alloc, value, rest)?;
-    Ok(typed(context, at, of, kind))
+    let of = copy(alloc, &rest.get().of)?;
+    Ok(typed(alloc, context, at, of, TypedKind::Val(value, rest))?)
 }
 
 /// An `assert` of a condition, and what follows it.
@@ -90,12 +92,11 @@ pub(crate) fn asserted(
     alloc: Global,
     context: &Context,
     at: u32,
-    test: TypedExpr,
-    rest: TypedExpr,
-) -> Result<TypedExpr, Halt>
+    test: Boxed<TypedExpr>,
+    rest: Boxed<TypedExpr>,
+) -> Result<Boxed<TypedExpr>, Halt>
     ensures { Tells result (asserted (env_of context.now) at test rest) }
 {
-    let of = copy(alloc, &rest.of)?;
-    let kind = assert_kind(alloc, test, rest)?;
-    Ok(typed(context, at, of, kind))
+    let of = copy(alloc, &rest.get().of)?;
+    Ok(typed(alloc, context, at, of, TypedKind::Assert(test, rest))?)
 }

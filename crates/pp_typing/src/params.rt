@@ -7,7 +7,7 @@ ghost use Rattle.pp_typing.specs.Views.{scope_of};
 
 use crate::Local;
 use pp_generic::copy;
-use pp_list::{Items, at};
+use pp_list::{Boxed, Items, at};
 use pp_text::Name;
 use pp_tree::{DefDecl, Param};
 use pp_typed::{
@@ -62,8 +62,8 @@ pub(crate) fn typed_def(
     signature: &Signature,
     pre: TypedExprs,
     measure: TypedExprs,
-    body: TypedExpr,
-    post: Option<TypedPost>,
+    body: Boxed<TypedExpr>,
+    post: Option<Boxed<TypedPost>>,
 ) -> Result<TypedDef, NoMemory>
     ensures { IfOk result (λ d. d ≡ typed_def source (def_of def.now) signature.now pre measure body post) }
 {
@@ -76,7 +76,7 @@ pub(crate) fn typed_def(
         result: copy(alloc, &signature.result)?,
         pre,
         measure,
-        body,
-        post,
+        body: body.into_inner(),
+        post: post.map(Boxed::into_inner),
     })
 }

@@ -1,5 +1,4 @@
-use Rattle.std.proofs.Common.{rules, ◌≡◌, ◌∙◌, Err, Ok, Some, ap, sym, subst, map, []}
-use Rattle.pp_fault.specs.Part.{Tells, and_then}
+use Rattle.std.proofs.Common.{rules, ◌≡◌, ◌∙◌, Err, Ok, ap, sym, map, []}
 use Rattle.pp_rules.specs.Written.{written_from}
 use Rattle.pp_tree.specs.Shown.{type_of, type_trees}
 use Rattle.pp_typing.proofs.Told.{started_arity, started_sorts, tells_along}

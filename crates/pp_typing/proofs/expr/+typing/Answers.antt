@@ -1,4 +1,4 @@
-use Rattle.std.proofs.Common.{rules, ◌≡◌, ◌∙◌, Err, Ok, Some, [], ap, length, map, sym}
+use Rattle.std.proofs.Common.{rules, ◌≡◌, ◌∙◌, ◌++◌, ◌∷◌, Err, [], ap, length, map, sym}
 use Rattle.pp_generic.specs.Expected.{expect}
 use Rattle.pp_rules.specs.Elab.{finished, name_at, started, taken}
 use Rattle.pp_tree.specs.Shown.{tree_of, type_of, type_trees}
@@ -90,7 +90,8 @@ arguments-loop-i-preserved t c =
     c.loop-i.i _ c.index-params-i.result
     c.loop-i.done c.loop-i.found c.argument.new.found c.requires c.loop-i-test.true c.index-params-i.is same
     c.loop-i.invariant.0
-    c.in_ok-arg.arg c.push.new.self c.in_ok-push.ensures.ok c.in_ok-arg.ensures.told in
+    c.in_ok-arg.arg c.push.new.self (c.in_ok-push.ensures.ok ∙ ap (λ a. c.loop-i.done ++ a ∷ []) c.into_inner.ensures)
+    c.in_ok-arg.ensures.told in
     (rest, c.in_ok-arg.ensures.kept ∙ same)
 
 pub arms-returns-in_err-arm-clause-told : goal.arms-returns-in_err-arm-clause-told
@@ -107,5 +108,6 @@ arms-loop-i-preserved t c =
     let rest = cases_turn c.args.context.now c.args.scope.now c.loop-i.scope c.args.expected.now c.args.sort.now _
     c.args.cases.now c.loop-i.i _ c.loop-i.done
     c.as_slice.result.now c.loop-i-test.true same c.as_slice.ensures c.loop-i.invariant.0
-    c.in_ok-arm.arm c.push.new.self c.in_ok-push.ensures.ok c.in_ok-arm.ensures.told in
+    c.in_ok-arm.arm c.push.new.self (c.in_ok-push.ensures.ok ∙ ap (λ a. c.loop-i.done ++ a ∷ []) c.into_inner.ensures)
+    c.in_ok-arm.ensures.told in
     (rest, c.in_ok-arm.ensures.kept ∙ same)

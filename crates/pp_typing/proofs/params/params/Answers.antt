@@ -1,4 +1,4 @@
-use Rattle.std.proofs.Common.{◌≡◌, ◌∙◌, ap, map, sym}
+use Rattle.std.proofs.Common.{◌∙◌, ap, map, sym}
 use Rattle.std.specs.Prelude.{option_copied}
 use Rattle.pp_rules.specs.Bodies.{typed_params}
 use Rattle.pp_tree.specs.Shown.{param_of}

@@ -1,8 +1,7 @@
-use Rattle.std.proofs.Common.{rules, ◌≡◌, ◌∙◌, Err, Ok, Some, [], ap, map, sym}
+use Rattle.std.proofs.Common.{rules, ◌≡◌, ◌∙◌, Err, Ok, [], ap, map, sym}
 use Rattle.std.specs.Prelude.{option_copied, slice_get}
 use Rattle.pp_fault.specs.declared.Rule.TheVariants.{Arity}
 use Rattle.pp_typed.specs.Put.{put}
-use Rattle.pp_names.specs.Find.{find_ctor}
 use Rattle.pp_rules.specs.Elab.{bind, ctor_bound, elab_patterns}
 use Rattle.pp_tree.specs.Shown.{pattern_of, pattern_trees}
 use Rattle.pp_typing.proofs.CtorPatterns.{both_stop_as, ctor_arity, ctor_bind, ctor_rest, flaw_both, leaves_stop}

@@ -1,4 +1,4 @@
-use Rattle.std.proofs.Common.{◌≡◌, sym, ◌∙◌, rules}
+use Rattle.std.proofs.Common.{sym}
 use Rattle.std.proofs.lemmas.List.{length-map}
 use Rattle.pp_typing.specs.Views.{shown}
 use Rattle.pp_typing.proofs.scope.depth.Goals as goal

@@ -1,4 +1,4 @@
-use Rattle.std.proofs.Common.{◌≡◌, drop, arith, ap, sym, ◌∙◌, length}
+use Rattle.std.proofs.Common.{drop, arith, ap, sym, ◌∙◌}
 use Rattle.std.proofs.lemmas.List.{take_all, length-drop}
 use Rattle.pp_rules.specs.Scope.{has_name}
 use Rattle.pp_typing.specs.Views.{scope_of}
