@@ -11,7 +11,7 @@ use Rattle.pp_induct.specs.declared.ends.CheckEnd.{CheckEnd}
 use Rattle.pp_induct.specs.declared.ends.CheckEnd.TheVariants.{Proved, Exhausted, Invalid, Open}
 use Rattle.pp_induct.specs.declared.ends.Why.TheVariants.{Rounds}
 use Rattle.pp_induct.specs.declared.limits.Limits.{Limits}
-use Rattle.pp_induct.specs.Laws.{ClosedAreDecided, FailingAreFound}
+use Rattle.pp_induct.specs.Laws.{ClosedAreDecided, FailingAreFound, PlainAreDecided}
 use Rattle.pp_induct.specs.Reports.{AreEnds, AreLimits, IsEnd, IsExhaustedIn, IsSearched, IsSearchedTo}
 use Rattle.pp_induct.specs.Supported.{AreSupported, IsSupported}
 
@@ -37,7 +37,7 @@ module _ (p : Program) (limits : Limits) where
   -- where the check is open for want of rounds, the last round was searched
   last_is_searched : (i : ℕ) (c : CheckId) (searched : Option ℕ) → IsEnd p limits i c (Open searched Rounds)
       → IsSearchedTo p limits i c limits.rounds
-  last_is_searched i c searched h = subst (IsSearched p limits i c) h.1 h.0
+  last_is_searched i c searched h = subst (IsSearched p limits i c) h.1.0 h.0
 
   -- an exhausted check isn't failed in a later round, for a run that isn't out of fuel lasts
   exhausted_never_fail : (i : ℕ) (c : CheckId) (n d : ℕ) (args : List Value) → IsExhaustedIn p limits i c n
@@ -51,6 +51,10 @@ pub closed_are_decided : ClosedAreDecided
 closed_are_decided p limits report is i c check closed searched at =
     let h = end_holds p limits report.checks is.ends i c check (Open searched Rounds) at in
     (last_is_searched p limits i c searched h).open_still closed
+
+pub plain_are_decided : PlainAreDecided
+plain_are_decided p limits report is i c check plain searched at =
+    (end_holds p limits report.checks is.ends i c check (Open searched Rounds) at).1.1 plain
 
 pub failing_are_found : FailingAreFound
 failing_are_found p limits report is i c check args failing = (

@@ -4,6 +4,7 @@ use Rattle.pp_prog.specs.declared.id.CheckId.{CheckId}
 use Rattle.pp_prog.specs.declared.program.Program.{Program}
 use Rattle.pp_prog.specs.declared.value.Value.{Value}
 use Rattle.pp_checks.specs.Closed.{Closed}
+use Rattle.pp_checks.specs.Plain.{IsPlain}
 use Rattle.pp_sound.specs.Counterexample.{IsCounterexample}
 use Rattle.pp_sound.specs.Sound.{IsCheckOf}
 use Rattle.pp_induct.specs.declared.ends.CheckEnd.TheVariants.{Exhausted, Open}
@@ -26,6 +27,12 @@ abbrev pub ClosedAreDecided : Type 0
 ClosedAreDecided =
     (p : Program) (limits : Limits) (report : Report) → IsReport p limits report → (i : ℕ) (c : CheckId)
     → IsCheckOf p i c.0 → Closed p.types p.functions i limits.rounds limits.depth → HasRoundsEnough report c
+
+-- a plain descent isn't open for want of rounds
+abbrev pub PlainAreDecided : Type 0
+PlainAreDecided =
+    (p : Program) (limits : Limits) (report : Report) → IsReport p limits report → (i : ℕ) (c : CheckId)
+    → IsCheckOf p i c.0 → IsPlain p.functions c.0 → HasRoundsEnough report c
 
 -- a check that arguments up to the asked depth fail, with the asked number of rounds as fuel, is neither exhausted nor
 -- open for want of rounds

@@ -1,13 +1,14 @@
 -- What stands behind a report: behind each end, and behind the verdicts. Source: own.
-use Rattle.std.specs.Prelude.{◌≡◌, ◌<◌, ◌≤◌, ℕ, suc, List, Option, Some, None, length, slice_get}
+use Rattle.std.specs.Prelude.{◌≡◌, ◌⊎◌, ◌<◌, ◌≤◌, ℕ, suc, List, Option, Some, None, length, slice_get}
 use Rattle.pp_clause.specs.declared.spent.Spent.{Spent}
 use Rattle.pp_prog.specs.declared.check.Check.{Check}
 use Rattle.pp_prog.specs.declared.id.CheckId.{CheckId}
 use Rattle.pp_prog.specs.declared.program.Program.{Program}
 use Rattle.pp_prog.specs.declared.value.Value.{Value}
 use Rattle.pp_checks.specs.Closed.{Closed}
+use Rattle.pp_checks.specs.Plain.{IsPlain}
 use Rattle.pp_estimate.specs.Estimates.{estimate}
-use Rattle.pp_evidence.specs.Evidence.{IsEvidence}
+use Rattle.pp_evidence.specs.Evidence.{IsProofEvidence, IsSearchEvidence}
 use Rattle.pp_sound.specs.Counterexample.{IsCounterexample}
 use Rattle.pp_induction.specs.Ends.{IsExhausted, IsProved, NoLowRunFails}
 use Rattle.pp_induct.specs.declared.ends.CheckEnd.{CheckEnd}
@@ -32,6 +33,10 @@ pub record AreLimits (limits : Limits) : Type 0 where
 abbrev pub next_round : Option ℕ → ℕ
 next_round None = 0
 next_round (Some n) = suc n
+
+-- the check is no plain descent: that would have been proved in the first round that was searched
+abbrev pub IsNotPlain : Program → CheckId → Type 0
+IsNotPlain p c = IsPlain p.functions c.0 → ⊥
 
 module _ (p : Program) (limits : Limits) (i : ℕ) (c : CheckId) where
   abbrev pub size_of : ℕ → ℕ
@@ -76,16 +81,27 @@ module _ (p : Program) (limits : Limits) (i : ℕ) (c : CheckId) where
     pub round : n ≤ limits.rounds
     pub size : limits.gates < size_of n
 
-  -- open by lemmas: the search of the next round has spent them
-  pub record IsOutOfLemmas (n : ℕ) (s : Spent) : Type 0 where
+  -- open by lemmas: the search of this round has spent them
+  pub record IsOutOfSearch (n : ℕ) (s : Spent) : Type 0 where
     pub begun : IsBegun n
-    pub evidence : IsEvidence p i c n limits.depth limits.lemmas s
+    pub evidence : IsSearchEvidence p i c n limits.depth limits.lemmas s
+
+  -- or the proof of this round, which was searched
+  pub record IsOutOfProof (n : ℕ) (s : Spent) : Type 0 where
+    pub not_plain : IsNotPlain p c
+    pub evidence : IsProofEvidence p i c n limits.depth limits.lemmas s
+
+  -- which of the two: the search of the first round; or that of the round after the last one that was searched, or the
+  -- proof of this one
+  abbrev pub IsOutOfLemmas : Option ℕ → Spent → Type 0
+  IsOutOfLemmas None s = IsOutOfSearch 0 s
+  IsOutOfLemmas (Some n) s = IsOutOfSearch (suc n) s ⊎ IsOutOfProof n s
 
   -- why the check is open after the rounds that were searched
   abbrev pub IsWhy : Option ℕ → Why → Type 0
-  IsWhy searched Rounds = searched ≡ Some limits.rounds
+  IsWhy searched Rounds = (searched ≡ Some limits.rounds) × IsNotPlain p c
   IsWhy searched Size = IsTooLarge (next_round searched)
-  IsWhy searched (Lemmas s) = IsOutOfLemmas (next_round searched) s
+  IsWhy searched (Lemmas s) = IsOutOfLemmas searched s
 
   -- the end of the check, which belongs to function number i
   abbrev pub IsEnd : CheckEnd → Type 0

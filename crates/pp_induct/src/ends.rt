@@ -4,8 +4,8 @@ use pp_clause::Spent;
 use pp_list::Items;
 use pp_prog::Values;
 
-/// Why a check is left open: the rounds are used up; a solver has spent its lemmas, with the evidence; the next round
-/// is estimated too large.
+/// Why a check is left open: the rounds are used up; a solver has spent its lemmas, in the search of the next round or
+/// in the proof of the last one, with the evidence; the next round is estimated too large.
 #[derive(Drop)]
 pub enum Why {
     Rounds,
@@ -13,8 +13,8 @@ pub enum Why {
     Size,
 }
 
-/// How the work on a check ended: a guess run that fails it was excluded in this round; all runs were searched in this
-/// round; these arguments fail it with this fuel; it is open, after a search up to the round, if there was one.
+/// How the work on a check ended: no guess run of this round fails it; all runs were searched in this round; these
+/// arguments fail it with this fuel; it is open, after a search up to the round, if there was one.
 #[derive(Drop)]
 pub enum CheckEnd {
     Proved(u32),

@@ -22,6 +22,15 @@ module _ (p : Program) (i : ℕ) (c : CheckId) where
       (f : Function) (args : List Value) → IsCalled p i f args → (W : Answering) → IsAnswering p W
       → guess p.types.ctors p.functions f c args n W ≢ fails
 
+  -- what that denies: some guess run of round n fails it
+  pub record GuessFails (n : ℕ) : Type 0 where
+    pub function : Function
+    pub args : List Value
+    pub called : IsCalled p i function args
+    pub answers : Answering
+    pub answering : IsAnswering p answers
+    pub failed : guess p.types.ctors p.functions function c args n answers ≡ fails
+
   -- no run with fuel n fails it
   abbrev pub NoRunFails : ℕ → Type 0
   NoRunFails n =

@@ -110,11 +110,13 @@ module _ (p : Program) (c : CheckId) (round depth : ℕ) (q : Question) (is : Is
       evidence : (lemmas : ℕ) (log : List Lemma) → IsSpentLog cs asked lemmas log
           → IsFound p c round depth lemmas (Spent (record { clauses = cs; assumptions = asked; log = log }))
       evidence lemmas log spent i check = record {
-        log = spent;
-        clauses = All-weaker (λ ls. All (IsOf q.circuit) ls)
-            (λ ls. All (IsAmong (estimate p.types p.functions p.checks c.0 round depth)) ls) lits_among cs
-            clauses.within;
-        assumptions = lits_among asked asked_of_circuit;
+        spent = record {
+          log = spent;
+          clauses = All-weaker (λ ls. All (IsOf q.circuit) ls)
+              (λ ls. All (IsAmong (estimate p.types p.functions p.checks c.0 round depth)) ls) lits_among cs
+              clauses.within;
+          assumptions = lits_among asked asked_of_circuit;
+        };
         exact = subst
             (λ ls. Satisfiable cs ls ↔ ((args : List Value) × IsCounterexample p i c round depth args))
             (sym same) (clauses_exact i check);

@@ -3,7 +3,7 @@ use Rattle.std.specs.Prelude.{ℕ, List}
 use Rattle.pp_prog.specs.declared.id.CheckId.{CheckId}
 use Rattle.pp_prog.specs.declared.program.Program.{Program}
 use Rattle.pp_prog.specs.declared.value.Value.{Value}
-use Rattle.pp_evidence.specs.Evidence.{IsEvidence}
+use Rattle.pp_evidence.specs.Evidence.{IsSearchEvidence}
 use Rattle.pp_sound.specs.Counterexample.{IsCounterexample}
 use Rattle.pp_sound.specs.Sound.{IsCheckOf}
 use Rattle.pp_query.specs.declared.found.Found.{Found}
@@ -14,7 +14,7 @@ module _ (p : Program) (c : CheckId) (round depth lemmas : ℕ) where
   abbrev pub IsFoundBy : ℕ → Found → Type 0
   IsFoundBy i (Args args) = IsCounterexample p i c round depth args
   IsFoundBy i Nothing = (args : List Value) → IsCounterexample p i c round depth args → ⊥
-  IsFoundBy i (Spent s) = IsEvidence p i c round depth lemmas s
+  IsFoundBy i (Spent s) = IsSearchEvidence p i c round depth lemmas s
 
   -- what is found holds of the function that the check belongs to
   abbrev pub IsFound : Found → Type 0

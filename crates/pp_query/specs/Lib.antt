@@ -1,2 +1,3 @@
 pub mod Question
 pub mod Found
+pub mod Proofs

@@ -1,6 +1,6 @@
 -- The ends of a check, round after round.
-use Rattle.std.proofs.Common.{◌≡◌, ℕ, zero, suc, ◌+◌, ◌≤◌, true, refl, sym, ◌∙◌, subst, arith, below_more}
-use Rattle.std.specs.Prelude.{List, [], ◌∷◌}
+use Rattle.std.proofs.Common.{◌≡◌, ℕ, zero, suc, ◌+◌, ◌<◌, ◌≤◌, true, refl, sym, ◌∙◌, subst, arith, below_more, inl, inr}
+use Rattle.std.specs.Prelude.{List, [], ◌∷◌, Some}
 use Rattle.std.proofs.lemmas.Bool.{and_parts}
 use Rattle.std.proofs.lemmas.List.Elements.{All-cons, All-nil, Contains-append_right}
 use Rattle.pp_clause.specs.declared.spent.Spent.{Spent}
@@ -14,12 +14,12 @@ use Rattle.pp_prog.specs.Sorts.{has_sort, have_sorts, param_sorts}
 use Rattle.pp_eval.proofs.Lasts.{lasts}
 use Rattle.pp_checks.specs.Closed.{AreUpTo, Closed}
 use Rattle.pp_run_laws.proofs.Nested.{nested_never_deep}
-use Rattle.pp_evidence.specs.Evidence.{IsEvidence}
-use Rattle.pp_induct.specs.declared.ends.CheckEnd.TheVariants.{Exhausted, Invalid}
+use Rattle.pp_evidence.specs.Evidence.{IsProofEvidence, IsSearchEvidence}
+use Rattle.pp_induct.specs.declared.ends.CheckEnd.TheVariants.{Exhausted, Invalid, Open, Proved}
 use Rattle.pp_induct.specs.declared.ends.Why.TheVariants.{Lemmas}
 use Rattle.pp_induct.specs.declared.limits.Limits.{Limits}
-use Rattle.pp_induct.specs.Reports.{IsBegun, IsEnd, IsOutOfLemmas, IsSearched, IsSearchedTo, next_round}
-use Rattle.pp_induction.specs.Ends.{NoLowRunFails, NoRunFails}
+use Rattle.pp_induct.specs.Reports.{IsBegun, IsEnd, IsNotPlain, IsOutOfLemmas, IsSearched, IsSearchedTo}
+use Rattle.pp_induction.specs.Ends.{NoGuessFails, NoLowRunFails, NoRunFails}
 use Rattle.pp_sound.specs.Counterexample.{AreLow, IsCounterexample}
 use Rattle.pp_verify.specs.Rounds.{HasSearchedBefore, IsRepeated, open_before, round_before}
 
@@ -33,10 +33,6 @@ are_low ctors (v ∷ vs) (s ∷ ss) h up_to have =
     All-cons (λ w. height w ≤ h) v vs (up_to s (0, omega arith, refl) v p.0)
     (are_low ctors vs ss h (λ t has. up_to t (Contains-append_right (s ∷ []) ss t has)) p.1)
 
-next_round_follows : (round : ℕ) → next_round (round_before round) ≡ round
-next_round_follows zero = refl
-next_round_follows (suc n) = refl
-
 -- a round whose runs are those of the round before finds nothing either
 module _ {p : Program} {limits : Limits} {i : ℕ} {c : CheckId} where
   pub repeated_is_searched : (round : ℕ) → HasSearchedBefore p limits i c round → IsBegun p limits i c round
@@ -45,6 +41,7 @@ module _ {p : Program} {limits : Limits} {i : ℕ} {c : CheckId} where
   repeated_is_searched (suc n) before begun nests = record {
     each = below_more (IsSearchedTo p limits i c) (suc n) before.each
         (record { begun = begun; none = none; open_still = open_still });
+    not_plain = λ first. before.not_plain (omega arith);
   }
     where
       last : IsSearchedTo p limits i c n
@@ -63,20 +60,18 @@ module _ {p : Program} {limits : Limits} {i : ℕ} {c : CheckId} where
 -- what stands behind the end of a check in a round that is begun, after rounds that found nothing
 module _ {p : Program} {limits : Limits} {i : ℕ} {c : CheckId} {round : ℕ}
     (before : HasSearchedBefore p limits i c round) (begun : IsBegun p limits i c round) where
-  searched_before : IsSearched p limits i c (round_before round)
-  searched_before = by round before
-    where
-      by : (n : ℕ) → HasSearchedBefore p limits i c n → IsSearched p limits i c (round_before n)
-      by zero before = tt
-      by (suc n) before = before.each n (omega arith)
+  searched_before : (n : ℕ) → HasSearchedBefore p limits i c n → IsSearched p limits i c (round_before n)
+  searched_before zero before = tt
+  searched_before (suc n) before = before.each n (omega arith)
 
-  pub open_by_lemmas : (s : Spent) → IsEvidence p i c round limits.depth limits.lemmas s
+  pub open_by_search : (s : Spent) → IsSearchEvidence p i c round limits.depth limits.lemmas s
       → IsEnd p limits i c (open_before round (Lemmas s))
-  open_by_lemmas s evidence = (
-    searched_before,
-    subst (λ n. IsOutOfLemmas p limits i c n s) (sym (next_round_follows round))
-        (record { begun = begun; evidence = evidence }),
-  )
+  open_by_search s evidence = (searched_before round before, by round begun evidence)
+    where
+      by : (n : ℕ) → IsBegun p limits i c n → IsSearchEvidence p i c n limits.depth limits.lemmas s
+          → IsOutOfLemmas p limits i c (round_before n) s
+      by zero begun evidence = record { begun = begun; evidence = evidence }
+      by (suc n) begun evidence = inl (record { begun = begun; evidence = evidence })
 
   pub invalid_by : (args : List Value) → IsCounterexample p i c round limits.depth args
       → IsEnd p limits i c (Invalid args round)
@@ -106,9 +101,5 @@ module _ {p : Program} {limits : Limits} {i : ℕ} {c : CheckId} {round : ℕ}
             (are_low p.types.ctors args (param_sorts f.params) limits.depth (closed.low f called.function)
             called.arguments)
 
-    pub one_more_searched : (Closed p.types p.functions i round limits.depth → ⊥)
-        → HasSearchedBefore p limits i c (round + 1)
-    one_more_searched still = record {
-      each = below_more (IsSearchedTo p limits i c) round before.each
-          (record { begun = begun; none = no_low_run_fails; open_still = still });
-    }
+    pub is_searched : (Closed p.types p.functions i round limits.depth → ⊥) → IsSearchedTo p limits i c round
+    is_searched still = record { begun = begun; none = no_low_run_fails; open_still = still }

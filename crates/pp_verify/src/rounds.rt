@@ -1,22 +1,22 @@
 //! The rounds of a check.
 
-ghost use Rattle.std.specs.Prelude.{◌≡◌, ◌≤◌, IfOk};
+ghost use Rattle.std.specs.Prelude.{◌≡◌, IfOk};
 ghost use Rattle.pp_checks.specs.Plan.{IsPlanOf};
-ghost use Rattle.pp_induct.specs.Reports.{AreLimits, IsBegun, IsEnd};
+ghost use Rattle.pp_induct.specs.Reports.{AreLimits, IsBegun, IsEnd, IsSearchedTo};
 ghost use Rattle.pp_sound.specs.Sound.{IsCheckOf};
-ghost use Rattle.pp_verify.specs.Rounds.{HasSearchedBefore, RoundGives, TellsRepeated};
+ghost use Rattle.pp_verify.specs.Rounds.{HasCome, StepGives, TellsRepeated};
 ghost use Rattle.pp_verify.specs.Rounds as spec;
 
 use crate::NoMemory;
+use crate::progress::{Progress, Step};
 use pp_checks::Plan;
 use pp_estimate::estimate;
 use pp_induct::{CheckEnd, Limits, Why};
 use pp_prog::{CheckId, FunctionId, Program};
-use pp_query::{Found, search};
+use pp_query::{Found, Proof, prove, search};
 use std::alloc::Global;
 
-/// Works on a check of the function in rounds 0, 1 and so on, until a round ends it or the asked number of rounds is
-/// reached.
+/// Works on a check of the function in rounds 0, 1 and so on, until a round ends it.
 pub(crate) fn end_of_check(
     alloc: Global,
     program: &Program,
@@ -30,42 +30,42 @@ pub(crate) fn end_of_check(
     requires limits { AreLimits limits }
     ensures { IfOk result (λ end. IsEnd program.now limits function.0 check end) }
 {
-    for round in 0..limits.rounds + 1 {
-        if let Some(end) = work_on_round(alloc, program, plan, function, check, round, limits)? {
-            return Ok(end);
+    let mut progress = Progress {
+        function,
+        check,
+        round: 0,
+    };
+    loop {
+        match step(alloc, program, plan, limits, progress)? {
+            Step::Ended(end) => return Ok(end),
+            Step::Next(next) => progress = next,
         }
     }
-    Ok(CheckEnd::Open {
-        searched: Some(limits.rounds),
-        why: Why::Rounds,
-    })
 }
 
-/// One round of the check: its end, or None where another round may follow.
-fn work_on_round(
+/// One round of the work on a check: its end, or how far the work has come. The round isn't begun where its estimate is
+/// above the asked number of gates, and is passed over where its runs are those of the round before.
+fn step(
     alloc: Global,
     program: &Program,
     plan: &Plan,
-    function: FunctionId,
-    check: CheckId,
-    round: u32,
     limits: Limits,
-) -> Result<Option<CheckEnd>, NoMemory>
+    progress: Progress,
+) -> Result<Step, NoMemory>
     requires plan { IsPlanOf plan.now program.now }
-    requires check { IsCheckOf program.now function.0 check.0 }
     requires limits { AreLimits limits }
-    requires round { round ≤ limits.rounds }
-    requires before { HasSearchedBefore program.now limits function.0 check round }
-    ensures { IfOk result (λ end. RoundGives program.now limits function.0 check round end) }
+    requires come { HasCome program.now limits progress }
+    ensures { IfOk result (λ step. StepGives program.now limits progress step) }
 {
-    let size = estimate(alloc, program, plan, check, round, limits.depth)?;
+    let round = progress.round;
+    let size = estimate(alloc, program, plan, progress.check, round, limits.depth)?;
     if size > limits.gates {
-        return Ok(Some(open_before(round, Why::Size)));
+        return Ok(Step::Ended(open_before(round, Why::Size)));
     }
-    if is_repeated(plan, function, round) {
-        return Ok(None);
+    if is_repeated(plan, progress.function, round) {
+        return Ok(progress.after(limits));
     }
-    search_round(alloc, program, plan, function, check, round, limits)
+    search_round(alloc, program, plan, limits, progress)
 }
 
 /// Whether no call was left to unfold in the round before, so that this one's runs are the same.
@@ -75,42 +75,65 @@ fn is_repeated(plan: &Plan, function: FunctionId, round: u32) -> bool
     round > 0 && plan.nested(function, round - 1)
 }
 
-/// The search of a round that is begun: the end of the check, or None where another round may follow.
+/// A round that is begun: the search, and the proof where nothing is found and the function isn't closed.
 fn search_round(
     alloc: Global,
     program: &Program,
     plan: &Plan,
-    function: FunctionId,
-    check: CheckId,
-    round: u32,
     limits: Limits,
-) -> Result<Option<CheckEnd>, NoMemory>
+    progress: Progress,
+) -> Result<Step, NoMemory>
     requires plan { IsPlanOf plan.now program.now }
-    requires check { IsCheckOf program.now function.0 check.0 }
     requires limits { AreLimits limits }
-    requires before { HasSearchedBefore program.now limits function.0 check round }
-    requires begun { IsBegun program.now limits function.0 check round }
-    ensures { IfOk result (λ end. RoundGives program.now limits function.0 check round end) }
+    requires come { HasCome program.now limits progress }
+    requires begun { IsBegun program.now limits progress.function.0 progress.check progress.round }
+    ensures { IfOk result (λ step. StepGives program.now limits progress step) }
 {
+    let round = progress.round;
     let found = search(
         alloc,
         program,
         plan,
-        check,
+        progress.check,
         round,
         limits.depth,
         limits.lemmas,
     )?;
     match found {
-        Found::Args(args) => Ok(Some(CheckEnd::Invalid(args, round))),
-        Found::Spent(spent) => Ok(Some(open_before(round, Why::Lemmas(spent)))),
+        Found::Args(args) => Ok(Step::Ended(CheckEnd::Invalid(args, round))),
+        Found::Spent(spent) => Ok(Step::Ended(open_before(round, Why::Lemmas(spent)))),
         Found::Nothing => {
-            if plan.closed(function, round, limits.depth) {
-                return Ok(Some(CheckEnd::Exhausted(round)));
+            if plan.closed(progress.function, round, limits.depth) {
+                return Ok(Step::Ended(CheckEnd::Exhausted(round)));
             }
-            // Here a proof by guess runs comes in, once there is one.
-            Ok(None)
+            prove_round(alloc, program, plan, limits, progress)
         }
+    }
+}
+
+/// The proof of a round that was searched.
+fn prove_round(
+    alloc: Global,
+    program: &Program,
+    plan: &Plan,
+    limits: Limits,
+    progress: Progress,
+) -> Result<Step, NoMemory>
+    requires plan { IsPlanOf plan.now program.now }
+    requires limits { AreLimits limits }
+    requires come { HasCome program.now limits progress }
+    requires searched { IsSearchedTo program.now limits progress.function.0 progress.check progress.round }
+    ensures { IfOk result (λ step. StepGives program.now limits progress step) }
+{
+    let round = progress.round;
+    let proof = prove(alloc, program, plan, progress.check, round, limits.lemmas)?;
+    match proof {
+        Proof::Proved => Ok(Step::Ended(CheckEnd::Proved(round))),
+        Proof::Spent(spent) => Ok(Step::Ended(CheckEnd::Open {
+            searched: Some(round),
+            why: Why::Lemmas(spent),
+        })),
+        Proof::NotProved => Ok(progress.after(limits)),
     }
 }
 

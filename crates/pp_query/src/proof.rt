@@ -1,0 +1,11 @@
+//! What a proof answers.
+
+use pp_clause::Spent;
+
+/// No guess run fails the check; that isn't shown; or the evidence that the solver has spent its lemmas.
+#[derive(Drop)]
+pub enum Proof {
+    Proved,
+    NotProved,
+    Spent(Spent),
+}

@@ -1,0 +1,41 @@
+//! How far the work on a check has come.
+
+ghost use Rattle.std.specs.Prelude.{◌≡◌, ◌≤◌};
+ghost use Rattle.pp_verify.specs.Rounds.{step_after};
+
+use pp_induct::{CheckEnd, Limits, Why};
+use pp_prog::{CheckId, FunctionId};
+
+/// How far the work on a check of the function has come: the round that comes next.
+#[derive(Clone, Copy)]
+pub(crate) struct Progress {
+    pub(crate) function: FunctionId,
+    pub(crate) check: CheckId,
+    pub(crate) round: u32,
+}
+
+/// What a round gives: the end of the check, or how far the work has come.
+#[derive(Drop)]
+pub(crate) enum Step {
+    Ended(CheckEnd),
+    Next(Progress),
+}
+
+impl Progress {
+    /// What follows a round that ended nothing: the next one, or that the check is open, where this was the last round.
+    pub(crate) fn after(self, limits: Limits) -> Step
+        requires { self.round ≤ 12 }
+        ensures { result ≡ step_after limits self }
+    {
+        if self.round == limits.rounds {
+            return Step::Ended(CheckEnd::Open {
+                searched: Some(self.round),
+                why: Why::Rounds,
+            });
+        }
+        Step::Next(Progress {
+            round: self.round + 1,
+            ..self
+        })
+    }
+}
