@@ -1,5 +1,5 @@
 -- What is read back from the line of a function is what was printed, and it is true.
-use Rattle.std.proofs.Common.{◌≡◌, ◌∙◌, ◌^◌, ◌<◌, ℕ, List, refl, sym, ap, subst, inl, arith}
+use Rattle.std.proofs.Common.{◌≡◌, ◌∙◌, ◌^◌, ◌<◌, ℕ, List, refl, sym, ap, subst, inl, inr, arith}
 use Rattle.std.specs.Prelude.{Option, None, Some, nat_eq, slice_get}
 use Rattle.std.proofs.lemmas.List.Sums.{count_by-le-length}
 use Rattle.pp_answers.proofs.Alike.{check_there, counterexample_there, good_there, none_there}
@@ -10,11 +10,13 @@ use Rattle.pp_answers.proofs.Meaning.{EachTold}
 use Rattle.pp_answers.proofs.Once.{AreAlike, one_program, swapped}
 use Rattle.pp_answers.specs.Answers.{IsAccepted, accepted, refused}
 use Rattle.pp_answers.specs.Laws.{LinesReadBack}
-use Rattle.pp_answers.specs.Readings.{IsReadBack, Means, MeansReason, MeansSearched}
+use Rattle.pp_answers.specs.Readings.{IsReadBack, Means, MeansReason, MeansSearched, MeansSpent}
+use Rattle.pp_checks.specs.Plain.{IsPlain}
+use Rattle.pp_clause.specs.declared.spent.Spent.{Spent}
 use Rattle.pp_estimate.specs.Estimates.{estimate}
 use Rattle.pp_eval.specs.Runs.{AreArguments, IsGood}
 use Rattle.pp_front.proofs.Spelled.{each_spells}
-use Rattle.pp_induct.specs.Reports.{AreLimits, IsSearched, IsWhy, next_round}
+use Rattle.pp_induct.specs.Reports.{AreLimits, IsNotPlain, IsOutOfLemmas, IsSearched, IsWhy, next_round}
 use Rattle.pp_induct.specs.declared.ends.Why.{Why}
 use Rattle.pp_induct.specs.declared.ends.Why.TheVariants as why
 use Rattle.pp_induct.specs.declared.limits.Limits.{Limits}
@@ -82,10 +84,16 @@ module _ (p : Program) (limits : Limits) (i : ℕ) (f : Function) (line : List �
   searched_means c None is = tt
   searched_means c (Some n) is = (is.begun.round, is.none)
 
+  spent_means : (c : CheckId) (searched : Option ℕ) (s : Spent) → IsOutOfLemmas p limits i c searched s
+      → MeansSpent limits p i f searched c
+  spent_means c None s is = tt
+  spent_means c (Some n) s (inl search) = inl search.begun.round
+  spent_means c (Some n) s (inr proof) = inr proof.not_plain
+
   reason_means : (c : CheckId) (searched : Option ℕ) (w : Why) → IsWhy p limits i c searched w
       → MeansReason limits p i f searched c (reason_of w)
   reason_means c searched why.Rounds is = is
-  reason_means c searched (why.Lemmas s) is = is.begun.round
+  reason_means c searched (why.Lemmas s) is = spent_means c searched s is
   reason_means c searched why.Size is = (is.round, is.size)
 
   pub meant : (v : Verdict) (t : Tells p limits i f line v) → (v ≡ Valid → IsGood p.types.ctors p.functions f)
@@ -141,10 +149,19 @@ module _ (p q : Program) (alike : AreAlike p q) (i : ℕ) (f : Function) (line :
   searched_there limits None c h = tt
   searched_there limits (Some n) c h = (h.0, none_there p q alike limits i f line c n limits.depth h.1)
 
+  not_plain_there : (c : CheckId) → IsNotPlain p c → IsNotPlain q c
+  not_plain_there c = subst (λ fs. IsPlain fs c.0 → ⊥) alike.functions
+
+  spent_there : (limits : Limits) (searched : Option ℕ) (c : CheckId) → MeansSpent limits p i f searched c
+      → MeansSpent limits q i f searched c
+  spent_there limits None c h = tt
+  spent_there limits (Some n) c (inl asked) = inl asked
+  spent_there limits (Some n) c (inr not_plain) = inr (not_plain_there c not_plain)
+
   reason_there : (limits : Limits) (searched : Option ℕ) (c : CheckId) (w : Reason)
       → MeansReason limits p i f searched c w → MeansReason limits q i f searched c w
-  reason_there limits searched c reason.Rounds h = h
-  reason_there limits searched c reason.Lemmas h = h
+  reason_there limits searched c reason.Rounds h = (h.0, not_plain_there c h.1)
+  reason_there limits searched c reason.Lemmas h = spent_there limits searched c h
   reason_there limits searched c reason.Size h =
       (h.0, subst (λ n. limits.gates < n) (same_estimate c.0 (next_round searched) limits.depth) h.1)
 

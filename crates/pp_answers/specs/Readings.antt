@@ -1,8 +1,9 @@
 -- What is read back from the line of a function, and from the whole text of a report. Source: own.
-use Rattle.std.specs.Prelude.{◌≡◌, ◌<◌, ◌≤◌, ℕ, Bool, true, false, List, Option, Some, None, count_by, slice_get}
+use Rattle.std.specs.Prelude.{◌≡◌, ◌⊎◌, ◌<◌, ◌≤◌, ℕ, suc, Bool, true, false, List, Option, Some, None, count_by}
+use Rattle.std.specs.Prelude.{slice_get}
 use Rattle.pp_eval.specs.Runs.{IsGood}
 use Rattle.pp_estimate.specs.Estimates.{estimate}
-use Rattle.pp_induct.specs.Reports.{next_round}
+use Rattle.pp_induct.specs.Reports.{IsNotPlain, next_round}
 use Rattle.pp_induct.specs.declared.limits.Limits.{Limits}
 use Rattle.pp_induction.specs.Ends.{NoLowRunFails}
 use Rattle.pp_line_contents.specs.Contents.{Content, Prints, depending, failed, left_open, valid}
@@ -23,14 +24,20 @@ module _ (limits : Limits) (p : Program) (i : ℕ) (f : Function) where
   MeansSearched None c = Unit {0}
   MeansSearched (Some n) c = (n ≤ limits.rounds) × NoLowRunFails p i c n limits.depth
 
-  -- `rounds`: all asked rounds were searched. `size`: the estimate of the next round, which is asked for, is above the
-  -- asked number of gates. `lemmas`: the next round is asked for.
+  -- which query has spent its lemmas, the search of the next round, which is asked for, or the proof of the round that
+  -- is named, of a check that is no plain descent: the line says that it is one of the two
+  abbrev pub MeansSpent : Option ℕ → CheckId → Type 0
+  MeansSpent None c = Unit {0}
+  MeansSpent (Some n) c = (suc n ≤ limits.rounds) ⊎ IsNotPlain p c
+
+  -- `rounds`: all asked rounds were searched, and the check is no plain descent. `size`: the estimate of the next round,
+  -- which is asked for, is above the asked number of gates. `lemmas`: a search or a proof has spent them.
   abbrev pub MeansReason : Option ℕ → CheckId → Reason → Type 0
-  MeansReason searched c reason.Rounds = searched ≡ Some limits.rounds
+  MeansReason searched c reason.Rounds = (searched ≡ Some limits.rounds) × IsNotPlain p c
   MeansReason searched c reason.Size =
       (next_round searched ≤ limits.rounds)
       × (limits.gates < estimate p.types p.functions p.checks c.0 (next_round searched) limits.depth)
-  MeansReason searched c reason.Lemmas = next_round searched ≤ limits.rounds
+  MeansReason searched c reason.Lemmas = MeansSpent searched c
 
   -- What a content says of function number i. It has so many checks. If it is valid it is good: every call that meets
   -- the precondition evaluates, with some fuel, to a value that meets the postcondition. The function on which it

@@ -76,8 +76,7 @@ after_gives p limits progress come more = by (nat_eq progress.round limits.round
         → StepGives p limits progress (if b then Ended (Open (Some progress.round) Rounds) else Next further)
     by true e = (
       more.each progress.round (omega arith),
-      ap Some (eqb-true progress.round limits.rounds e),
-      more.not_plain (omega arith),
+      (ap Some (eqb-true progress.round limits.rounds e), more.not_plain (omega arith)),
     )
     by false e =
         let differ : progress.round ≡ limits.rounds → ⊥ =
