@@ -20,7 +20,7 @@ use Rattle.pp_steps.specs.Meaning.{Missing, ctor_field, ctor_field_in, has_ctor,
 pub ctor_field_is : (missing : Missing) (c : CtorId) (place : ℕ) (v u : Value) (fields : List Value)
     → v ≡ Tree c fields → slice_get fields place ≡ Some u → ctor_field missing c place v ≡ u
 ctor_field_is missing c place v u fields is at =
-    let d = missing c place in
+    let d = missing.field c place in
     ap (ctor_field missing c place) is ∙ ap (ctor_field_in d c place) (outs-Tree c fields)
     ∙ ap (λ (b : Bool). if b then value_or d (found (slice_get fields place)) else d) (eq-eqb c.0 c.0 refl)
     ∙ ap (λ o. value_or d (found o)) at
@@ -56,7 +56,7 @@ has_ctor_is ctors c k n v at many h = record {
 -- the value that a step reads in a field is what the operand has there
 pub field_is_of : (ctors : List Ctor) (n : Naming) (missing : Missing) (c : CtorId) (k : Ctor) (place : ℕ) (s : Sort)
     (v u : Value) → slice_get ctors c.0 ≡ Some k → slice_get k.fields place ≡ Some s
-    → has_sort ctors v (sort.Tree k.of) ≡ true → u ≡ ctor_field missing c place v → IsDefault n s (missing c place)
+    → has_sort ctors v (sort.Tree k.of) ≡ true → u ≡ ctor_field missing c place v → IsDefault n s (missing.field c place)
     → IsFieldOf n c place s v u
 field_is_of ctors n missing c k place s v u entry field sorted does default =
     by (nat_eq c.0 t.ctor.0) refl
@@ -72,7 +72,7 @@ field_is_of ctors n missing c k place s v u entry field sorted does default =
         (fields_sorted ctors c k k.of v t.fields entry sorted is) field in
         own t.fields is (f.1 ∙ ap Some (sym (does ∙ ctor_field_is missing c place v f.0 t.fields is f.1)))
     by false e =
-        let d = missing c place in
+        let d = missing.field c place in
         let value : u ≡ d = does ∙ ap (ctor_field missing c place) t.is
         ∙ ap (ctor_field_in d c place) (outs-Tree t.ctor t.fields)
         ∙ ap (λ (b : Bool). if b then value_or d (found (slice_get t.fields place)) else d) e in

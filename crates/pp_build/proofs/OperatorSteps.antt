@@ -16,11 +16,15 @@ use Rattle.pp_domain.specs.Moves.{Moves}
 use Rattle.pp_prog.specs.Sorts.{has_sort}
 use Rattle.pp_eval.specs.Measure.{goes_down}
 use Rattle.pp_eval.specs.Operators.{unary as unary_value}
+use Rattle.pp_steps.specs.declared.step.OpenCall.{OpenCall}
+use Rattle.pp_steps.specs.declared.step.Step.{Step}
 use Rattle.pp_steps.specs.declared.step.Step.TheVariants as steps
-use Rattle.pp_steps.specs.Gates.{binary_gates}
+use Rattle.pp_steps.specs.Gates.{Heights, binary_gates, height_of}
+use Rattle.pp_steps.specs.Known.{Tells}
+use Rattle.pp_steps.specs.Sorted.{Sorts}
 use Rattle.pp_domain.specs.Allowance.{bits_at, nodes_at}
 use Rattle.pp_build.proofs.StepGates.{keeps_same}
-use Rattle.pp_steps.specs.Meaning.{applied, value_or}
+use Rattle.pp_steps.specs.Meaning.{Values, applied, value_or}
 use Rattle.pp_build_operators.specs.Budget.{goes_down_gates, is_equality, operator_gates}
 use Rattle.pp_build_operators.specs.Operated.{IsBinary, IsDescent, IsUnary, StandsAs}
 use Rattle.pp_build.specs.Performed.{CanPerform, Performs}
@@ -33,25 +37,43 @@ use Rattle.pp_build.proofs.Gates.{goes_down_gates_are, operator_gates_are}
 module _ {D T : Type 0} (m : Sense D T) (types : TypeTable) (d : D) (gs : List Gate) (rs : List (Symbol T)) where
   -- ---- a step of which nothing is known
 
-  pub unknown_performed : (s : Sort) (e : D) (hs : List Gate) (r : Symbol T)
-      → IsUnknownSymbol m types d gs e hs s 0 r → Performs m types d gs rs (steps.Open s) e hs r
-  unknown_performed s e hs r unknown can = record {
-    of = subst (λ q. IsSymbol m e hs q r) (sym can.sorted.0) unknown.of;
-    high = unknown.height ∙ no_height s;
+  -- a step of this sort that tells nothing has an unknown symbol
+  nothing_told : (step : Step) (s : Sort)
+      → ((can : CanPerform m types d gs rs step) → can.sorts (length rs) ≡ s)
+      → ((σ : Sorts) (η : Heights) → height_of types σ η (length rs) step ≡ 0)
+      → ((ρ : Values) (K : ℕ → Type 0) → Tells ρ K step (length rs))
+      → (e : D) (hs : List Gate) (r : Symbol T)
+      → IsUnknownSymbol m types d gs e hs s 0 r → Performs m types d gs rs step e hs r
+  nothing_told step s of_sort low tells e hs r unknown can = record {
+    of = subst (λ q. IsSymbol m e hs q r) (sym (of_sort can)) unknown.of;
+    high = unknown.height ∙ no_height s ∙ sym (low can.sorts can.heights);
     extends = λ exact n a good. unknown.extends exact refl n a good;
-    looks = keeps_same m types d e can.sorts (length rs) (steps.Open s) (λ inexact. unknown.looks);
+    looks = keeps_same m types d e can.sorts (length rs) step (λ inexact. unknown.looks);
     follows = λ inexact n a ρ missing follow.
         let k = length rs in
         unknown.named inexact n a (ρ k) follow.good
-        (subst (λ q. has_sort types.ctors (ρ k) q ≡ true) can.sorted.0 (follow.are.sorted k (omega arith)))
+        (subst (λ q. has_sort types.ctors (ρ k) q ≡ true) (of_sort can) (follow.are.sorted k (omega arith)))
         (follow.are.named k (omega arith)).whole;
-    known = λ n a ρ missing good compared is. tt;
+    known = λ n a ρ missing good compared is. tells ρ _;
   }
     where
       no_height : (q : Sort) → height_at 0 q ≡ 0
       no_height sort.Int = refl
       no_height sort.Bool = refl
       no_height (sort.Tree of) = refl
+
+  pub unknown_performed : (s : Sort) (e : D) (hs : List Gate) (r : Symbol T)
+      → IsUnknownSymbol m types d gs e hs s 0 r → Performs m types d gs rs (steps.Open s) e hs r
+  unknown_performed s = nothing_told (steps.Open s) s (λ can. can.sorted.0) (λ σ η. refl) (λ ρ K. tt)
+
+  pub has_answer_performed : (c : OpenCall) (e : D) (hs : List Gate) (r : Symbol T)
+      → IsUnknownSymbol m types d gs e hs sort.Bool 0 r → Performs m types d gs rs (steps.HasAnswer c) e hs r
+  has_answer_performed c =
+      nothing_told (steps.HasAnswer c) sort.Bool (λ can. can.sorted.1) (λ σ η. refl) (λ ρ K. tt)
+
+  pub answer_performed : (c : OpenCall) (e : D) (hs : List Gate) (r : Symbol T)
+      → IsUnknownSymbol m types d gs e hs c.result 0 r → Performs m types d gs rs (steps.Answer c) e hs r
+  answer_performed c = nothing_told (steps.Answer c) c.result (λ can. can.sorted.1) (λ σ η. refl) (λ ρ K. tt)
 
   -- ---- one operand
 
@@ -92,7 +114,7 @@ module _ {D T : Type 0} (m : Sense D T) (types : TypeTable) (d : D) (gs : List G
         (λ exact n a good. made.0.extends n a good (exactly m _ exact))
         (λ inexact n a ρ missing follow. made.0.extends n a follow.good
         (λ _. (ρ i ∷ ρ j ∷ [], (follow.stand i x left, (follow.stand j y right, tt)))))
-        (λ n a ρ missing good is one other defined.
+        (λ n a ρ missing good is one other.
         step_known m types e a n can.sorts ρ rs r (value_or (Truth false) (applied op (ρ i) (ρ j))) is
         (made.1 n a (ρ i) (ρ j) good (operand_stands m types e a n can.sorts ρ rs r i x left one)
         (operand_stands m types e a n can.sorts ρ rs r j y right other)))

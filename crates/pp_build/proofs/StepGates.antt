@@ -80,6 +80,8 @@ module _ {D T : Type 0} (m : Sense D T) (types : TypeTable) where
     step_gates_le xs ys j k i (steps.Field a n) fewer le = sort_look_le xs ys j k (σ a) fewer le
     step_gates_le xs ys j k i (steps.IsAlike a b) fewer le = omega arith
     step_gates_le xs ys j k i (steps.GoesDown a b) fewer le = omega arith
+    step_gates_le xs ys j k i (steps.HasAnswer c) fewer le = omega arith
+    step_gates_le xs ys j k i (steps.Answer c) fewer le = omega arith
 
     pub all_step_gates_le : (xs ys : List DataId) (j k i : ℕ) (ss : List Step) → AtMostIn xs ys → j ≤ k
         → all_step_gates m types σ η xs j i ss ≤ all_step_gates m types σ η ys k i ss
@@ -158,6 +160,8 @@ module _ {D T : Type 0} (m : Sense D T) (types : TypeTable) (exact : m.exact ≡
   pub exact_gates : (looks : List DataId) (compares k : ℕ) (s : Step)
       → step_gates m types σ η looks compares k s ≡ gates_of types σ η k s
   exact_gates looks compares k (steps.Open s) = exact_opened 0 s
+  exact_gates looks compares k (steps.HasAnswer c) = refl
+  exact_gates looks compares k (steps.Answer c) = exact_opened 0 c.result
   exact_gates looks compares k (steps.Int n) = refl
   exact_gates looks compares k (steps.Bool b) = refl
   exact_gates looks compares k (steps.Not a) = refl

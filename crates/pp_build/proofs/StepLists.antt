@@ -87,7 +87,7 @@ tells_map ρ K J k (steps.Choose c a b) reads back on tells =
     λ x one other. on (tells (back c reads.0 x) (λ e. back a reads.1 (one e)) (λ e. back b reads.2 (other e)))
 tells_map ρ K J k (steps.Unary op a) reads back on tells = λ x. on (tells (back a reads x))
 tells_map ρ K J k (steps.Binary op a b) reads back on tells =
-    λ x y defined. on (tells (back a reads.0 x) (back b reads.1 y) defined)
+    λ x y. on (tells (back a reads.0 x) (back b reads.1 y))
 tells_map ρ K J k (steps.Construct c fields) reads back on tells =
     λ all. on (tells (all_map K J k fields reads back all))
 tells_map ρ K J k (steps.IsCtor c n a) reads back on tells = λ x. on (tells (back a reads x))
@@ -96,6 +96,8 @@ tells_map ρ K J k (steps.CtorField c i a) reads back on tells =
 tells_map ρ K J k (steps.Field a i) reads back on tells = λ x. on (tells (back a reads x))
 tells_map ρ K J k (steps.IsAlike a b) reads back on tells = λ x y. on (tells (back a reads.0 x) (back b reads.1 y))
 tells_map ρ K J k (steps.GoesDown a b) reads back on tells = λ x y. on (tells (back a reads.0 x) (back b reads.1 y))
+tells_map ρ K J k (steps.HasAnswer c) reads back on tells = tt
+tells_map ρ K J k (steps.Answer c) reads back on tells = tt
 
 -- each step of a list tells, if the one at each place does
 pub all_tell : (ctors : List Ctor) (missing : Missing) (ρ : Values) (K : ℕ → Type 0) (j : ℕ) (ss : List Step)

@@ -16,7 +16,7 @@ use Rattle.pp_domain.proofs.Symbols.{SymbolStands_later}
 use Rattle.pp_steps.specs.declared.step.Step.{Step}
 use Rattle.pp_steps.specs.declared.step.Step.TheVariants as steps
 use Rattle.pp_steps.specs.Gates.{Heights}
-use Rattle.pp_steps.specs.Known.{IsDefined, Tells}
+use Rattle.pp_steps.specs.Known.{Tells}
 use Rattle.pp_steps.specs.Meaning.{Does, Missing, Values}
 use Rattle.pp_steps.specs.Reads.{Below, Reads}
 use Rattle.pp_steps.specs.Sorted.{Sorts}
@@ -32,7 +32,8 @@ use Rattle.pp_steps.specs.Gates.{height_of}
 abbrev pub IsDetermined : Values → Step → Type 0
 IsDetermined ρ (steps.Open s) = ⊥
 IsDetermined ρ (steps.CtorField c i a) = (fields : List Value) × (ρ a ≡ Tree c fields)
-IsDetermined ρ (steps.Binary op a b) = IsDefined op (ρ b)
+IsDetermined ρ (steps.HasAnswer c) = ⊥
+IsDetermined ρ (steps.Answer c) = ⊥
 IsDetermined ρ s = Unit {0}
 
 all_below : (K : ℕ → Type 0) (k : ℕ) (ns : List ℕ) → Below k ns → ((i : ℕ) → i < k → K i) → All K ns
@@ -49,13 +50,15 @@ told ρ K k (steps.Both a b) reads is all tells = tells (all a reads.0) (λ e. a
 told ρ K k (steps.Choose c a b) reads is all tells =
     tells (all c reads.0) (λ e. all a reads.1) (λ e. all b reads.2)
 told ρ K k (steps.Unary op a) reads is all tells = tells (all a reads)
-told ρ K k (steps.Binary op a b) reads is all tells = tells (all a reads.0) (all b reads.1) is
+told ρ K k (steps.Binary op a b) reads is all tells = tells (all a reads.0) (all b reads.1)
 told ρ K k (steps.Construct c fields) reads is all tells = tells (all_below K k fields reads all)
 told ρ K k (steps.IsCtor c n a) reads is all tells = tells (all a reads)
 told ρ K k (steps.CtorField c i a) reads is all tells = tells (all a reads) is.0 is.1
 told ρ K k (steps.Field a i) reads is all tells = tells (all a reads)
 told ρ K k (steps.IsAlike a b) reads is all tells = tells (all a reads.0) (all b reads.1)
 told ρ K k (steps.GoesDown a b) reads is all tells = tells (all a reads.0) (all b reads.1)
+told ρ K k (steps.HasAnswer c) reads is all tells = absurd is
+told ρ K k (steps.Answer c) reads is all tells = absurd is
 
 module _ {D T : Type 0} (m : Sense D T) (types : TypeTable) (d e : D) (gs hs : List Gate) (k : ℕ)
     (moves : Moves m types d gs e hs k) (σ : Sorts) (η : Heights) (rs : List (Symbol T))
@@ -91,6 +94,8 @@ abbrev pub IsPlain : Step → Type 0
 IsPlain (steps.Open s) = ⊥
 IsPlain (steps.CtorField c i a) = ⊥
 IsPlain (steps.GoesDown a b) = ⊥
+IsPlain (steps.HasAnswer c) = ⊥
+IsPlain (steps.Answer c) = ⊥
 IsPlain s = Unit {0}
 
 -- in an exact domain each step compares well
@@ -110,6 +115,8 @@ all_compared m types σ (steps.CtorField c i a) exact = tt
 all_compared m types σ (steps.Field a i) exact = tt
 all_compared m types σ (steps.IsAlike a b) exact = tt
 all_compared m types σ (steps.GoesDown a b) exact = λ of same. exact
+all_compared m types σ (steps.HasAnswer c) exact = tt
+all_compared m types σ (steps.Answer c) exact = tt
 
 determined : (n : Naming) (σ : Sorts) (ρ : Values) (missing : Missing) (k : ℕ) (s : Step) → IsPlain s
     → HasDefault n σ ρ missing k s → IsDetermined ρ s
@@ -120,13 +127,15 @@ determined n σ ρ missing k (steps.Not a) plain default = tt
 determined n σ ρ missing k (steps.Both a b) plain default = tt
 determined n σ ρ missing k (steps.Choose c a b) plain default = tt
 determined n σ ρ missing k (steps.Unary op a) plain default = tt
-determined n σ ρ missing k (steps.Binary op a b) plain default = default
+determined n σ ρ missing k (steps.Binary op a b) plain default = tt
 determined n σ ρ missing k (steps.Construct c fields) plain default = tt
 determined n σ ρ missing k (steps.IsCtor c i a) plain default = tt
 determined n σ ρ missing k (steps.CtorField c i a) plain default = absurd plain
 determined n σ ρ missing k (steps.Field a i) plain default = tt
 determined n σ ρ missing k (steps.IsAlike a b) plain default = tt
 determined n σ ρ missing k (steps.GoesDown a b) plain default = absurd plain
+determined n σ ρ missing k (steps.HasAnswer c) plain default = absurd plain
+determined n σ ρ missing k (steps.Answer c) plain default = absurd plain
 
 module _ {D T : Type 0} (m : Sense D T) (types : TypeTable) (d e : D) (gs hs : List Gate) (k : ℕ)
     (moves : Moves m types d gs e hs k) (rs : List (Symbol T)) (step : Step) (can : CanPerform m types d gs rs step)

@@ -12,7 +12,6 @@ use Rattle.pp_domain.specs.Symbols.{SymbolStands}
 use Rattle.pp_build_operators.specs.Operated.{IsCompared}
 use Rattle.pp_steps.specs.declared.step.Step.{Step}
 use Rattle.pp_steps.specs.declared.step.Step.TheVariants as steps
-use Rattle.pp_steps.specs.Known.{IsDefined}
 use Rattle.pp_steps.specs.Meaning.{Does, Missing, Values}
 use Rattle.pp_steps.specs.Sorted.{Sorts}
 
@@ -23,8 +22,7 @@ pub record IsNamed (types : TypeTable) (n : Naming) (v : Value) : Type 0 where
 
 -- what stands for the missing field that step number k reads is the default of its sort
 abbrev pub HasDefault : Naming → Sorts → Values → Missing → ℕ → Step → Type 0
-HasDefault n σ ρ missing k (steps.CtorField c i a) = IsDefault n (σ k) (missing c i)
-HasDefault n σ ρ missing k (steps.Binary op a b) = IsDefined op (ρ b)
+HasDefault n σ ρ missing k (steps.CtorField c i a) = IsDefault n (σ k) (missing.field c i)
 HasDefault n σ ρ missing k s = Unit {0}
 
 -- the values of the first steps have their sorts, and the naming names them and their fields

@@ -51,6 +51,8 @@ module _ {D T : Type 0} (m : Sense D T) (types : TypeTable) where
     -- step number k, after these looks and comparisons
     abbrev pub step_gates : List DataId → ℕ → ℕ → Step → ℕ
     step_gates looks compares k (steps.Open s) = opened_gates 0 s
+    step_gates looks compares k (steps.HasAnswer c) = 1
+    step_gates looks compares k (steps.Answer c) = opened_gates 0 c.result
     step_gates looks compares k (steps.Both a b) = 1
     step_gates looks compares k (steps.Choose c a b) =
         by_sort 32 1 (λ of. 32 + bits_at m types of (max (η a) (η b))) (σ k)

@@ -12,7 +12,7 @@ use crate::trees::{construct, ctor_field, has_ctor, only_field};
 use crate::unknown::unknown_symbol;
 use pp_domain::{Domain, Symbol, Symbols};
 use pp_gate::Circuit;
-use pp_prog::TypeTable;
+use pp_prog::{Sort, TypeTable};
 use pp_steps::Step;
 use std::alloc::Global;
 
@@ -72,6 +72,14 @@ fn perform<D: Domain>(
         Step::Open(sort) => {
             let symbol = unknown_symbol(domain, circuit, table, *sort, 0)?;
             Ok(symbol)
+        }
+        Step::HasAnswer(_) => {
+            let has = unknown_symbol(domain, circuit, table, Sort::Bool, 0)?;
+            Ok(has)
+        }
+        Step::Answer(call) => {
+            let answer = unknown_symbol(domain, circuit, table, call.result, 0)?;
+            Ok(answer)
         }
         Step::Int(n) => {
             let word = pp_wordgate::constant(circuit, *n)?;

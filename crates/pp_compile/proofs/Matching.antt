@@ -101,7 +101,7 @@ attempt_made asked site case o value env reach {m = m} {l = l} {w = w} {n = n} {
     let x2 = subst (λ (q : List ℕ). IsMade w n (compile asked site case.body lk q goes.taken) left) (hl ∙ ei) x1 in
     let hX = subst (λ i. IsMade w n (compile asked site case.body lk known i) left) hG.taken x2 in
     let end : Attempt = record { taken = G.out.0; missed = G.out.1; out = X.out } in
-    let Z : Piece Attempt = record { steps = X.steps; out = end; alive = X.alive; calls = X.calls; fails = X.fails } in
+    let Z : Piece Attempt = record { steps = X.steps; out = end; alive = X.alive; fails = X.fails } in
     let hZ : IsWritten w n Z = record { steps = hX.written.steps; fails = hX.written.fails } in
     subst (λ (q : Arm). IsTried o n q value k env reach
     (record { taken = goes.taken; missed = goes.missed; left = left })) (sym (arm_is asked site case))
@@ -138,7 +138,7 @@ case_made asked site check value o env reach cs {case = case} {rest = rest} {m =
     let X = a.body lk known G.out.0 in
     let i = after lk X in
     let end : Attempt = record { taken = G.out.0; missed = G.out.1; out = X.out } in
-    let Z : Piece Attempt = record { steps = X.steps; out = end; alive = X.alive; calls = X.calls; fails = X.fails } in
+    let Z : Piece Attempt = record { steps = X.steps; out = end; alive = X.alive; fails = X.fails } in
     let shift = after_joined k P (joined T (joined G Z)) ∙ after_joined (after k P) T (joined G Z)
     ∙ after_joined kg G Z in
     let e1 : length m.steps ≡ i = end_is o m (attempting a value k env reach) ht.written ∙ shift in

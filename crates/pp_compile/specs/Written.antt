@@ -78,8 +78,6 @@ attempting arm t k env reach =
       steps = x.steps;
       out = record { taken = goes.0; missed = goes.1; out = x.out };
       alive = x.alive;
-      calls =
-          x.calls;
       fails = x.fails;
     })))
 
@@ -101,7 +99,6 @@ no_case asked k reach = record {
   steps = steps.Bool false ∷ [];
   out = None;
   alive = k;
-  calls = [];
   fails = failing asked
       reach;
 }

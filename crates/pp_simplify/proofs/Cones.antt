@@ -30,6 +30,8 @@ reads_below k (steps.CtorField c i a) r = (r, tt)
 reads_below k (steps.Field a i) r = (r, tt)
 reads_below k (steps.IsAlike a b) r = (r.0, (r.1, tt))
 reads_below k (steps.GoesDown a b) r = (r.0, (r.1, tt))
+reads_below k (steps.HasAnswer c) r = r
+reads_below k (steps.Answer c) r = r
 
 pub below_each : (k : ℕ) (ns : List ℕ) (a : ℕ) → Below k ns → Contains ns a → a < k
 below_each k [] a b c = absurd (omega (arith, c.1))

@@ -122,6 +122,8 @@ module _ (r : ℕ → ℕ) (k : ℕ) (low : (a : ℕ) → r a ≤ a) where
   renamed_reads (steps.Field a i) b = lower a b
   renamed_reads (steps.IsAlike x y) b = (lower x b.0, lower y b.1)
   renamed_reads (steps.GoesDown x y) b = (lower x b.0, lower y b.1)
+  renamed_reads (steps.HasAnswer c) b = (lower c.reach b.0, all_lower c.args b.1)
+  renamed_reads (steps.Answer c) b = (lower c.reach b.0, all_lower c.args b.1)
 
 -- the steps look at earlier ones, each has a name or none, and no name is a later step
 pub record Reading (f : Folding) : Type 0 where

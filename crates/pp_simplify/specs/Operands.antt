@@ -1,5 +1,6 @@
 -- The operands of a step, which are the numbers that it reads, and the step with other operands. Source: own.
 use Rattle.std.specs.Prelude.{ℕ, List, [], ◌∷◌, map}
+use Rattle.pp_steps.specs.declared.step.OpenCall.{OpenCall}
 use Rattle.pp_steps.specs.declared.step.Step.{Step}
 use Rattle.pp_steps.specs.declared.step.Step.TheVariants as steps
 
@@ -18,11 +19,24 @@ operands (steps.CtorField c i a) = a ∷ []
 operands (steps.Field a i) = a ∷ []
 operands (steps.IsAlike a b) = a ∷ b ∷ []
 operands (steps.GoesDown a b) = a ∷ b ∷ []
+operands (steps.HasAnswer c) = c.reach ∷ c.args
+operands (steps.Answer c) = c.reach ∷ c.args
 
 -- each of the numbers has the property
 abbrev pub Each : (ℕ → Type 0) → List ℕ → Type 0
 Each P [] = Unit {0}
 Each P (n ∷ ns) = P n × Each P ns
+
+-- the open call with its numbers renamed
+abbrev pub call_renamed : (ℕ → ℕ) → OpenCall → OpenCall
+call_renamed r c = record {
+  callee = c.callee;
+  wait = c.wait;
+  reach = r c.reach;
+  params = c.params;
+  result = c.result;
+  args = map r c.args;
+}
 
 -- the step with its operands renamed
 abbrev pub renamed : (ℕ → ℕ) → Step → Step
@@ -40,3 +54,5 @@ renamed r (steps.CtorField c i a) = steps.CtorField c i (r a)
 renamed r (steps.Field a i) = steps.Field (r a) i
 renamed r (steps.IsAlike a b) = steps.IsAlike (r a) (r b)
 renamed r (steps.GoesDown a b) = steps.GoesDown (r a) (r b)
+renamed r (steps.HasAnswer c) = steps.HasAnswer (call_renamed r c)
+renamed r (steps.Answer c) = steps.Answer (call_renamed r c)

@@ -5,7 +5,7 @@ ghost use Rattle.pp_steps.specs.Reads.{Below};
 ghost use Rattle.pp_simplify.specs.Marks.{Marks, is_marked};
 ghost use Rattle.pp_simplify.specs.Operands.{operands};
 
-use pp_steps::Step;
+use pp_steps::{OpenCall, Step};
 
 /// Marks a number.
 pub(crate) fn mark(marks: &mut Vec<bool>, number: u32)
@@ -49,6 +49,8 @@ fn mark_operands(marks: &mut Vec<bool>, step: &Step)
         Step::Field(a, _) => mark(marks, *a),
         Step::IsAlike(a, b) => mark_two(marks, *a, *b),
         Step::GoesDown(a, b) => mark_two(marks, *a, *b),
+        Step::HasAnswer(call) => mark_call(marks, call),
+        Step::Answer(call) => mark_call(marks, call),
     }
 }
 
@@ -60,6 +62,16 @@ fn mark_two(marks: &mut Vec<bool>, left: u32, right: u32)
 {
     mark(marks, left);
     mark(marks, right);
+}
+
+/// Marks the numbers that an open call reads.
+fn mark_call(marks: &mut Vec<bool>, call: &OpenCall)
+    requires reach { call.now.reach < length marks.old.items }
+    requires args { Below (length marks.old.items) call.now.args }
+    ensures { Marks marks.old.items marks.new.items (call.now.reach ∷ call.now.args) }
+{
+    mark(marks, call.reach);
+    mark_all(marks, call.args.as_slice());
 }
 
 /// Marks each of the numbers.

@@ -6,7 +6,8 @@ ghost use Rattle.pp_simplify.specs.Operands as operands;
 
 use crate::NoMemory;
 use pp_list::{Items, at};
-use pp_steps::{Numbers, Step};
+use pp_prog::Sort;
+use pp_steps::{Numbers, OpenCall, SortList, Step};
 use std::alloc::Global;
 
 /// By the number of each step, the earlier step that has its value, where one is known.
@@ -47,7 +48,42 @@ pub(crate) fn renamed(alloc: Global, names: &[Option<u32>], step: &Step) -> Resu
         Step::Field(a, place) => Ok(Step::Field(named(names, *a), *place)),
         Step::IsAlike(a, b) => Ok(Step::IsAlike(named(names, *a), named(names, *b))),
         Step::GoesDown(a, b) => Ok(Step::GoesDown(named(names, *a), named(names, *b))),
+        Step::HasAnswer(call) => {
+            let call = call_renamed(alloc, names, call)?;
+            Ok(Step::HasAnswer(call))
+        }
+        Step::Answer(call) => {
+            let call = call_renamed(alloc, names, call)?;
+            Ok(Step::Answer(call))
+        }
     }
+}
+
+/// The open call with its numbers renamed.
+fn call_renamed(alloc: Global, names: &[Option<u32>], call: &OpenCall) -> Result<OpenCall, NoMemory>
+    ensures { IfOk result (λ c. c ≡ operands.call_renamed (spec.named names.now) call.now) }
+{
+    let params = copied(alloc, call.params.as_slice())?;
+    let args = all_renamed(alloc, names, call.args.as_slice())?;
+    Ok(OpenCall {
+        callee: call.callee,
+        wait: call.wait,
+        reach: named(names, call.reach),
+        params,
+        result: call.result,
+        args,
+    })
+}
+
+/// The same sorts.
+fn copied(alloc: Global, sorts: &[Sort]) -> Result<SortList, NoMemory>
+    ensures { IfOk result (λ r. r ≡ sorts.now) }
+{
+    let mut copies = Items::new(alloc);
+    for sort in sorts {
+        copies.push(*sort)?;
+    }
+    Ok(copies)
 }
 
 /// The numbers, renamed.

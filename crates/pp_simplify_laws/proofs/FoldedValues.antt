@@ -45,10 +45,10 @@ module _ (ctors : List Ctor) (missing : Missing) (ρ : Values) where
   field_made c d i m fields u same at is =
       let there : slice_get (map ρ fields) i ≡ Some (ρ m) =
       slice_get-map ρ fields i ∙ ap (option_map ρ) at in
-      ap (ctor_field missing c i) is ∙ ap (ctor_field_in (missing c i) c i) (outs-Tree d (map ρ fields))
-      ∙ ap (λ b. if b then value_or (missing c i) (found (slice_get (map ρ fields) i)) else missing c i)
+      ap (ctor_field missing c i) is ∙ ap (ctor_field_in (missing.field c i) c i) (outs-Tree d (map ρ fields))
+      ∙ ap (λ b. if b then value_or (missing.field c i) (found (slice_get (map ρ fields) i)) else missing.field c i)
       (eq-eqb c.0 d.0 same)
-      ∙ ap (λ o. value_or (missing c i) (found o)) there
+      ∙ ap (λ o. value_or (missing.field c i) (found o)) there
 
   -- a step has the value of its source
   source_value : (news : List Step) → Obeys ctors missing ρ 0 news → (t : Step) (m : ℕ) (v : Value)

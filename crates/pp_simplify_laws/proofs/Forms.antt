@@ -13,12 +13,13 @@ use Rattle.pp_prog.specs.ExprSorts.{unary_sort}
 use Rattle.pp_eval.specs.Measure.{goes_down, one_sort}
 use Rattle.pp_eval.specs.Meaning.{field}
 use Rattle.pp_eval.specs.Operators.{unary}
+use Rattle.pp_steps.specs.declared.step.OpenCall.{OpenCall}
 use Rattle.pp_steps.specs.declared.step.Step.{Step}
 use Rattle.pp_steps.specs.declared.step.Step.TheVariants as steps
-use Rattle.pp_steps.specs.Known.{IsDefined, Tells}
-use Rattle.pp_steps.specs.Meaning.{Does, Missing, Values, applied, bit, ctor_field, has_ctor, value_or}
+use Rattle.pp_steps.specs.Known.{Tells}
+use Rattle.pp_steps.specs.Meaning.{Does, Missing, Values, applied, bit, ctor_field, has_ctor, is_answered, value_or}
 use Rattle.pp_steps.specs.Sorted.{Constructs, Distinguishes, IsSorted, Selects, SelectsOnly, Sorts, operated_sort}
-use Rattle.pp_simplify.specs.Operands.{Each, operands, renamed}
+use Rattle.pp_simplify.specs.Operands.{Each, call_renamed, operands, renamed}
 
 -- the functions agree at the numbers, after these are renamed
 abbrev pub Agree : {X : Type 0} → (ℕ → ℕ) → (ℕ → X) → (ℕ → X) → List ℕ → Type 0
@@ -31,6 +32,20 @@ map_agree r f g (n ∷ ns) h = ap (λ x. x ∷ map g (map r ns)) h.0 ∙ ap (λ 
 pub map_same : (ns : List ℕ) → map (λ a. a) ns ≡ ns
 map_same [] = refl
 map_same (n ∷ ns) = ap (λ l. n ∷ l) (map_same ns)
+
+-- an open call with its own numbers
+abbrev with_args : OpenCall → List ℕ → OpenCall
+with_args c ns = record {
+  callee = c.callee;
+  wait = c.wait;
+  reach = c.reach;
+  params = c.params;
+  result = c.result;
+  args = ns;
+}
+
+call_same : (c : OpenCall) → call_renamed (λ a. a) c ≡ c
+call_same c = ap (with_args c) (map_same c.args)
 
 -- a step with its own operands
 pub renamed_same : (s : Step) → renamed (λ a. a) s ≡ s
@@ -48,6 +63,8 @@ renamed_same (steps.CtorField c i a) = refl
 renamed_same (steps.Field a i) = refl
 renamed_same (steps.IsAlike a b) = refl
 renamed_same (steps.GoesDown a b) = refl
+renamed_same (steps.HasAnswer c) = ap steps.HasAnswer (call_same c)
+renamed_same (steps.Answer c) = ap steps.Answer (call_same c)
 
 module _ (r : ℕ → ℕ) where
   -- ---- values
@@ -79,6 +96,13 @@ module _ (r : ℕ → ℕ) where
       ∙ ap (λ x. Truth (one_sort ctors (out-Value (τ (r a))) (out-Value x))) (sym e.1.0)
   does_renamed ctors missing ρ τ (steps.GoesDown a b) v e d =
       d ∙ ap (λ x. Truth (goes_down x (ρ b))) (sym e.0) ∙ ap (λ x. Truth (goes_down (τ (r a)) x)) (sym e.1.0)
+  does_renamed ctors missing ρ τ (steps.HasAnswer c) v e d =
+      λ on. d (sym (ap bit e.0) ∙ on)
+      ∙ ap (λ vs. Truth (is_answered (missing.answer c.wait c.callee c.params c.result vs)))
+      (sym (map_agree r ρ τ c.args e.1))
+  does_renamed ctors missing ρ τ (steps.Answer c) v e d =
+      λ on u is. d (sym (ap bit e.0) ∙ on) u
+      (ap (missing.answer c.wait c.callee c.params c.result) (sym (map_agree r ρ τ c.args e.1)) ∙ is)
 
   -- ---- sorts
 
@@ -116,6 +140,8 @@ module _ (r : ℕ → ℕ) where
       record { datatype = made.datatype; operand = e.0 ∙ made.operand; field = made.field }
   sorted_renamed types σ τ (steps.IsAlike a b) t e h = (e.0 ∙ h.0 ∙ sym e.1.0, h.1)
   sorted_renamed types σ τ (steps.GoesDown a b) t e h = (e.0 ∙ h.0 ∙ sym e.1.0, h.1)
+  sorted_renamed types σ τ (steps.HasAnswer c) t e h = (map_agree r σ τ c.args e.1 ∙ h.0, h.1)
+  sorted_renamed types σ τ (steps.Answer c) t e h = (map_agree r σ τ c.args e.1 ∙ h.0, h.1, h.2)
 
   -- ---- what is known
 
@@ -142,8 +168,7 @@ module _ (r : ℕ → ℕ) where
       (λ t. e.1.1.0.known (z (sym (ap bit e.0.value) ∙ t))))
   tells_renamed ρ τ K J k (steps.Unary op a) e on tells = λ x. on (tells (e.0.known x))
   tells_renamed ρ τ K J k (steps.Binary op a b) e on tells =
-      λ x y defined. on (tells (e.0.known x) (e.1.0.known y)
-      (subst (λ v. IsDefined op v) (sym e.1.0.value) defined))
+      λ x y. on (tells (e.0.known x) (e.1.0.known y))
   tells_renamed ρ τ K J k (steps.Construct c fields) e on tells = λ all. on (tells (given_all ρ τ K J fields e all))
   tells_renamed ρ τ K J k (steps.IsCtor c n a) e on tells = λ x. on (tells (e.0.known x))
   tells_renamed ρ τ K J k (steps.CtorField c i a) e on tells =
@@ -151,6 +176,8 @@ module _ (r : ℕ → ℕ) where
   tells_renamed ρ τ K J k (steps.Field a i) e on tells = λ x. on (tells (e.0.known x))
   tells_renamed ρ τ K J k (steps.IsAlike a b) e on tells = λ x y. on (tells (e.0.known x) (e.1.0.known y))
   tells_renamed ρ τ K J k (steps.GoesDown a b) e on tells = λ x y. on (tells (e.0.known x) (e.1.0.known y))
+  tells_renamed ρ τ K J k (steps.HasAnswer c) e on tells = tt
+  tells_renamed ρ τ K J k (steps.Answer c) e on tells = tt
 
 -- a step tells of a number that is known anyway
 pub tells_anyway : (ρ : Values) (K : ℕ → Type 0) (k : ℕ) (s : Step) → K k → Tells ρ K s k
@@ -161,10 +188,12 @@ tells_anyway ρ K k (steps.Not a) h = λ x. h
 tells_anyway ρ K k (steps.Both a b) h = λ x y. h
 tells_anyway ρ K k (steps.Choose c a b) h = λ x y z. h
 tells_anyway ρ K k (steps.Unary op a) h = λ x. h
-tells_anyway ρ K k (steps.Binary op a b) h = λ x y defined. h
+tells_anyway ρ K k (steps.Binary op a b) h = λ x y. h
 tells_anyway ρ K k (steps.Construct c fields) h = λ all. h
 tells_anyway ρ K k (steps.IsCtor c n a) h = λ x. h
 tells_anyway ρ K k (steps.CtorField c i a) h = λ x fields is. h
 tells_anyway ρ K k (steps.Field a i) h = λ x. h
 tells_anyway ρ K k (steps.IsAlike a b) h = λ x y. h
 tells_anyway ρ K k (steps.GoesDown a b) h = λ x y. h
+tells_anyway ρ K k (steps.HasAnswer c) h = tt
+tells_anyway ρ K k (steps.Answer c) h = tt

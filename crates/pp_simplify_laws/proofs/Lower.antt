@@ -100,6 +100,8 @@ module _ (types : TypeTable) (σ : Sorts) (η θ : Heights) (r : ℕ → ℕ) (k
         height_grows (θ (r a) - 1) (η a - 1) (σ k) (minus_grows (θ (r a)) (η a) (low a b))
     height_lower (steps.IsAlike x y) b = le_same 0
     height_lower (steps.GoesDown x y) b = le_same 0
+    height_lower (steps.HasAnswer c) b = le_same 0
+    height_lower (steps.Answer c) b = le_same 0
 
     gates_lower : (s : Step) → Reads k s → gates_of types σ θ k (renamed r s) ≤ gates_of types σ η k s
     gates_lower (steps.Open s) b = le_same _
@@ -124,6 +126,8 @@ module _ (types : TypeTable) (σ : Sorts) (η θ : Heights) (r : ℕ → ℕ) (k
     gates_lower (steps.GoesDown x y) b =
         subst (λ t. descent_gates types (θ (r x)) (θ (r y)) t ≤ descent_gates types (η x) (η y) (σ x)) (sym (same x))
         (descent_grows types (θ (r x)) (η x) (θ (r y)) (η y) (σ x) (low x b.0) (low y b.1))
+    gates_lower (steps.HasAnswer c) b = le_same 1
+    gates_lower (steps.Answer c) b = le_same _
 
     pub renamed_lower : (s : Step) → Reads k s → IsLower types σ θ η k (renamed r s) s
     renamed_lower s b = (height_lower s b, gates_lower s b)

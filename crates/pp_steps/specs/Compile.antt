@@ -85,7 +85,7 @@ number_or d (Some n) = n
 
 -- the outcome of a match; a match without a case, which no valid program has, gives the matched value
 abbrev pub matched : ℕ → Piece (Option ℕ) → Piece ℕ
-matched t x = record { steps = x.steps; out = number_or t x.out; alive = x.alive; calls = x.calls; fails = x.fails }
+matched t x = record { steps = x.steps; out = number_or t x.out; alive = x.alive; fails = x.fails }
 
 abbrev pub arm_step : layer.Case-F Compiling Arm → Arm
 arm_step c = record { pattern = c.pattern; guard = c.guard; body = c.body }
@@ -121,7 +121,6 @@ module _ (asked : Option CheckId) where
     steps = steps.Bool false ∷ [];
     out = None;
     alive = k;
-    calls = [];
     fails = failing (asks asked check) reach;
   }
   cases (arm ∷ arms) check t k env reach =

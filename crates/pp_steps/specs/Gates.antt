@@ -1,6 +1,6 @@
 -- How high the values of steps are at most, and how many gates and inputs the steps take where trees are full blocks up
 -- to a height. Source: own.
-use Rattle.std.specs.Prelude.{◌≡◌, ℕ, suc, ◌+◌, ◌-◌, ◌*◌, max, min, nat_eq, nat_lt, if◌then◌else◌, List, [], ◌∷◌, map}
+use Rattle.std.specs.Prelude.{◌≡◌, ℕ, suc, ◌+◌, ◌-◌, ◌*◌, max, min, nat_eq, if◌then◌else◌, List, [], ◌∷◌, map}
 use Rattle.pp_prog.specs.declared.expr.BinaryOp.{BinaryOp}
 use Rattle.pp_prog.specs.declared.expr.BinaryOp.TheVariants.{Add, Sub, Mul, Div, Rem, Equal, Differ, Less, AtMost, More}
 use Rattle.pp_prog.specs.declared.expr.BinaryOp.TheVariants.{AtLeast, AndAlso, OrElse, And, Or, Xor, Shl, Shr, Ushr}
@@ -82,6 +82,8 @@ module _ (types : TypeTable) (σ : Sorts) (η : Heights) where
   -- the gates and inputs of step number k
   abbrev pub gates_of : ℕ → Step → ℕ
   gates_of k (steps.Open s) = open_gates types 0 s
+  gates_of k (steps.HasAnswer c) = 1
+  gates_of k (steps.Answer c) = open_gates types 0 c.result
   gates_of k (steps.Both a b) = 1
   gates_of k (steps.Choose c a b) = choice_gates types (max (η a) (η b)) (σ k)
   gates_of k (steps.Unary op a) = unary_gates op

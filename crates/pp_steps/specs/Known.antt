@@ -1,19 +1,11 @@
 -- What is known of the values of steps where the operands may stand for nothing, as they do in branches that aren't
 -- reached: a step is known where those operands are that its value depends on. Source: own.
-use Rattle.std.specs.Prelude.{◌≡◌, ◌≢◌, ℕ, suc, pos, true, false, List, [], ◌∷◌, All}
-use Rattle.pp_prog.specs.declared.expr.BinaryOp.{BinaryOp}
-use Rattle.pp_prog.specs.declared.expr.BinaryOp.TheVariants.{Div, Rem}
+use Rattle.std.specs.Prelude.{◌≡◌, ℕ, suc, true, false, List, [], ◌∷◌, All}
 use Rattle.pp_prog.specs.declared.value.Value.{Value}
-use Rattle.pp_prog.specs.declared.value.Value.TheVariants.{Int, Tree}
+use Rattle.pp_prog.specs.declared.value.Value.TheVariants.{Tree}
 use Rattle.pp_steps.specs.declared.step.Step.{Step}
 use Rattle.pp_steps.specs.declared.step.Step.TheVariants as steps
 use Rattle.pp_steps.specs.Meaning.{Values, bit}
-
--- an operator has a value, with this right operand: a divisor isn't 0
-abbrev pub IsDefined : BinaryOp → Value → Type 0
-IsDefined Div v = v ≢ Int (pos 0)
-IsDefined Rem v = v ≢ Int (pos 0)
-IsDefined op v = Unit {0}
 
 module _ (ρ : Values) (K : ℕ → Type 0) where
   -- where K says of a number that it is known, this makes step number i known
@@ -25,13 +17,15 @@ module _ (ρ : Values) (K : ℕ → Type 0) where
   Tells (steps.Both a b) i = K a → (bit (ρ a) ≡ true → K b) → K i
   Tells (steps.Choose c a b) i = K c → (bit (ρ c) ≡ true → K a) → (bit (ρ c) ≡ false → K b) → K i
   Tells (steps.Unary op a) i = K a → K i
-  Tells (steps.Binary op a b) i = K a → K b → IsDefined op (ρ b) → K i
+  Tells (steps.Binary op a b) i = K a → K b → K i
   Tells (steps.Construct c fields) i = All K fields → K i
   Tells (steps.IsCtor c n a) i = K a → K i
   Tells (steps.CtorField c k a) i = K a → (fields : List Value) → ρ a ≡ Tree c fields → K i
   Tells (steps.Field a k) i = K a → K i
   Tells (steps.IsAlike a b) i = K a → K b → K i
   Tells (steps.GoesDown a b) i = K a → K b → K i
+  Tells (steps.HasAnswer c) i = Unit {0}
+  Tells (steps.Answer c) i = Unit {0}
 
   -- so does each step, where the first has the number k
   abbrev pub AllTell : ℕ → List Step → Type 0

@@ -3,6 +3,7 @@ pub mod Piece
 pub mod Patterns
 pub mod Compile
 pub mod Frames
+pub mod Guesses
 pub mod Reads
 pub mod Sorted
 pub mod Known

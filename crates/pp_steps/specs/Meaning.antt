@@ -1,12 +1,14 @@
 -- What it means that values obey steps: step number k has the value ρ k, which its operands' values determine. Dead
 -- branches have values too, since each step has one. Source: own; straight-line code as in static single assignment.
 use Rattle.std.specs.Prelude.{◌≡◌, ℕ, suc, nat_eq, Bool, false, not, ◌&&◌, if◌then◌else◌, List, [], ◌∷◌, length, map}
-use Rattle.std.specs.Prelude.{slice_get, Ok, Err, None}
+use Rattle.std.specs.Prelude.{slice_get, Ok, Err, Option, Some, None, true}
 use Rattle.std.specs.Int.{w32}
 use Rattle.pp_word.specs.Word.{word_div, word_rem}
 use Rattle.pp_prog.specs.declared.expr.BinaryOp.{BinaryOp}
 use Rattle.pp_prog.specs.declared.expr.BinaryOp.TheVariants.{Div, Rem}
 use Rattle.pp_prog.specs.declared.id.CtorId.{CtorId}
+use Rattle.pp_prog.specs.declared.id.FunctionId.{FunctionId}
+use Rattle.pp_prog.specs.declared.sort.Sort.{Sort}
 use Rattle.pp_prog.specs.declared.types.Ctor.{Ctor}
 use Rattle.pp_prog.specs.declared.value.Value.{Value}
 use Rattle.pp_prog.specs.declared.value.Value.TheOpen as layer
@@ -16,6 +18,7 @@ use Rattle.pp_eval.specs.Measure.{goes_down, one_sort}
 use Rattle.pp_eval.specs.Meaning.{field}
 use Rattle.pp_eval.specs.Operators.{number, operated, unary}
 use Rattle.pp_eval.specs.Part.{Part, and_then, found}
+use Rattle.pp_steps.specs.declared.step.OpenCall.{OpenCall}
 use Rattle.pp_steps.specs.declared.step.Step.{Step}
 use Rattle.pp_steps.specs.declared.step.Step.TheVariants as steps
 
@@ -57,13 +60,23 @@ ctor_field_in d c k (layer.Int m) = d
 ctor_field_in d c k (layer.Bool b) = d
 ctor_field_in d c k (layer.Tree e fields) = if nat_eq c.0 e.0 then value_or d (found (slice_get fields k)) else d
 
--- what stands for the field at a place where a value has another constructor
-abbrev pub Missing : Type 0
-Missing = CtorId → ℕ → Value
+-- What stands for the field at a place where a value has another constructor, and the answer of a call that is left
+-- open, where it has one: by how long the call waits, the function, its sorts and the arguments.
+pub record Missing : Type 0 where
+  pub field : CtorId → ℕ → Value
+  pub answer : ℕ → FunctionId → List Sort → Sort → List Value → Option Value
 
 -- the field of the constructor at the place
 abbrev pub ctor_field : Missing → CtorId → ℕ → Value → Value
-ctor_field missing c k v = ctor_field_in (missing c k) c k (out-Value v)
+ctor_field missing c k v = ctor_field_in (missing.field c k) c k (out-Value v)
+
+abbrev pub is_answered : Option Value → Bool
+is_answered None = false
+is_answered (Some v) = true
+
+-- the answer of the open call, where the arguments have these values
+abbrev pub answer_of : Missing → Values → OpenCall → Option Value
+answer_of missing ρ c = missing.answer c.wait c.callee c.params c.result (map ρ c.args)
 
 module _ (ctors : List Ctor) (missing : Missing) where
   -- whether v may be the value of the step, where the earlier ones have these
@@ -82,6 +95,9 @@ module _ (ctors : List Ctor) (missing : Missing) where
   Does ρ (steps.Field a k) v = v ≡ value_or (Truth false) (field (ρ a) k)
   Does ρ (steps.IsAlike a b) v = v ≡ Truth (one_sort ctors (out-Value (ρ a)) (out-Value (ρ b)))
   Does ρ (steps.GoesDown a b) v = v ≡ Truth (goes_down (ρ a) (ρ b))
+  -- nothing is said of a call that isn't reached
+  Does ρ (steps.HasAnswer c) v = bit (ρ c.reach) ≡ true → v ≡ Truth (is_answered (answer_of missing ρ c))
+  Does ρ (steps.Answer c) v = bit (ρ c.reach) ≡ true → (u : Value) → answer_of missing ρ c ≡ Some u → v ≡ u
 
   -- the values obey the steps, the first of which has the number k
   abbrev pub Obeys : Values → ℕ → List Step → Type 0

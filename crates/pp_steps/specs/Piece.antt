@@ -1,22 +1,20 @@
 -- Steps that are written one after another: a piece is what a part of a program leaves. Source: own.
 use Rattle.std.specs.Prelude.{ℕ, suc, ◌+◌, nat_eq, Bool, true, false, List, [], ◌∷◌, ◌++◌, length, Option, Some, None}
 use Rattle.pp_prog.specs.declared.id.CheckId.{CheckId}
-use Rattle.pp_steps.specs.declared.step.Asked.{Asked}
 use Rattle.pp_steps.specs.declared.step.Step.{Step}
 use Rattle.pp_steps.specs.declared.step.Step.TheVariants as steps
 
 -- the steps; the numbers in which the outcome stands; the number that tells whether the part was reached and has an
--- outcome; the calls that were left open; and the numbers that tell whether the asked check fails
+-- outcome; and the numbers that tell whether the asked check fails
 pub record Piece (A : Type 0) : Type 0 where
   pub steps : List Step
   pub out : A
   pub alive : ℕ
-  pub calls : List Asked
   pub fails : List ℕ
 
 -- steps that stop nothing
 abbrev pub plain : {A : Type 0} → List Step → A → ℕ → Piece A
-plain ss out alive = record { steps = ss; out = out; alive = alive; calls = []; fails = [] }
+plain ss out alive = record { steps = ss; out = out; alive = alive; fails = [] }
 
 -- the number after a piece that begins at number k
 abbrev pub after : {A : Type 0} → ℕ → Piece A → ℕ
@@ -28,7 +26,6 @@ joined x y = record {
   steps = x.steps ++ y.steps;
   out = y.out;
   alive = y.alive;
-  calls = x.calls ++ y.calls;
   fails = x.fails ++ y.fails;
 }
 
@@ -48,7 +45,6 @@ demand true k alive test = record {
   steps = steps.Both alive test ∷ steps.Not test ∷ steps.Both alive (suc k) ∷ [];
   out = test;
   alive = k;
-  calls = [];
   fails = suc (suc k) ∷ [];
 }
 demand false k alive test = plain (steps.Both alive test ∷ []) test k
@@ -73,10 +69,9 @@ choice k taken x y = record {
   steps = x.steps ++ (y.steps ++ steps.Choose taken x.alive y.alive ∷ pick_step taken x.out y.out);
   out = picked (suc k) x.out y.out;
   alive = k;
-  calls = x.calls ++ y.calls;
   fails = x.fails ++ y.fails;
 }
 
 -- a piece that may have an outcome
 abbrev pub possible : Piece ℕ → Piece (Option ℕ)
-possible x = record { steps = x.steps; out = Some x.out; alive = x.alive; calls = x.calls; fails = x.fails }
+possible x = record { steps = x.steps; out = Some x.out; alive = x.alive; fails = x.fails }

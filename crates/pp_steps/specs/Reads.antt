@@ -24,6 +24,8 @@ Reads k (steps.CtorField c i a) = a < k
 Reads k (steps.Field a i) = a < k
 Reads k (steps.IsAlike a b) = (a < k) × (b < k)
 Reads k (steps.GoesDown a b) = (a < k) × (b < k)
+Reads k (steps.HasAnswer c) = (c.reach < k) × Below k c.args
+Reads k (steps.Answer c) = (c.reach < k) × Below k c.args
 
 -- each step looks at earlier ones, where the first has the number k
 abbrev pub AllRead : ℕ → List Step → Type 0

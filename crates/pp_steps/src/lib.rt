@@ -6,4 +6,4 @@
 
 mod step;
 
-pub use step::{Asked, Numbers, Step, Steps};
+pub use step::{Numbers, OpenCall, SortList, Step, Steps};

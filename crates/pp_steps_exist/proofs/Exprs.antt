@@ -106,7 +106,7 @@ module _ (base : ℕ) (asked : Option CheckId) (site : Site) (its : SiteStays ba
   list_stays [] = tt
   list_stays (e ∷ es) = (expr_stays e, list_stays es)
 
-  abbrev LessFrame : ℕ → Frame → Type 0
+  abbrev pub LessFrame : ℕ → Frame → Type 0
   LessFrame k None = Unit {0}
   LessFrame k (Some ns) = Below k ns
 
@@ -180,7 +180,7 @@ lower_within new old k alive n o a =
     (shaped_within new old (after k p) p.out alive (below_end k (length p.steps) new n)
     (below_end k (length p.steps) old o) hp.out (up alive k (length p.steps) a))
 
-descending_within : (asked check : Option CheckId) (old new : Frame) (k alive : ℕ) → Frames k old → Frames k new
+pub descending_within : (asked check : Option CheckId) (old new : Frame) (k alive : ℕ) → Frames k old → Frames k new
     → alive < k → IsWithin LessOne k (descending asked check old new k alive)
 descending_within asked None old new k alive o n a = plain_within {R = LessOne} k [] alive alive tt (up alive k 0 a) a
 descending_within asked (Some c) None new k alive o n a =
@@ -195,20 +195,20 @@ descending_within asked (Some c) (Some old) (Some new) k alive o n a =
 
 -- ---- calls
 
-frame_later : (a b : ℕ) (frame : Frame) → a ≤ b → Frames a frame → Frames b frame
+pub frame_later : (a b : ℕ) (frame : Frame) → a ≤ b → Frames a frame → Frames b frame
 frame_later a b None le h = tt
 frame_later a b (Some ns) le h = below_later a b ns le h
 
-stopped_within : (o : Option Function) (k : ℕ) → IsWithin LessOne k (stopped o k)
+pub stopped_within : (o : Option Function) (k : ℕ) → IsWithin LessOne k (stopped o k)
 stopped_within o k = record { reads = (tt, (tt, tt)); out = first_two k; alive = end_two k; fails = tt }
 
-le_self : (k : ℕ) → k ≤ k
+pub le_self : (k : ℕ) → k ≤ k
 le_self k = omega arith
 
-le_up : (a b n : ℕ) → a ≤ b → a ≤ b + n
+pub le_up : (a b n : ℕ) → a ≤ b → a ≤ b + n
 le_up a b n h = omega arith
 
-admitting_within : (asked : Option CheckId) (site : Site) → ((base : ℕ) → SiteStays base site)
+pub admitting_within : (asked : Option CheckId) (site : Site) → ((base : ℕ) → SiteStays base site)
     → (o : Option Expr) (check : Option CheckId) (k : ℕ) (args : List ℕ) (reach : ℕ) → Below k args → reach < k
     → IsWithin LessOne k (admitting asked site o check k args reach)
 admitting_within asked site its None check k args reach a r =

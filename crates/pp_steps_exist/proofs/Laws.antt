@@ -53,7 +53,7 @@ module _ (ss : List Sort) where
   abbrev opens : List Step
   opens = map open_step ss
 
-  arguments_read : AllRead 0 A.steps
+  pub arguments_read : AllRead 0 A.steps
   arguments_read = read_join 0 opens (steps.Bool true ∷ []) (opens_read ss 0) (tt, tt)
 
   end_is : after 0 A ≡ (0 + length opens) + 1
@@ -62,13 +62,13 @@ module _ (ss : List Sort) where
       add_assoc : (a : ℕ) → 0 + (a + 1) ≡ (0 + a) + 1
       add_assoc a = omega arith
 
-  reach_below : A.alive < after 0 A
+  pub reach_below : A.alive < after 0 A
   reach_below = subst (λ n. A.alive < n) (sym end_is) (end_one (0 + length opens))
     where
       end_one : (a : ℕ) → a < a + 1
       end_one a = omega arith
 
-  arguments_below : Below (after 0 A) A.out
+  pub arguments_below : Below (after 0 A) A.out
   arguments_below =
       subst (λ n. Below n A.out) (sym end_is)
       (below_later (0 + length ss) ((0 + length opens) + 1) A.out
@@ -121,7 +121,7 @@ runs_ask functions f check fuel = run_asks functions f check fuel
 -- ---- the values
 
 module _ (ctors : List Ctor) (missing : Missing) (chosen : Values) where
-  open_left : (ρ : Values) (k : ℕ) (xs ys : List Step) → AllOpen ctors missing chosen ρ k (xs ++ ys)
+  pub open_left : (ρ : Values) (k : ℕ) (xs ys : List Step) → AllOpen ctors missing chosen ρ k (xs ++ ys)
       → AllOpen ctors missing chosen ρ k xs
   open_left ρ k [] ys h = tt
   open_left ρ k (x ∷ xs) ys h = (h.0, open_left ρ (suc k) xs ys h.1)
@@ -132,7 +132,7 @@ module _ (ctors : List Ctor) (missing : Missing) (chosen : Values) where
   plus_suc : (k i : ℕ) → suc k + i ≡ k + suc i
   plus_suc k i = omega arith
 
-  opened_are : (ρ : Values) (ss : List Sort) (vs : List Value) (k : ℕ) → have_sorts ctors vs ss ≡ true
+  pub opened_are : (ρ : Values) (ss : List Sort) (vs : List Value) (k : ℕ) → have_sorts ctors vs ss ≡ true
       → ((i : ℕ) → chosen (k + i) ≡ slice_index_or vs i (Truth false))
       → AllOpen ctors missing chosen ρ k (map open_step ss) → AreValues ρ (numbers k ss) vs
   opened_are ρ [] [] k h at o = tt

@@ -1,5 +1,5 @@
-mod Within
-mod Forms
-mod Exprs
-mod Solve
+pub mod Within
+pub mod Forms
+pub mod Exprs
+pub mod Solve
 pub mod Laws

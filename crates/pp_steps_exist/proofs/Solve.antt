@@ -1,5 +1,6 @@
 -- Steps can be run: for each choice of the open values there are values that obey all steps.
 use Rattle.std.proofs.Common.{◌≡◌, ℕ, suc, ◌<◌, List, [], ◌∷◌, map, true, false, refl, sym, ap, ◌∙◌, arith}
+use Rattle.std.proofs.Common.{Option, Some, None}
 use Rattle.std.specs.Prelude.{nat_eq, not, ◌&&◌, if◌then◌else◌}
 use Rattle.pp_prog.specs.declared.types.Ctor.{Ctor}
 use Rattle.pp_prog.specs.declared.value.Value.{Value}
@@ -8,9 +9,11 @@ use Rattle.pp_prog.specs.declared.value.Value.TheViews.{out-Value}
 use Rattle.pp_eval.specs.Measure.{goes_down, one_sort}
 use Rattle.pp_eval.specs.Meaning.{field}
 use Rattle.pp_eval.specs.Operators.{unary}
+use Rattle.pp_steps.specs.declared.step.OpenCall.{OpenCall}
 use Rattle.pp_steps.specs.declared.step.Step.{Step}
 use Rattle.pp_steps.specs.declared.step.Step.TheVariants as steps
-use Rattle.pp_steps.specs.Meaning.{Does, Missing, Obeys, Values, applied, bit, ctor_field, has_ctor, value_or}
+use Rattle.pp_steps.specs.Meaning.{Does, Missing, Obeys, Values, answer_of, applied, bit, ctor_field, has_ctor}
+use Rattle.pp_steps.specs.Meaning.{is_answered, value_or}
 use Rattle.pp_steps.specs.Reads.{AllRead, Below, Reads}
 
 abbrev pub set : Values → ℕ → Value → Values
@@ -28,6 +31,11 @@ set_here ρ k v = rw (nat_eq_self k) refl
 set_less : (ρ : Values) (k : ℕ) (v : Value) (i : ℕ) → i < k → set ρ k v i ≡ ρ i
 set_less ρ k v i h = rw (nat_eq_less i k h) refl
 
+-- the answer, or this value where there is none
+abbrev pub answer_or : Value → Option Value → Value
+answer_or v None = v
+answer_or v (Some u) = u
+
 module _ (ctors : List Ctor) (missing : Missing) (chosen : Values) where
   abbrev pub value : Values → ℕ → Step → Value
   value ρ k (steps.Open s) = chosen k
@@ -44,6 +52,8 @@ module _ (ctors : List Ctor) (missing : Missing) (chosen : Values) where
   value ρ k (steps.Field a i) = value_or (Truth false) (field (ρ a) i)
   value ρ k (steps.IsAlike a b) = Truth (one_sort ctors (out-Value (ρ a)) (out-Value (ρ b)))
   value ρ k (steps.GoesDown a b) = Truth (goes_down (ρ a) (ρ b))
+  value ρ k (steps.HasAnswer c) = Truth (is_answered (answer_of missing ρ c))
+  value ρ k (steps.Answer c) = answer_or (chosen k) (answer_of missing ρ c)
 
   abbrev pub solved : ℕ → List Step → Values → Values
   solved k [] ρ = ρ
@@ -64,6 +74,12 @@ module _ (ctors : List Ctor) (missing : Missing) (chosen : Values) where
   map_same k ρ σ [] b h = refl
   map_same k ρ σ (n ∷ ns) b h = ap (λ v. v ∷ map σ ns) (h n b.0) ∙ ap (λ vs. ρ n ∷ vs) (map_same k ρ σ ns b.1 h)
 
+  -- so does an open call's answer
+  answer_same : (k : ℕ) (ρ σ : Values) (c : OpenCall) → Below k c.args → ((i : ℕ) → i < k → σ i ≡ ρ i)
+      → answer_of missing ρ c ≡ answer_of missing σ c
+  answer_same k ρ σ c b h =
+      ap (missing.answer c.wait c.callee c.params c.result) (sym (map_same k ρ σ c.args b h))
+
   -- a step's value hangs on earlier numbers alone
   does_value : (k : ℕ) (s : Step) (ρ σ : Values) (v : Value) → Reads k s → ((i : ℕ) → i < k → σ i ≡ ρ i)
       → v ≡ value ρ k s → Does ctors missing σ s v
@@ -81,6 +97,10 @@ module _ (ctors : List Ctor) (missing : Missing) (chosen : Values) where
   does_value k (steps.Field a i) ρ σ v r h e = rw (h a r) e
   does_value k (steps.IsAlike a b) ρ σ v r h e = rw (h a r.0, h b r.1) e
   does_value k (steps.GoesDown a b) ρ σ v r h e = rw (h a r.0, h b r.1) e
+  does_value k (steps.HasAnswer c) ρ σ v r h e =
+      λ on. e ∙ ap (λ o. Truth (is_answered o)) (answer_same k ρ σ c r.1 h)
+  does_value k (steps.Answer c) ρ σ v r h e =
+      λ on u is. e ∙ ap (answer_or (chosen k)) (answer_same k ρ σ c r.1 h ∙ is)
 
   -- open values are the chosen ones
   abbrev pub IsOpen : Values → ℕ → Step → Type 0

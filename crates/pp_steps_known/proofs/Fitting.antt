@@ -74,7 +74,7 @@ module _ (ctors : List Ctor) (missing : Missing) (ρ : Values) (K : ℕ → Type
   FitsKnown p = (k t : ℕ) → Given k (fitting p k t).steps → K t → IsFittingKnown ρ K (fitting p k t)
 
   equals_known : (s : Step) (k t : ℕ) → Given k (equals s k t).steps → K k → K t → IsFittingKnown ρ K (equals s k t)
-  equals_known s k t h here known = record { chain = (h.tells.1.0 here known tt, λ on. All-nil K) }
+  equals_known s k t h here known = record { chain = (h.tells.1.0 here known, λ on. All-nil K) }
 
   abbrev P : Type 0
   P = (p : Pattern) × FitsKnown p

@@ -18,7 +18,7 @@ use Rattle.pp_steps.specs.declared.step.Step.{Step}
 use Rattle.pp_steps.specs.declared.step.Step.TheVariants as steps
 use Rattle.pp_steps.specs.Compile.{Compiling, Site, all, all_from, binary, branches, one, operating, quotient, skipping}
 use Rattle.pp_steps.specs.Compile.{unless, when}
-use Rattle.pp_steps.specs.Known.{IsDefined, Tells}
+use Rattle.pp_steps.specs.Known.{Tells}
 use Rattle.pp_steps.specs.Meaning.{Missing, Values}
 use Rattle.pp_steps.specs.Piece.{Piece, after, asks, bind, demand, joined, plain, possible}
 use Rattle.pp_steps_run.specs.Told.{On}
@@ -71,19 +71,10 @@ module _ (ctors : List Ctor) (missing : Missing) (ρ : Values) (K : ℕ → Type
   abbrev pub Given : ℕ → List Step → Type 0
   Given k ss = IsGiven ρ K ctors missing k ss
 
-  -- a divisor whose test is true isn't 0
-  nonzero : (k y : ℕ)
-      → Given k (steps.Int (pos 0) ∷ steps.Binary Equal y k ∷ steps.Not (suc k) ∷ []) → On ρ (suc (suc k))
-      → ρ y ≢ Int (pos 0)
-  nonzero k y h on e =
-      both_ways (equal (ρ y) (ρ k))
-      (sym (bit_is _ _ h.obeys.1.0) ∙ not-true _ (sym (bit_is _ _ h.obeys.1.1.0) ∙ on))
-      (same_equal (ρ y) (ρ k) (e ∙ sym h.obeys.0))
-
-  quotient_known : (asked : Option CheckId) (op : BinaryOp) → ((v : Value) → v ≢ Int (pos 0) → IsDefined op v)
-      → (check : Option CheckId) (k alive x y : ℕ) → Given k (quotient asked op check k alive x y).steps → K alive
+  quotient_known : (asked : Option CheckId) (op : BinaryOp) (check : Option CheckId) (k alive x y : ℕ)
+      → Given k (quotient asked op check k alive x y).steps → K alive
       → (On ρ alive → K x) → (On ρ alive → K y) → IsKnown ρ K K alive (quotient asked op check k alive x y)
-  quotient_known asked op defined check k alive x y h a hx hy =
+  quotient_known asked op check k alive x y h a hx hy =
       let z : Piece ℕ = plain (steps.Int (pos 0) ∷ steps.Binary Equal y k ∷ steps.Not (suc k) ∷ [])
       (suc (suc k)) alive in
       let n = after k z in
@@ -91,22 +82,20 @@ module _ (ctors : List Ctor) (missing : Missing) (ρ : Values) (K : ℕ → Type
       let q = one (steps.Binary op x y) (after n d) d.alive in
       let hz = given_left k z.steps (d.steps ++ q.steps) h in
       let hdq = given_right k z.steps (d.steps ++ q.steps) h in
-      let test = λ (on : On ρ alive). hz.tells.1.1.0 (hz.tells.1.0 (hy on) hz.tells.0 tt) in
+      let test = λ (on : On ρ alive). hz.tells.1.1.0 (hz.tells.1.0 (hy on) hz.tells.0) in
       let kd = demand_known (asks asked check) n alive (suc (suc k)) (given_left n d.steps q.steps hdq) a test in
       let hq = given_right n d.steps q.steps hdq in
       known_behind z (joined d q) (All-nil K)
       (known_joined d q kd (known_plain q.steps (after n d) d.alive kd.alive
-      (λ on. hq.tells.0 (hx (kd.reached on)) (hy (kd.reached on)) (defined (ρ y) (nonzero k y hz (kd.out on))))))
+      (λ on. hq.tells.0 (hx (kd.reached on)) (hy (kd.reached on)))))
 
   operating_known : (asked : Option CheckId) (op : BinaryOp) (check : Option CheckId) (k alive x y : ℕ)
       → Given k (operating asked op check k alive x y).steps → K alive
       → (On ρ alive → K x) → (On ρ alive → K y) → IsKnown ρ K K alive (operating asked op check k alive x y)
-  operating_known asked Div check k alive x y h a hx hy =
-      quotient_known asked Div (λ v d. d) check k alive x y h a hx hy
-  operating_known asked Rem check k alive x y h a hx hy =
-      quotient_known asked Rem (λ v d. d) check k alive x y h a hx hy
+  operating_known asked Div check k alive x y h a hx hy = quotient_known asked Div check k alive x y h a hx hy
+  operating_known asked Rem check k alive x y h a hx hy = quotient_known asked Rem check k alive x y h a hx hy
   operating_known asked op check k alive x y h a hx hy =
-      known_plain (steps.Binary op x y ∷ []) k alive a (λ on. h.tells.0 (hx on) (hy on) tt)
+      known_plain (steps.Binary op x y ∷ []) k alive a (λ on. h.tells.0 (hx on) (hy on))
 
 module _ (ctors : List Ctor) (missing : Missing) (ρ : Values) (K : ℕ → Type 0) (C : Type 0) where
   -- what the expression reaches is known, in a scope that is known

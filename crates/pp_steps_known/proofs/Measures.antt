@@ -50,7 +50,7 @@ module _ (ctors : List Ctor) (missing : Missing) (ρ : Values) (K : ℕ → Type
         (λ q. All-tail K x (z ∷ xs) (n q)) (λ q. All-tail K y ys (o q)) in
         let hl = given_right i r.steps l hrl in
         let down = λ (q : Q). hp.tells.0 (All-head K x (z ∷ xs) (n q)) (All-head K y ys (o q)) in
-        let same = λ (q : Q). hp.tells.1.0 (All-head K x (z ∷ xs) (n q)) (All-head K y ys (o q)) tt in
+        let same = λ (q : Q). hp.tells.1.0 (All-head K x (z ∷ xs) (n q)) (All-head K y ys (o q)) in
         record {
           alive = refl;
           fails = ap (λ (ns : List ℕ). ns ++ []) hr.fails;

@@ -10,7 +10,6 @@ use Rattle.pp_eval.specs.Meaning.{Frame, Meaning}
 use Rattle.pp_eval.specs.Operators.{truth, truth_in}
 use Rattle.pp_eval.specs.Part.{Part, and_then, either}
 use Rattle.pp_eval.proofs.Extends.{Extends, either_extends, same_extends, then_extends}
-use Rattle.pp_steps.specs.declared.step.Asked.{Asked}
 use Rattle.pp_steps.specs.Meaning.{Missing, Values, bit}
 use Rattle.pp_steps.specs.Compile.{Compiling, branches, unless, when}
 use Rattle.pp_steps.specs.Piece.{Piece, after, bind, joined, possible}
@@ -41,22 +40,22 @@ pub told_possible : (ρ : Values) (asked : Option CheckId) (x : Piece ℕ) (part
 told_possible ρ asked x (Ok v) h = record { told = h.told }
 told_possible ρ asked x (Err s) h = record { told = h.told }
 
-module _ (ctors : List Ctor) (missing : Missing) (ρ : Values) (Meets : Asked → Type 0) (asked : Option CheckId)
+module _ (ctors : List Ctor) (missing : Missing) (ρ : Values) (asked : Option CheckId)
     (frame : Frame) where
   abbrev Right : Compiling → Meaning → Meaning → Type 0
-  Right = IsRight ctors missing ρ Meets asked frame
+  Right = IsRight ctors missing ρ asked frame
 
   abbrev Made : {A : Type 0} → ℕ → Piece A → Type 0
-  Made k x = IsMade ctors missing ρ Meets k x
+  Made k x = IsMade ctors missing ρ k x
 
   -- ---- a condition, and what goes on
 
   -- how the steps go on from a condition with this truth value
   pub record GoesOn (next : ℕ → List ℕ → ℕ → ℕ → Piece ℕ) (go full : Bool → Meaning) : Type 0 where
     pub extends : (b : Bool) (f : Frame) (vs : List Value) → Extends (go b f vs) (full b f vs)
-    pub quiet : (k : ℕ) (env : List ℕ) (x alive : ℕ) → IsMade ctors missing ρ Meets k (next k env x alive)
+    pub quiet : (k : ℕ) (env : List ℕ) (x alive : ℕ) → IsMade ctors missing ρ k (next k env x alive)
         → Off ρ alive → IsQuiet ρ (next k env x alive)
-    pub told : (k : ℕ) (env : List ℕ) (x alive : ℕ) → IsMade ctors missing ρ Meets k (next k env x alive)
+    pub told : (k : ℕ) (env : List ℕ) (x alive : ℕ) → IsMade ctors missing ρ k (next k env x alive)
         → (vs : List Value) → On ρ alive → AreValues ρ env vs
         → (b : Bool) → ρ x ≡ Truth b → bit (ρ x) ≡ b → Lasts (full b frame vs) → IsTold ρ asked (IsValue ρ)
         (next k env x alive) (go b frame vs)
@@ -72,14 +71,14 @@ module _ (ctors : List Ctor) (missing : Missing) (ρ : Values) (Meets : Asked �
     quiet = λ k env reach h off.
         let x = m k env reach in
         let y = next (after k x) env x.out x.alive in
-        quiet_bind ρ x y (r.quiet k env reach (made_left ctors missing ρ Meets k x y h) off)
-        (λ d. g.quiet (after k x) env x.out x.alive (made_right ctors missing ρ Meets k x y h) d);
+        quiet_bind ρ x y (r.quiet k env reach (made_left ctors missing ρ k x y h) off)
+        (λ d. g.quiet (after k x) env x.out x.alive (made_right ctors missing ρ k x y h) d);
     told = λ k env reach h vs on are lasts.
         let x = m k env reach in
         let y = next (after k x) env x.out x.alive in
-        let my = made_right ctors missing ρ Meets k x y h in
+        let my = made_right ctors missing ρ k x y h in
         told_then ρ asked x y (part frame vs) (all frame vs) _ _ (r.extends frame vs) lasts
-        (λ l. r.told k env reach (made_left ctors missing ρ Meets k x y h) vs on are l)
+        (λ l. r.told k env reach (made_left ctors missing ρ k x y h) vs on are l)
         (λ d. g.quiet (after k x) env x.out x.alive my d)
         (λ v alive is l. let e = truth_is v (lasts_first (truth v) _ l) in
         told_either ρ asked y v (λ b. go b frame vs) (λ b. full b frame vs) l
@@ -112,59 +111,57 @@ module _ (ctors : List Ctor) (missing : Missing) (ρ : Values) (Meets : Asked �
       B = b (after l A) env (suc (after n W))
 
       abbrev C : Piece ℕ
-      C = Chosen ctors missing ρ Meets l n A (possible B)
+      C = Chosen ctors missing ρ l n A (possible B)
 
       abbrev Whole : Piece ℕ
       Whole = joined W (joined U C)
 
       fork_quiet : Made n Whole → Off ρ alive → IsQuiet ρ Whole
       fork_quiet h dead =
-          let mw = made_left ctors missing ρ Meets n W (joined U C) h in
-          let mr = made_right ctors missing ρ Meets n W (joined U C) h in
-          let mu = made_left ctors missing ρ Meets (after n W) U C mr in
-          let mc = made_right ctors missing ρ Meets (after n W) U C mr in
-          let taken = when_dead ctors missing ρ Meets n alive x mw dead in
-          let missed = unless_dead ctors missing ρ Meets (after n W) alive x mu dead in
+          let mw = made_left ctors missing ρ n W (joined U C) h in
+          let mr = made_right ctors missing ρ n W (joined U C) h in
+          let mu = made_left ctors missing ρ (after n W) U C mr in
+          let mc = made_right ctors missing ρ (after n W) U C mr in
+          let taken = when_dead ctors missing ρ n alive x mw dead in
+          let missed = unless_dead ctors missing ρ (after n W) alive x mu dead in
           quiet_bind ρ W (joined U C) (quiet_plain ρ _ n alive dead)
           (λ d. quiet_bind ρ U C (quiet_plain ρ _ (suc (after n W)) alive d)
-          (λ e. choice_quiet ctors missing ρ Meets l n A (possible B) mc taken
-          (ra.quiet l env n (choice_first ctors missing ρ Meets l n A (possible B) mc) taken)
+          (λ e. choice_quiet ctors missing ρ l n A (possible B) mc taken
+          (ra.quiet l env n (choice_first ctors missing ρ l n A (possible B) mc) taken)
           (quiet_possible ρ B (rb.quiet (after l A) env (suc (after n W))
           (record {
-            steps = (choice_second ctors missing ρ Meets l n A (possible B) mc).steps;
-            calls =
-                (choice_second ctors missing ρ Meets l n A (possible B) mc).calls;
+            steps = (choice_second ctors missing ρ l n A (possible B) mc).steps;
           }) missed))))
 
       fork_told : Made n Whole → (vs : List Value) → On ρ alive → AreValues ρ env vs → (t : Bool) → bit (ρ x) ≡ t
           → Lasts (either t (fa frame vs) (fb frame vs)) → IsTold ρ asked (IsValue ρ) Whole
           (either t (pa frame vs) (pb frame vs))
       fork_told h vs on are true is lasts =
-          let mw = made_left ctors missing ρ Meets n W (joined U C) h in
-          let mr = made_right ctors missing ρ Meets n W (joined U C) h in
-          let mu = made_left ctors missing ρ Meets (after n W) U C mr in
-          let mc = made_right ctors missing ρ Meets (after n W) U C mr in
-          let taken = when_on ctors missing ρ Meets n alive x mw on is in
-          let missed = unless_off ctors missing ρ Meets (after n W) alive x mu is in
-          let mb = choice_second ctors missing ρ Meets l n A (possible B) mc in
+          let mw = made_left ctors missing ρ n W (joined U C) h in
+          let mr = made_right ctors missing ρ n W (joined U C) h in
+          let mu = made_left ctors missing ρ (after n W) U C mr in
+          let mc = made_right ctors missing ρ (after n W) U C mr in
+          let taken = when_on ctors missing ρ n alive x mw on is in
+          let missed = unless_off ctors missing ρ (after n W) alive x mu is in
+          let mb = choice_second ctors missing ρ l n A (possible B) mc in
           told_after ρ asked W (joined U C) (pa frame vs) tt (told_after ρ asked U C (pa frame vs) tt
-          (choice_left ctors missing ρ Meets l n A (possible B) asked (pa frame vs) mc taken
-          (ra.told l env n (choice_first ctors missing ρ Meets l n A (possible B) mc) vs taken are lasts)
-          (rb.quiet (after l A) env (suc (after n W)) (record { steps = mb.steps; calls = mb.calls }) missed).fails))
+          (choice_left ctors missing ρ l n A (possible B) asked (pa frame vs) mc taken
+          (ra.told l env n (choice_first ctors missing ρ l n A (possible B) mc) vs taken are lasts)
+          (rb.quiet (after l A) env (suc (after n W)) (record { steps = mb.steps }) missed).fails))
       fork_told h vs on are false is lasts =
-          let mw = made_left ctors missing ρ Meets n W (joined U C) h in
-          let mr = made_right ctors missing ρ Meets n W (joined U C) h in
-          let mu = made_left ctors missing ρ Meets (after n W) U C mr in
-          let mc = made_right ctors missing ρ Meets (after n W) U C mr in
-          let taken = when_off ctors missing ρ Meets n alive x mw is in
-          let missed = unless_on ctors missing ρ Meets (after n W) alive x mu on is in
-          let mb = choice_second ctors missing ρ Meets l n A (possible B) mc in
+          let mw = made_left ctors missing ρ n W (joined U C) h in
+          let mr = made_right ctors missing ρ n W (joined U C) h in
+          let mu = made_left ctors missing ρ (after n W) U C mr in
+          let mc = made_right ctors missing ρ (after n W) U C mr in
+          let taken = when_off ctors missing ρ n alive x mw is in
+          let missed = unless_on ctors missing ρ (after n W) alive x mu on is in
+          let mb = choice_second ctors missing ρ l n A (possible B) mc in
           told_after ρ asked W (joined U C) (pb frame vs) tt (told_after ρ asked U C (pb frame vs) tt
-          (choice_right ctors missing ρ Meets l n A (possible B) asked (pb frame vs) mc taken
-          (ra.quiet l env n (choice_first ctors missing ρ Meets l n A (possible B) mc) taken).fails
+          (choice_right ctors missing ρ l n A (possible B) asked (pb frame vs) mc taken
+          (ra.quiet l env n (choice_first ctors missing ρ l n A (possible B) mc) taken).fails
           (told_possible ρ asked B (pb frame vs)
           (rb.told (after l A) env (suc (after n W))
-          (record { steps = mb.steps; calls = mb.calls }) vs missed are lasts))))
+          (record { steps = mb.steps }) vs missed are lasts))))
 
     pub fork_goes : GoesOn (forked a b) (λ t f vs. either t (pa f vs) (pb f vs))
         (λ t f vs. either t (fa f vs) (fb f vs))

@@ -10,7 +10,6 @@ use Rattle.pp_eval.specs.Meaning.{Frame, Meaning, attempt, attempt_with, first_c
 use Rattle.pp_eval.specs.Meaning as run
 use Rattle.pp_eval.specs.Part.{Part, and_then, failed}
 use Rattle.pp_eval.proofs.Extends.{Extends, next_extends, same_extends, taken_extends, then_extends}
-use Rattle.pp_steps.specs.declared.step.Asked.{Asked}
 use Rattle.pp_steps.specs.Meaning.{Missing, Values, bit}
 use Rattle.pp_steps.specs.Compile as steps
 use Rattle.pp_steps.specs.Compile.{Compiling, all_of, cases, deciding, matched, number_or}
@@ -35,20 +34,20 @@ pub quiet_after : {A B : Type 0} (ρ : Values) (x : Piece A) (y : Piece B) → A
     → IsQuiet ρ (joined x y)
 quiet_after ρ x y h g = record { alive = g.alive; fails = all_join (Off ρ) x.fails y.fails h g.fails }
 
-module _ (ctors : List Ctor) (missing : Missing) (ρ : Values) (Meets : Asked → Type 0) (asked : Option CheckId)
+module _ (ctors : List Ctor) (missing : Missing) (ρ : Values) (asked : Option CheckId)
     (frame : Frame) where
   abbrev Right : Compiling → Meaning → Meaning → Type 0
-  Right = IsRight ctors missing ρ Meets asked frame
+  Right = IsRight ctors missing ρ asked frame
 
   abbrev Made : {A : Type 0} → ℕ → Piece A → Type 0
-  Made k x = IsMade ctors missing ρ Meets k x
+  Made k x = IsMade ctors missing ρ k x
 
   -- the case is right
   pub record RightArm (x : steps.Arm) (a b : run.Arm) : Type 0 where
     pub pattern : a.pattern ≡ x.pattern
     pub full_pattern : b.pattern ≡ x.pattern
-    pub guard : RightGuard ctors missing ρ Meets asked frame x.guard a.guard b.guard
-    pub body : IsRight ctors missing ρ Meets asked frame x.body a.body b.body
+    pub guard : RightGuard ctors missing ρ asked frame x.guard a.guard b.guard
+    pub body : IsRight ctors missing ρ asked frame x.body a.body b.body
 
   abbrev pub RightArms : List steps.Arm → List run.Arm → List run.Arm → Type 0
   RightArms [] [] [] = Unit {0}
@@ -62,7 +61,7 @@ module _ (ctors : List Ctor) (missing : Missing) (ρ : Values) (Meets : Asked �
       → Extends (attempt_with o a f vs) (attempt_with o b f vs)
   with_extends x a b r None f vs = refl
   with_extends x a b r (Some bound) f vs =
-      then_extends _ _ _ _ (guard_extends ctors missing ρ Meets asked frame x.guard a.guard b.guard r.guard f
+      then_extends _ _ _ _ (guard_extends ctors missing ρ asked frame x.guard a.guard b.guard r.guard f
       (vs ++ bound)) (λ t. taken_extends t _ _ (r.body.extends f (vs ++ bound)))
 
   arm_extends : (x : steps.Arm) (a b : run.Arm) → RightArm x a b → (v : Value) (f : Frame) (vs : List Value)
@@ -118,49 +117,49 @@ module _ (ctors : List Ctor) (missing : Missing) (ρ : Values) (Meets : Asked �
     Y = rest (after l X) G.out.1
 
     abbrev C : Piece ℕ
-    C = Chosen ctors missing ρ Meets l G.out.0 X Y
+    C = Chosen ctors missing ρ l G.out.0 X Y
 
     abbrev Whole : Piece ℕ
     Whole = joined P (joined T (joined G C))
 
     made_p : Made k Whole → Made k P
-    made_p h = made_left ctors missing ρ Meets k P (joined T (joined G C)) h
+    made_p h = made_left ctors missing ρ k P (joined T (joined G C)) h
 
     made_t : Made k Whole → Made kt T
-    made_t h = made_left ctors missing ρ Meets kt T (joined G C)
-        (made_right ctors missing ρ Meets k P (joined T (joined G C)) h)
+    made_t h = made_left ctors missing ρ kt T (joined G C)
+        (made_right ctors missing ρ k P (joined T (joined G C)) h)
 
     made_gc : Made k Whole → Made kg (joined G C)
-    made_gc h = made_right ctors missing ρ Meets kt T (joined G C)
-        (made_right ctors missing ρ Meets k P (joined T (joined G C)) h)
+    made_gc h = made_right ctors missing ρ kt T (joined G C)
+        (made_right ctors missing ρ k P (joined T (joined G C)) h)
 
     made_g : Made k Whole → Made kg G
-    made_g h = made_left ctors missing ρ Meets kg G C (made_gc h)
+    made_g h = made_left ctors missing ρ kg G C (made_gc h)
 
     made_c : Made k Whole → Made l C
-    made_c h = made_right ctors missing ρ Meets kg G C (made_gc h)
+    made_c h = made_right ctors missing ρ kg G C (made_gc h)
 
     made_x : Made k Whole → Made l X
-    made_x h = choice_first ctors missing ρ Meets l G.out.0 X Y (made_c h)
+    made_x h = choice_first ctors missing ρ l G.out.0 X Y (made_c h)
 
     pub made_y : Made k Whole → Made (after l X) Y
-    made_y h = choice_second ctors missing ρ Meets l G.out.0 X Y (made_c h)
+    made_y h = choice_second ctors missing ρ l G.out.0 X Y (made_c h)
 
     abbrev QuietRest : Type 0
     QuietRest = Made (after l X) Y → Off ρ G.out.1 → IsQuiet ρ Y
 
     t_fails : AllOf (Off ρ) T.fails
-    t_fails = all_of_fails ctors missing ρ Meets kt F.tests reach
+    t_fails = all_of_fails ctors missing ρ kt F.tests reach
 
     pub arm_quiet : Made k Whole → Off ρ reach → QuietRest → IsQuiet ρ Whole
     arm_quiet h off q =
-        let fits = all_of_dead ctors missing ρ Meets kt F.tests reach (made_t h) off in
-        let d = decided_idle ctors missing ρ Meets asked frame x.guard a.guard b.guard r.guard kg inner reach T.out
+        let fits = all_of_dead ctors missing ρ kt F.tests reach (made_t h) off in
+        let d = decided_idle ctors missing ρ asked frame x.guard a.guard b.guard r.guard kg inner reach T.out
         (made_g h) off fits in
         quiet_after ρ P (joined T (joined G C)) tt
         (quiet_after ρ T (joined G C) t_fails
         (quiet_after ρ G C d.fails
-        (choice_quiet ctors missing ρ Meets l G.out.0 X Y (made_c h) d.taken
+        (choice_quiet ctors missing ρ l G.out.0 X Y (made_c h) d.taken
         (r.body.quiet l inner G.out.0 (made_x h) d.taken) (q (made_y h) d.next))))
 
     -- behind the pattern and the guard
@@ -172,18 +171,18 @@ module _ (ctors : List Ctor) (missing : Missing) (ρ : Values) (Meets : Asked �
         (told_after ρ asked G C part fails told))
 
     -- the next case is tried
-    passed : Made k Whole → IsDecided ctors missing ρ Meets asked frame G (Ok false) → (next : Part Value)
+    passed : Made k Whole → IsDecided ctors missing ρ asked frame G (Ok false) → (next : Part Value)
         → (On ρ G.out.1 → IsTold ρ asked (MayBe ρ) Y next)
         → IsTold ρ asked (IsValue ρ) Whole next
     passed h d next told =
         front next d.decides.2
-        (choice_right ctors missing ρ Meets l G.out.0 X Y asked next (made_c h) d.decides.0
+        (choice_right ctors missing ρ l G.out.0 X Y asked next (made_c h) d.decides.0
         (r.body.quiet l inner G.out.0 (made_x h) d.decides.0).fails (told d.decides.1))
 
     -- by what the guard comes to, where the pattern fits
     decided : Made k Whole → (bound : List Value) (vs : List Value) → AreValues ρ inner (vs ++ bound)
         → (next full : Part Value)
-        → (part : Part Bool) → IsDecided ctors missing ρ Meets asked frame G part
+        → (part : Part Bool) → IsDecided ctors missing ρ asked frame G part
         → (part ≡ Ok true → Lasts (b.body frame (vs ++ bound)))
         → (part ≡ Ok false → On ρ G.out.1 → IsTold ρ asked (MayBe ρ) Y next) → QuietRest
         → IsTold ρ asked (IsValue ρ) Whole
@@ -191,7 +190,7 @@ module _ (ctors : List Ctor) (missing : Missing) (ρ : Values) (Meets : Asked �
     decided h bound vs are next full (Ok true) d body told q =
         subst (λ z. IsTold ρ asked (IsValue ρ) Whole z) (sym (taken_body (a.body frame (vs ++ bound)) next))
         (front (a.body frame (vs ++ bound)) d.decides.2
-        (choice_left ctors missing ρ Meets l G.out.0 X Y asked (a.body frame (vs ++ bound)) (made_c h) d.decides.0
+        (choice_left ctors missing ρ l G.out.0 X Y asked (a.body frame (vs ++ bound)) (made_c h) d.decides.0
         (r.body.told l inner G.out.0 (made_x h) (vs ++ bound) d.decides.0 are (body refl))
         (q (made_y h) d.decides.1).fails))
     decided h bound vs are next full (Ok false) d body told q = passed h d next (told refl)
@@ -199,7 +198,7 @@ module _ (ctors : List Ctor) (missing : Missing) (ρ : Values) (Meets : Asked �
         told_after ρ asked P (joined T (joined G C)) (Err s) tt
         (told_after ρ asked T (joined G C) (Err s) t_fails
         (told_stop ρ asked G C s d.decides.2
-        (choice_quiet ctors missing ρ Meets l G.out.0 X Y (made_c h) d.decides.0
+        (choice_quiet ctors missing ρ l G.out.0 X Y (made_c h) d.decides.0
         (r.body.quiet l inner G.out.0 (made_x h) d.decides.0) (q (made_y h) d.decides.1))))
 
     by_fit : Made k Whole → On ρ reach → (vs : List Value) → AreValues ρ env vs → (next full : Part Value)
@@ -209,17 +208,17 @@ module _ (ctors : List Ctor) (missing : Missing) (ρ : Values) (Meets : Asked �
         → (Lasts full → On ρ G.out.1 → IsTold ρ asked (MayBe ρ) Y next) → QuietRest
         → IsTold ρ asked (IsValue ρ) Whole (and_then (attempt_with o a frame vs) (λ u. or_next u next))
     by_fit h on vs are next full e None fits lasts told q =
-        let off = all_of_off ctors missing ρ Meets kt F.tests reach (made_t h) fits.told in
-        passed h (decided_misses ctors missing ρ Meets asked frame x.guard a.guard b.guard r.guard kg inner reach
+        let off = all_of_off ctors missing ρ kt F.tests reach (made_t h) fits.told in
+        passed h (decided_misses ctors missing ρ asked frame x.guard a.guard b.guard r.guard kg inner reach
         T.out (made_g h) on off) next (told lasts)
     by_fit h on vs are next full e (Some bound) fits lasts told q =
-        let fit_on = all_of_on ctors missing ρ Meets kt F.tests reach (made_t h) on fits.told.0 in
+        let fit_on = all_of_on ctors missing ρ kt F.tests reach (made_t h) on fits.told.0 in
         let known = are_more ρ env F.bound vs bound are fits.told.1 in
         let l1 = lasts_first (attempt_with (Some bound) b frame vs) (λ u. or_next u full) lasts in
         let l2 = lasts_first (guarded b.guard frame (vs ++ bound)) (λ z. taken z (b.body frame (vs ++ bound))) l1 in
-        let ge = guard_extends ctors missing ρ Meets asked frame x.guard a.guard b.guard r.guard frame (vs ++ bound) in
+        let ge = guard_extends ctors missing ρ asked frame x.guard a.guard b.guard r.guard frame (vs ++ bound) in
         decided h bound vs known next full (guarded a.guard frame (vs ++ bound))
-        (decided_fits ctors missing ρ Meets asked frame x.guard a.guard b.guard r.guard kg inner reach T.out
+        (decided_fits ctors missing ρ asked frame x.guard a.guard b.guard r.guard kg inner reach T.out
         (made_g h) on fit_on (vs ++ bound) known l2)
         (λ is. lasts_first (b.body frame (vs ++ bound)) (λ w. Ok (Some w))
         (lasts_next (guarded a.guard frame (vs ++ bound)) (guarded b.guard frame (vs ++ bound))
@@ -262,7 +261,7 @@ module _ (ctors : List Ctor) (missing : Missing) (ρ : Values) (Meets : Asked �
   cases_quiet (x ∷ xs) (a ∷ as') (b ∷ bs) r check t k env reach h off =
       let rest = λ (n m : ℕ). cases asked xs check t n env m in
       quiet_possible ρ (Whole x a b r.0 rest k t env reach)
-      (arm_quiet x a b r.0 rest k t env reach (record { steps = h.steps; calls = h.calls }) off
+      (arm_quiet x a b r.0 rest k t env reach (record { steps = h.steps }) off
       (λ m d. cases_quiet xs as' bs r.1 check t _ env _ m d))
   cases_quiet [] (a ∷ as') bs r check t k env reach h off = absurd r
   cases_quiet [] [] (b ∷ bs) r check t k env reach h off = absurd r
@@ -285,7 +284,7 @@ module _ (ctors : List Ctor) (missing : Missing) (ρ : Values) (Meets : Asked �
       flags false = tt
   cases_told (x ∷ xs) (a ∷ as') (b ∷ bs) r check t k env reach h on v is vs are lasts =
       let rest = λ (n m : ℕ). cases asked xs check t n env m in
-      let whole : Made k (Whole x a b r.0 rest k t env reach) = record { steps = h.steps; calls = h.calls } in
+      let whole : Made k (Whole x a b r.0 rest k t env reach) = record { steps = h.steps } in
       told_possible ρ asked (Whole x a b r.0 rest k t env reach) (first_case (a ∷ as') check v frame vs)
       (arm_told x a b r.0 rest k t env reach whole on v is vs are
       (first_case as' check v frame vs) (first_case bs check v frame vs)
@@ -321,11 +320,9 @@ module _ (ctors : List Ctor) (missing : Missing) (ρ : Values) (Meets : Asked �
         let z = cases asked xs check x.out (after k x) env x.alive in
         let y = matched x.out z in
         let mz : Made (after k x) z = record {
-          steps = (made_right ctors missing ρ Meets k x y h).steps;
-          calls =
-              (made_right ctors missing ρ Meets k x y h).calls;
+          steps = (made_right ctors missing ρ k x y h).steps;
         } in
-        quiet_bind ρ x y (rm.quiet k env reach (made_left ctors missing ρ Meets k x y h) off)
+        quiet_bind ρ x y (rm.quiet k env reach (made_left ctors missing ρ k x y h) off)
         (λ d. let q = cases_quiet xs as' bs r check x.out
         (after k x) env x.alive mz d in record { alive = q.alive; fails = q.fails });
     told = λ k env reach h vs on are lasts.
@@ -333,12 +330,10 @@ module _ (ctors : List Ctor) (missing : Missing) (ρ : Values) (Meets : Asked �
         let z = cases asked xs check x.out (after k x) env x.alive in
         let y = matched x.out z in
         let mz : Made (after k x) z = record {
-          steps = (made_right ctors missing ρ Meets k x y h).steps;
-          calls =
-              (made_right ctors missing ρ Meets k x y h).calls;
+          steps = (made_right ctors missing ρ k x y h).steps;
         } in
         told_then ρ asked x y (pm frame vs) (fm frame vs) _ _ (rm.extends frame vs) lasts
-        (λ l. rm.told k env reach (made_left ctors missing ρ Meets k x y h) vs on are l)
+        (λ l. rm.told k env reach (made_left ctors missing ρ k x y h) vs on are l)
         (λ d. let q = cases_quiet xs as' bs r check x.out
         (after k x) env x.alive mz d in record { alive = q.alive; fails = q.fails })
         (λ v alive is l. matched_told x.out z (first_case as' check v frame vs)

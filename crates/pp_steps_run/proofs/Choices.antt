@@ -7,13 +7,12 @@ use Rattle.pp_prog.specs.declared.types.Ctor.{Ctor}
 use Rattle.pp_prog.specs.declared.value.Value.{Value}
 use Rattle.pp_prog.specs.declared.value.Value.TheVariants.{Bool as Truth}
 use Rattle.pp_eval.specs.Part.{Part}
-use Rattle.pp_steps.specs.declared.step.Asked.{Asked}
 use Rattle.pp_steps.specs.declared.step.Step.TheVariants as steps
 use Rattle.pp_steps.specs.Meaning.{Missing, Obeys, Values, bit}
 use Rattle.pp_steps.specs.Compile.{unless, when}
 use Rattle.pp_steps.specs.Piece.{Piece, after, choice, demand, pick_step, picked}
 use Rattle.pp_steps_run.specs.Told.{AllOf, Flags, IsMade, IsQuiet, IsTold, IsValue, MayBe, Off, On, here, looked}
-use Rattle.pp_steps_run.proofs.Pieces.{all_join, all_left, all_right, bit_truth, flags_left, flags_right, obeys_left}
+use Rattle.pp_steps_run.proofs.Pieces.{all_join, bit_truth, flags_left, flags_right, obeys_left}
 use Rattle.pp_steps_run.proofs.Pieces.{obeys_right}
 
 pub both_left : (a b : Bool) → a ≡ false → (a && b) ≡ false
@@ -32,9 +31,9 @@ pub if_false : {A : Type 0} (t : Bool) (a b v : A) → v ≡ (if t then a else b
 if_false true a b v h e = absurd (cc)
 if_false false a b v h e = h
 
-module _ (ctors : List Ctor) (missing : Missing) (ρ : Values) (Meets : Asked → Type 0) where
+module _ (ctors : List Ctor) (missing : Missing) (ρ : Values) where
   abbrev pub Made : {A : Type 0} → ℕ → Piece A → Type 0
-  Made k x = IsMade ctors missing ρ Meets k x
+  Made k x = IsMade ctors missing ρ k x
 
   both_is : (k a b : ℕ) → ρ k ≡ Truth (bit (ρ a) && bit (ρ b)) → bit (ρ k) ≡ (bit (ρ a) && bit (ρ b))
   both_is k a b h = ap bit h ∙ bit_truth _
@@ -108,13 +107,11 @@ module _ (ctors : List Ctor) (missing : Missing) (ρ : Values) (Meets : Asked �
     pub choice_first : Made k Chosen → Made k x
     choice_first h = record {
       steps = obeys_left ctors missing ρ k x.steps _ h.steps;
-      calls = all_left Meets x.calls y.calls h.calls;
     }
 
     pub choice_second : Made k Chosen → Made (after k x) y
     choice_second h = record {
       steps = obeys_left ctors missing ρ (after k x) y.steps _ (obeys_right ctors missing ρ k x.steps _ h.steps);
-      calls = all_right Meets x.calls y.calls h.calls;
     }
 
     abbrev Tail : Type 0

@@ -8,7 +8,6 @@ use Rattle.pp_eval.specs.Meaning.{Frame, Meaning, guarded}
 use Rattle.pp_eval.specs.Operators.{truth}
 use Rattle.pp_eval.specs.Part.{Part, and_then}
 use Rattle.pp_eval.proofs.Extends.{Extends, same_extends, then_extends}
-use Rattle.pp_steps.specs.declared.step.Asked.{Asked}
 use Rattle.pp_steps.specs.declared.step.Step.TheVariants as steps
 use Rattle.pp_steps.specs.Meaning.{Missing, Values, bit}
 use Rattle.pp_steps.specs.Compile.{Compiling, all_of, deciding, unless, when}
@@ -21,9 +20,9 @@ use Rattle.pp_steps_run.proofs.Lasting.{Lasts, lasts_first, lasts_next, truth_is
 use Rattle.pp_steps_run.proofs.Pieces.{all_join, flags_left, made_left, made_right}
 use Rattle.pp_steps_run.proofs.Rights.{IsRight}
 
-module _ (ctors : List Ctor) (missing : Missing) (ρ : Values) (Meets : Asked → Type 0) where
+module _ (ctors : List Ctor) (missing : Missing) (ρ : Values) where
   abbrev Made : {A : Type 0} → ℕ → Piece A → Type 0
-  Made k x = IsMade ctors missing ρ Meets k x
+  Made k x = IsMade ctors missing ρ k x
 
   -- ---- all of some numbers
 
@@ -33,8 +32,8 @@ module _ (ctors : List Ctor) (missing : Missing) (ρ : Values) (Meets : Asked �
   all_of_on k (t ∷ ts) alive h on all =
       let w = when k alive t in
       let y = all_of (after k w) ts k in
-      all_of_on (after k w) ts k (made_right ctors missing ρ Meets k w y h)
-      (when_on ctors missing ρ Meets k alive t (made_left ctors missing ρ Meets k w y h) on all.0) all.1
+      all_of_on (after k w) ts k (made_right ctors missing ρ k w y h)
+      (when_on ctors missing ρ k alive t (made_left ctors missing ρ k w y h) on all.0) all.1
 
   pub all_of_dead : (k : ℕ) (ts : List ℕ) (alive : ℕ) → Made k (all_of k ts alive) → Off ρ alive
       → Off ρ (all_of k ts alive).out
@@ -42,8 +41,8 @@ module _ (ctors : List Ctor) (missing : Missing) (ρ : Values) (Meets : Asked �
   all_of_dead k (t ∷ ts) alive h off =
       let w = when k alive t in
       let y = all_of (after k w) ts k in
-      all_of_dead (after k w) ts k (made_right ctors missing ρ Meets k w y h)
-      (when_dead ctors missing ρ Meets k alive t (made_left ctors missing ρ Meets k w y h) off)
+      all_of_dead (after k w) ts k (made_right ctors missing ρ k w y h)
+      (when_dead ctors missing ρ k alive t (made_left ctors missing ρ k w y h) off)
 
   pub all_of_off : (k : ℕ) (ts : List ℕ) (alive : ℕ) → Made k (all_of k ts alive) → SomeOf (Off ρ) ts
       → Off ρ (all_of k ts alive).out
@@ -51,12 +50,12 @@ module _ (ctors : List Ctor) (missing : Missing) (ρ : Values) (Meets : Asked �
   all_of_off k (t ∷ ts) alive h (here off) =
       let w = when k alive t in
       let y = all_of (after k w) ts k in
-      all_of_dead (after k w) ts k (made_right ctors missing ρ Meets k w y h)
-      (when_off ctors missing ρ Meets k alive t (made_left ctors missing ρ Meets k w y h) off)
+      all_of_dead (after k w) ts k (made_right ctors missing ρ k w y h)
+      (when_off ctors missing ρ k alive t (made_left ctors missing ρ k w y h) off)
   all_of_off k (t ∷ ts) alive h (there some) =
       let w = when k alive t in
       let y = all_of (after k w) ts k in
-      all_of_off (after k w) ts k (made_right ctors missing ρ Meets k w y h) some
+      all_of_off (after k w) ts k (made_right ctors missing ρ k w y h) some
 
   pub all_of_fails : (k : ℕ) (ts : List ℕ) (alive : ℕ) → AllOf (Off ρ) (all_of k ts alive).fails
   all_of_fails k [] alive = tt
@@ -64,7 +63,7 @@ module _ (ctors : List Ctor) (missing : Missing) (ρ : Values) (Meets : Asked �
 
   module _ (asked : Option CheckId) (frame : Frame) where
     abbrev Right : Compiling → Meaning → Meaning → Type 0
-    Right = IsRight ctors missing ρ Meets asked frame
+    Right = IsRight ctors missing ρ asked frame
 
     -- the guard is right, or there is none
     abbrev pub RightGuard : Option Compiling → Option Meaning → Option Meaning → Type 0
@@ -94,20 +93,20 @@ module _ (ctors : List Ctor) (missing : Missing) (ρ : Values) (Meets : Asked �
       Plain = deciding None k env reach fits
 
       plain_unless : Made k Plain → Made k (unless k reach fits)
-      plain_unless h = made_left ctors missing ρ Meets k (unless k reach fits) (plain [] (fits, suc k) reach) h
+      plain_unless h = made_left ctors missing ρ k (unless k reach fits) (plain [] (fits, suc k) reach) h
 
       plain_fits : Made k Plain → On ρ reach → On ρ fits → IsDecided Plain (Ok true)
       plain_fits h on fit =
-          record { decides = (fit, unless_off ctors missing ρ Meets k reach fits (plain_unless h) fit, tt) }
+          record { decides = (fit, unless_off ctors missing ρ k reach fits (plain_unless h) fit, tt) }
 
       plain_misses : Made k Plain → On ρ reach → Off ρ fits → IsDecided Plain (Ok false)
       plain_misses h on fit =
-          record { decides = (fit, unless_on ctors missing ρ Meets k reach fits (plain_unless h) on fit, tt) }
+          record { decides = (fit, unless_on ctors missing ρ k reach fits (plain_unless h) on fit, tt) }
 
       plain_idle : Made k Plain → Off ρ reach → Off ρ fits → IsIdle Plain
       plain_idle h off fit = record {
         taken = fit;
-        next = unless_dead ctors missing ρ Meets k reach fits
+        next = unless_dead ctors missing ρ k reach fits
             (plain_unless h) off;
         fails = tt;
       }
@@ -137,21 +136,21 @@ module _ (ctors : List Ctor) (missing : Missing) (ρ : Values) (Meets : Asked �
       Guarded = deciding (Some g) k env reach fits
 
       made_x : Made k Guarded → Made k X
-      made_x h = made_left ctors missing ρ Meets k X (joined W (joined U Last)) h
+      made_x h = made_left ctors missing ρ k X (joined W (joined U Last)) h
 
       made_w : Made k Guarded → Made n W
-      made_w h = made_left ctors missing ρ Meets n W (joined U Last)
-          (made_right ctors missing ρ Meets k X (joined W (joined U Last)) h)
+      made_w h = made_left ctors missing ρ n W (joined U Last)
+          (made_right ctors missing ρ k X (joined W (joined U Last)) h)
 
       made_u : Made k Guarded → Made (after n W) U
-      made_u h = made_left ctors missing ρ Meets (after n W) U Last
-          (made_right ctors missing ρ Meets n W (joined U Last)
-          (made_right ctors missing ρ Meets k X (joined W (joined U Last)) h))
+      made_u h = made_left ctors missing ρ (after n W) U Last
+          (made_right ctors missing ρ n W (joined U Last)
+          (made_right ctors missing ρ k X (joined W (joined U Last)) h))
 
       made_last : Made k Guarded → Made l Last
-      made_last h = made_right ctors missing ρ Meets (after n W) U Last
-          (made_right ctors missing ρ Meets n W (joined U Last)
-          (made_right ctors missing ρ Meets k X (joined W (joined U Last)) h))
+      made_last h = made_right ctors missing ρ (after n W) U Last
+          (made_right ctors missing ρ n W (joined U Last)
+          (made_right ctors missing ρ k X (joined W (joined U Last)) h))
 
       -- the number that follows is the missed one where the pattern fits, and the first where it doesn't
       next_fits : Made k Guarded → On ρ fits → bit (ρ l) ≡ bit (ρ (suc (after n W)))
@@ -169,7 +168,7 @@ module _ (ctors : List Ctor) (missing : Missing) (ρ : Values) (Meets : Asked �
       guard_misses : Made k Guarded → On ρ reach → Off ρ fits → IsDecided Guarded (Ok false)
       guard_misses h on fit = record {
         decides = (
-          when_dead ctors missing ρ Meets n X.alive X.out (made_w h)
+          when_dead ctors missing ρ n X.alive X.out (made_w h)
               (quiet_x h fit).alive,
           next_misses h fit ∙ on,
           no_more (quiet_x h fit).fails,
@@ -178,7 +177,7 @@ module _ (ctors : List Ctor) (missing : Missing) (ρ : Values) (Meets : Asked �
 
       guard_idle : Made k Guarded → Off ρ reach → Off ρ fits → IsIdle Guarded
       guard_idle h off fit = record {
-        taken = when_dead ctors missing ρ Meets n X.alive X.out (made_w h) (quiet_x h fit).alive;
+        taken = when_dead ctors missing ρ n X.alive X.out (made_w h) (quiet_x h fit).alive;
         next = next_misses h fit ∙ off;
         fails = no_more (quiet_x h fit).fails;
       }
@@ -187,8 +186,8 @@ module _ (ctors : List Ctor) (missing : Missing) (ρ : Values) (Meets : Asked �
           → ((v : Value) → part ≡ Ok v → Lasts (truth v)) → IsDecided Guarded (and_then part truth)
       guard_by h fit (Err s) told lasts = record {
         decides = (
-          when_dead ctors missing ρ Meets n X.alive X.out (made_w h) told.told.0,
-          next_fits h fit ∙ unless_dead ctors missing ρ Meets (after n W) X.alive X.out (made_u h) told.told.0,
+          when_dead ctors missing ρ n X.alive X.out (made_w h) told.told.0,
+          next_fits h fit ∙ unless_dead ctors missing ρ (after n W) X.alive X.out (made_u h) told.told.0,
           flags_left ρ (looked asked s) X.fails [] told.told.1 tt,
         );
       }
@@ -199,15 +198,15 @@ module _ (ctors : List Ctor) (missing : Missing) (ρ : Values) (Meets : Asked �
           by : (b : Bool) → bit (ρ X.out) ≡ b → IsDecided Guarded (Ok b)
           by true is = record {
             decides = (
-              when_on ctors missing ρ Meets n X.alive X.out (made_w h) told.told.0 is,
-              next_fits h fit ∙ unless_off ctors missing ρ Meets (after n W) X.alive X.out (made_u h) is,
+              when_on ctors missing ρ n X.alive X.out (made_w h) told.told.0 is,
+              next_fits h fit ∙ unless_off ctors missing ρ (after n W) X.alive X.out (made_u h) is,
               no_more told.told.1,
             );
           }
           by false is = record {
             decides = (
-              when_off ctors missing ρ Meets n X.alive X.out (made_w h) is,
-              next_fits h fit ∙ unless_on ctors missing ρ Meets (after n W) X.alive X.out (made_u h) told.told.0 is,
+              when_off ctors missing ρ n X.alive X.out (made_w h) is,
+              next_fits h fit ∙ unless_on ctors missing ρ (after n W) X.alive X.out (made_u h) told.told.0 is,
               no_more told.told.1,
             );
           }

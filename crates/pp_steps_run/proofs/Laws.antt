@@ -24,13 +24,12 @@ use Rattle.pp_eval.specs.Runs.{finished, outcome, run, run_with, started}
 use Rattle.pp_sound.specs.Sound.{AnswersSorted, IsCalled}
 use Rattle.pp_sound.proofs.Answered.{can_answer_sorted}
 use Rattle.pp_sound.proofs.Laws.{deep_by_fuel_alone}
-use Rattle.pp_steps.specs.declared.step.Asked.{Asked}
 use Rattle.pp_steps.specs.declared.step.Step.TheVariants as steps
 use Rattle.pp_steps.specs.Frames.{any_of, arguments, inlined, open_step, run_steps, running}
 use Rattle.pp_steps.specs.Meaning.{Missing, Obeys, Values, bit}
 use Rattle.pp_steps.specs.Piece.{Piece, after, plain}
 use Rattle.pp_steps_run.specs.Laws.{IsRun, TellRuns}
-use Rattle.pp_steps_run.specs.Told.{AllOf, IsMade, On}
+use Rattle.pp_steps_run.specs.Told.{IsMade, On}
 use Rattle.pp_steps_run.proofs.Calls.{inlined_right}
 use Rattle.pp_steps_run.proofs.Lasting.{Lasts}
 use Rattle.pp_steps_run.proofs.Pieces.{bit_truth, obeys_left, obeys_right}
@@ -104,9 +103,6 @@ module _ (p : Program) (i : ℕ) (f : Function) (args : List Value) (called : Is
   abbrev ctors : List Ctor
   ctors = p.types.ctors
 
-  abbrev Any : Asked → Type 0
-  Any a = Unit {0}
-
   abbrev A : Piece (List ℕ)
   A = arguments (param_sorts f.params)
 
@@ -119,21 +115,17 @@ module _ (p : Program) (i : ℕ) (f : Function) (args : List Value) (called : Is
   abbrev F : Piece ℕ
   F = any_of R.fails (after n R) A.alive
 
-  any_calls : (l : List Asked) → AllOf Any l
-  any_calls [] = tt
-  any_calls (x ∷ xs) = (tt, any_calls xs)
-
   made_args : Obeys ctors missing ρ 0 A.steps
   made_args = obeys_left ctors missing ρ 0 A.steps (R.steps ++ F.steps) made.steps
 
   made_rest : Obeys ctors missing ρ n (R.steps ++ F.steps)
   made_rest = obeys_right ctors missing ρ 0 A.steps (R.steps ++ F.steps) made.steps
 
-  made_run : IsMade ctors missing ρ Any n R
-  made_run = record { steps = obeys_left ctors missing ρ n R.steps F.steps made_rest; calls = any_calls R.calls }
+  made_run : IsMade ctors missing ρ n R
+  made_run = record { steps = obeys_left ctors missing ρ n R.steps F.steps made_rest }
 
-  made_fails : IsMade ctors missing ρ Any (after n R) F
-  made_fails = record { steps = obeys_right ctors missing ρ n R.steps F.steps made_rest; calls = any_calls F.calls }
+  made_fails : IsMade ctors missing ρ (after n R) F
+  made_fails = record { steps = obeys_right ctors missing ρ n R.steps F.steps made_rest }
 
   reached : On ρ A.alive
   reached =
@@ -145,11 +137,11 @@ module _ (p : Program) (i : ℕ) (f : Function) (args : List Value) (called : Is
   told_from answers =
       let lasts = lasts_from (run_with (calls_over answers.0 ctors p.functions fuel) f args)
       (deep_by_fuel_alone p answers.0 answers.1 i f args called fuel) in
-      any_is ctors missing ρ Any R.fails (after n R) A.alive made_fails _
-      (running_fails ctors missing ρ Any (inlined p.functions fuel) (calls_to ctors p.functions fuel)
-      (calls_over answers.0 ctors p.functions fuel)
-      (inlined_right ctors p.functions answers.0 missing ρ Any fuel)
-      (Some check) f n A.out A.alive made_run reached args made.arguments lasts)
+      any_is ctors missing ρ R.fails (after n R) A.alive made_fails _
+      (running_fails ctors missing ρ (Some check) (inlined p.functions fuel (Some check))
+      (calls_to ctors p.functions fuel) (calls_over answers.0 ctors p.functions fuel)
+      (inlined_right ctors p.functions answers.0 missing ρ fuel (Some check)) f n A.out A.alive
+      made_run reached args made.arguments lasts)
 
   told : bit (ρ F.out) ≡ fails_in (Some check) (run_with (calls_to ctors p.functions fuel) f args)
   told = ∥∥₁_elim (can_answer_sorted p) bool_prop told_from

@@ -1,17 +1,17 @@
 pub mod Pieces
-mod Choices
-mod Lasting
+pub mod Choices
+pub mod Lasting
 mod Operators
-mod Patterns
+pub mod Patterns
 mod Rights
 mod Strict
 mod Branches
 mod Skips
-mod Lists
+pub mod Lists
 mod Deciding
 mod Cases
-mod Exprs
-mod Measures
-mod Calls
-mod Runs
+pub mod Exprs
+pub mod Measures
+pub mod Calls
+pub mod Runs
 mod Laws

@@ -10,7 +10,6 @@ use Rattle.pp_eval.specs.Meaning.{CallMeaning, Frame, Meaning}
 use Rattle.pp_eval.specs.Meaning as run
 use Rattle.pp_eval.specs.Part.{and_then}
 use Rattle.pp_eval.proofs.Extends.{CallsCover, Extends, then_extends}
-use Rattle.pp_steps.specs.declared.step.Asked.{Asked}
 use Rattle.pp_steps.specs.declared.step.Step.TheVariants as steps
 use Rattle.pp_steps.specs.Meaning.{Missing, Values}
 use Rattle.pp_steps.specs.Compile.{Compiling, Site, all, all_from, one}
@@ -28,13 +27,13 @@ values_are ρ [] (v ∷ vs) h = absurd h
 values_are ρ (k ∷ ks) [] h = absurd h
 values_are ρ (k ∷ ks) (v ∷ vs) h = ap (λ u. u ∷ map ρ ks) h.0 ∙ ap (λ us. v ∷ us) (values_are ρ ks vs h.1)
 
-module _ (ctors : List Ctor) (missing : Missing) (ρ : Values) (Meets : Asked → Type 0) (asked : Option CheckId)
+module _ (ctors : List Ctor) (missing : Missing) (ρ : Values) (asked : Option CheckId)
     (frame : Frame) where
   abbrev Right : Compiling → Meaning → Meaning → Type 0
-  Right = IsRight ctors missing ρ Meets asked frame
+  Right = IsRight ctors missing ρ asked frame
 
   abbrev Made : {A : Type 0} → ℕ → Piece A → Type 0
-  Made k x = IsMade ctors missing ρ Meets k x
+  Made k x = IsMade ctors missing ρ k x
 
   -- each is right
   abbrev pub AllRight : List Compiling → List Meaning → List Meaning → Type 0
@@ -60,9 +59,9 @@ module _ (ctors : List Ctor) (missing : Missing) (ρ : Values) (Meets : Asked �
   all_quiet (m ∷ ms) (p ∷ ps) (q ∷ qs) r done k env reach h off =
       let x = m k env reach in
       let y = all_from (done ++ x.out ∷ []) ms (after k x) env x.alive in
-      quiet_bind ρ x y (r.0.quiet k env reach (made_left ctors missing ρ Meets k x y h) off)
+      quiet_bind ρ x y (r.0.quiet k env reach (made_left ctors missing ρ k x y h) off)
       (λ d. all_quiet ms ps qs r.1 (done ++ x.out ∷ []) (after k x) env x.alive
-      (made_right ctors missing ρ Meets k x y h) d)
+      (made_right ctors missing ρ k x y h) d)
   all_quiet (m ∷ ms) [] qs r done k env reach h off = absurd r
   all_quiet (m ∷ ms) (p ∷ ps) [] r done k env reach h off = absurd r
 
@@ -75,9 +74,9 @@ module _ (ctors : List Ctor) (missing : Missing) (ρ : Values) (Meets : Asked �
   all_told (m ∷ ms) (p ∷ ps) (q ∷ qs) r done known are_done k env reach h vs on are lasts =
       let x = m k env reach in
       let y = all_from (done ++ x.out ∷ []) ms (after k x) env x.alive in
-      let my = made_right ctors missing ρ Meets k x y h in
+      let my = made_right ctors missing ρ k x y h in
       told_then ρ asked x y (p frame vs) (q frame vs) _ _ (r.0.extends frame vs) lasts
-      (λ l. r.0.told k env reach (made_left ctors missing ρ Meets k x y h) vs on are l)
+      (λ l. r.0.told k env reach (made_left ctors missing ρ k x y h) vs on are l)
       (λ d. all_quiet ms ps qs r.1 (done ++ x.out ∷ []) (after k x) env x.alive my d)
       (λ v alive is l. all_told ms ps qs r.1 (done ++ x.out ∷ []) (known ++ v ∷ [])
       (are_more ρ done (x.out ∷ []) known (v ∷ []) are_done (is, tt)) (after k x) env x.alive my vs alive are l)
@@ -89,10 +88,10 @@ module _ (ctors : List Ctor) (missing : Missing) (ρ : Values) (Meets : Asked �
   -- what the steps of a call tell of it, and of one that isn't reached
   pub record IsSite (site : Site) (calls full : CallMeaning) : Type 0 where
     pub quiet : (k reach : ℕ) (g : FunctionId) (pre down : Option CheckId) (args : List ℕ)
-        → IsMade ctors missing ρ Meets k (site k reach g pre down args) → Off ρ reach
+        → IsMade ctors missing ρ k (site k reach g pre down args) → Off ρ reach
         → IsQuiet ρ (site k reach g pre down args)
     pub told : (k reach : ℕ) (g : FunctionId) (pre down : Option CheckId) (args : List ℕ)
-        → IsMade ctors missing ρ Meets k (site k reach g pre down args) → On ρ reach
+        → IsMade ctors missing ρ k (site k reach g pre down args) → On ρ reach
         → (vs : List Value) → AreValues ρ args vs → Lasts (full frame g pre down vs)
         → IsTold ρ asked (IsValue ρ) (site k reach g pre down args) (calls frame g pre down vs)
 
@@ -106,18 +105,18 @@ module _ (ctors : List Ctor) (missing : Missing) (ρ : Values) (Meets : Asked �
       quiet = λ k env reach h off.
           let x = all ms k env reach in
           let y = one (steps.Construct c x.out) (after k x) x.alive in
-          quiet_bind ρ x y (all_quiet ms ps fs r [] k env reach (made_left ctors missing ρ Meets k x y h) off)
+          quiet_bind ρ x y (all_quiet ms ps fs r [] k env reach (made_left ctors missing ρ k x y h) off)
           (λ d. quiet_plain ρ _ (after k x) x.alive d);
       told = λ k env reach h vs on are lasts.
           let x = all ms k env reach in
           let y = one (steps.Construct c x.out) (after k x) x.alive in
           told_then ρ asked x y (run.all ps frame vs) (run.all fs frame vs) _ _
           (all_extends ms ps fs r [] frame vs) lasts
-          (λ l. all_told ms ps fs r [] [] tt k env reach (made_left ctors missing ρ Meets k x y h) vs on are l)
+          (λ l. all_told ms ps fs r [] [] tt k env reach (made_left ctors missing ρ k x y h) vs on are l)
           (λ d. quiet_plain ρ _ (after k x) x.alive d)
-          (λ us alive values l. step_told ctors missing ρ Meets asked frame (steps.Construct c x.out)
+          (λ us alive values l. step_told ctors missing ρ asked frame (steps.Construct c x.out)
           (after k x) x.alive (Tree c us) alive
-          ((made_right ctors missing ρ Meets k x y h).steps.0 ∙ ap (Tree c) (values_are ρ x.out us values)));
+          ((made_right ctors missing ρ k x y h).steps.0 ∙ ap (Tree c) (values_are ρ x.out us values)));
     }
 
     pub call_right : (site : Site) (calls full : CallMeaning) → CallsCover calls full → IsSite site calls full
@@ -130,15 +129,15 @@ module _ (ctors : List Ctor) (missing : Missing) (ρ : Values) (Meets : Asked �
       quiet = λ k env reach h off.
           let x = all ms k env reach in
           let y = site (after k x) x.alive g pre down x.out in
-          quiet_bind ρ x y (all_quiet ms ps fs r [] k env reach (made_left ctors missing ρ Meets k x y h) off)
-          (λ d. its.quiet (after k x) x.alive g pre down x.out (made_right ctors missing ρ Meets k x y h) d);
+          quiet_bind ρ x y (all_quiet ms ps fs r [] k env reach (made_left ctors missing ρ k x y h) off)
+          (λ d. its.quiet (after k x) x.alive g pre down x.out (made_right ctors missing ρ k x y h) d);
       told = λ k env reach h vs on are lasts.
           let x = all ms k env reach in
           let y = site (after k x) x.alive g pre down x.out in
-          let my = made_right ctors missing ρ Meets k x y h in
+          let my = made_right ctors missing ρ k x y h in
           told_then ρ asked x y (run.all ps frame vs) (run.all fs frame vs) _ _
           (all_extends ms ps fs r [] frame vs) lasts
-          (λ l. all_told ms ps fs r [] [] tt k env reach (made_left ctors missing ρ Meets k x y h) vs on are l)
+          (λ l. all_told ms ps fs r [] [] tt k env reach (made_left ctors missing ρ k x y h) vs on are l)
           (λ d. its.quiet (after k x) x.alive g pre down x.out my d)
           (λ us alive values l. its.told (after k x) x.alive g pre down x.out my alive us values l);
     }

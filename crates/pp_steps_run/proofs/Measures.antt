@@ -13,7 +13,6 @@ use Rattle.pp_eval.specs.Equality.{equal}
 use Rattle.pp_eval.specs.Measure.{falls, goes_down, is_below, of_one_shape, one_sort}
 use Rattle.pp_eval.specs.Meaning as run
 use Rattle.pp_eval.specs.Part.{either}
-use Rattle.pp_steps.specs.declared.step.Asked.{Asked}
 use Rattle.pp_steps.specs.declared.step.Step.TheVariants as steps
 use Rattle.pp_steps.specs.Frames.{Frame, descending, falling, lower, shaped}
 use Rattle.pp_steps.specs.Meaning.{Missing, Values, bit}
@@ -48,9 +47,9 @@ and_assoc : (a b c : Bool) → ((a && b) && c) ≡ (a && (b && c))
 and_assoc true b c = refl
 and_assoc false b c = refl
 
-module _ (ctors : List Ctor) (missing : Missing) (ρ : Values) (Meets : Asked → Type 0) where
+module _ (ctors : List Ctor) (missing : Missing) (ρ : Values) where
   abbrev Made : {A : Type 0} → ℕ → Piece A → Type 0
-  Made k x = IsMade ctors missing ρ Meets k x
+  Made k x = IsMade ctors missing ρ k x
 
   falling_is : (new old : List ℕ) (vs ws : List Value) → AreValues ρ new vs → AreValues ρ old ws → (k alive : ℕ)
       → Made k (falling new old k alive)
@@ -66,14 +65,14 @@ module _ (ctors : List Ctor) (missing : Missing) (ρ : Values) (Meets : Asked �
       let rest = falling (z ∷ xs) ys n alive in
       let m = after n rest in
       let last : Piece ℕ = plain (steps.Both (suc k) rest.out ∷ steps.Choose k k m ∷ []) (suc m) alive in
-      let h2 = made_right ctors missing ρ Meets k one (joined rest last) h in
-      let h3 = made_right ctors missing ρ Meets n rest last h2 in
+      let h2 = made_right ctors missing ρ k one (joined rest last) h in
+      let h3 = made_right ctors missing ρ n rest last h2 in
       let down : bit (ρ k) ≡ goes_down v w = ap bit h.steps.0 ∙ bit_truth _ ∙ ap (λ q. goes_down q (ρ y)) a.0 ∙ ap
       (goes_down v) b.0 in
       let same : bit (ρ (suc k)) ≡ equal v w = ap bit h.steps.1.0 ∙ bit_truth _ ∙ ap (λ q. equal q (ρ y)) a.0 ∙ ap
       (equal v) b.0 in
       let later = falling_is (z ∷ xs) ys (u ∷ vs) ws a.1 b.1 n alive
-      (made_left ctors missing ρ Meets n rest last h2) in
+      (made_left ctors missing ρ n rest last h2) in
       let both : bit (ρ m) ≡ (equal v w && falls (u ∷ vs) ws) = ap bit h3.steps.0 ∙ bit_truth _ ∙ ap
       (λ q. q && bit (ρ rest.out)) same ∙ ap (λ q. equal v w && q) later in
       ap bit h3.steps.1.0 ∙ bit_if ρ k m (bit (ρ k)) ∙ or_if (bit (ρ k)) (bit (ρ m)) ∙ ap (λ q. q || bit (ρ m)) down
@@ -100,7 +99,7 @@ module _ (ctors : List Ctor) (missing : Missing) (ρ : Values) (Meets : Asked �
       let alike : bit (ρ k) ≡ one_sort ctors (out-Value v) (out-Value w) =
       ap bit h.steps.0 ∙ bit_truth _ ∙ ap (λ q. one_sort ctors (out-Value q) (out-Value (ρ y))) a.0 ∙ ap
       (λ q. one_sort ctors (out-Value v) (out-Value q)) b.0 in
-      shaped_is xs ys vs ws a.1 b.1 n (suc k) alive (made_right ctors missing ρ Meets k one rest h)
+      shaped_is xs ys vs ws a.1 b.1 n (suc k) alive (made_right ctors missing ρ k one rest h)
       ∙ ap (λ q. q && of_one_shape ctors vs ws) (ap bit h.steps.1.0 ∙ bit_truth _ ∙ ap (λ q. bit (ρ test) && q) alike)
       ∙ and_assoc (bit (ρ test)) (one_sort ctors (out-Value v) (out-Value w)) (of_one_shape ctors vs ws)
   shaped_is [] old (v ∷ vs) ws a b k test alive h = absurd a
@@ -139,9 +138,9 @@ module _ (ctors : List Ctor) (missing : Missing) (ρ : Values) (Meets : Asked �
     pub lower_is : (vs ws : List Value) → AreValues ρ new vs → AreValues ρ old ws → Made k (lower new old k alive)
         → bit (ρ (lower new old k alive).out) ≡ is_below ctors vs ws
     lower_is vs ws a b h =
-        shaped_is new old vs ws a b (after k A) A.out alive (made_right ctors missing ρ Meets k A B h)
+        shaped_is new old vs ws a b (after k A) A.out alive (made_right ctors missing ρ k A B h)
         ∙ ap (λ q. q && of_one_shape ctors vs ws)
-        (falling_is new old vs ws a b k alive (made_left ctors missing ρ Meets k A B h))
+        (falling_is new old vs ws a b k alive (made_left ctors missing ρ k A B h))
         ∙ and_swap (falls vs ws) (of_one_shape ctors vs ws)
 
     pub lower_alive : (lower new old k alive).alive ≡ alive
@@ -173,20 +172,20 @@ module _ (ctors : List Ctor) (missing : Missing) (ρ : Values) (Meets : Asked �
       compared_quiet h off =
           let dead : Off ρ L.alive = ap (λ n. bit (ρ n)) (lower_alive new old k alive) ∙ off in
           quiet_bind ρ L D (record { alive = dead; fails = lower_fails new old k alive })
-          (λ d. demand_quiet ctors missing ρ Meets (asks asked (Some c)) (after k L) L.alive L.out
-          (made_right ctors missing ρ Meets k L D h) d)
+          (λ d. demand_quiet ctors missing ρ (asks asked (Some c)) (after k L) L.alive L.out
+          (made_right ctors missing ρ k L D h) d)
 
       compared_by : Made k (joined L D) → On ρ alive → (t : Bool) → bit (ρ L.out) ≡ t
           → IsTold ρ asked (λ (n : ℕ) (u : Unit {0}). Unit {0}) (joined L D) (either t (Ok tt) (Err (Fails c)))
       compared_by h on true is =
           let live : On ρ L.alive = ap (λ n. bit (ρ n)) (lower_alive new old k alive) ∙ on in
-          let d = demand_on ctors missing ρ Meets (asks asked (Some c)) (after k L) L.alive L.out
-          (made_right ctors missing ρ Meets k L D h) live is in
+          let d = demand_on ctors missing ρ (asks asked (Some c)) (after k L) L.alive L.out
+          (made_right ctors missing ρ k L D h) live is in
           told_after ρ asked L D (Ok tt) (lower_fails new old k alive) (record { told = (d.0, d.1, tt) })
       compared_by h on false is =
           let live : On ρ L.alive = ap (λ n. bit (ρ n)) (lower_alive new old k alive) ∙ on in
-          let d = demand_off ctors missing ρ Meets (asks asked (Some c)) (after k L) L.alive L.out
-          (made_right ctors missing ρ Meets k L D h) live is in
+          let d = demand_off ctors missing ρ (asks asked (Some c)) (after k L) L.alive L.out
+          (made_right ctors missing ρ k L D h) live is in
           told_after ρ asked L D (Err (Fails c)) (lower_fails new old k alive) (record { told = d })
 
     -- the comparison tells whether the run goes on
@@ -201,7 +200,7 @@ module _ (ctors : List Ctor) (missing : Missing) (ρ : Values) (Meets : Asked �
     descending_told (Some c) (Some old) (Some new) (Some vs) (Some ws) a b k alive h on =
         compared_by c old new k alive h on (is_below ctors ws vs)
         (lower_is new old k alive ws vs b a
-        (made_left ctors missing ρ Meets k (L c old new k alive) (D c old new k alive) h))
+        (made_left ctors missing ρ k (L c old new k alive) (D c old new k alive) h))
     descending_told (Some c) None new (Some vs) ws a b k alive h on = absurd a
     descending_told (Some c) (Some old) new None ws a b k alive h on = absurd a
     descending_told (Some c) (Some old) None (Some vs) (Some ws) a b k alive h on = absurd b

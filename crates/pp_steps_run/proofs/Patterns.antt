@@ -103,7 +103,7 @@ module _ (ctors : List Ctor) (missing : Missing) (ρ : Values) where
       → slice_get all j ≡ Some w
       → (u : Value) → out-Value u ≡ layer.Tree d all → ctor_field missing c j u ≡ w
   field_there c d j all w same is u e =
-      ap (ctor_field_in (missing c j) c j) e ∙ rw (same, is) refl
+      ap (ctor_field_in (missing.field c j) c j) e ∙ rw (same, is) refl
 
   fields_fit : (c d : CtorId) (all : List Value) (t : ℕ) → nat_eq c.0 d.0 ≡ true → out-Value (ρ t) ≡ layer.Tree d all
       → (ps : List P) (fs : List Value) (j k : ℕ) → length (steps_of ps) ≡ length fs

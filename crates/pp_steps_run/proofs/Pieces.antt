@@ -5,7 +5,6 @@ use Rattle.pp_prog.specs.declared.id.CheckId.{CheckId}
 use Rattle.pp_prog.specs.declared.types.Ctor.{Ctor}
 use Rattle.pp_eval.specs.declared.outcome.Stop.{Stop}
 use Rattle.pp_eval.specs.Part.{Part, and_then}
-use Rattle.pp_steps.specs.declared.step.Asked.{Asked}
 use Rattle.pp_steps.specs.declared.step.Step.{Step}
 use Rattle.pp_steps.specs.Meaning.{Missing, Obeys, Values}
 use Rattle.pp_steps.specs.Piece.{Piece, after, joined, plain}
@@ -50,20 +49,17 @@ module _ (ctors : List Ctor) (missing : Missing) (ρ : Values) where
   obeys_right k [] ys h = rw (plus_zero k) h
   obeys_right k (x ∷ xs) ys h = let r = obeys_right (suc k) xs ys h.1 in rw (add_suc k (length xs)) r
 
-  module _ (Meets : Asked → Type 0) where
-    pub made_left : {A B : Type 0} (k : ℕ) (x : Piece A) (y : Piece B) → IsMade ctors missing ρ Meets k (joined x y)
-        → IsMade ctors missing ρ Meets k x
-    made_left k x y h = record {
-      steps = obeys_left k x.steps y.steps h.steps;
-      calls = all_left Meets x.calls y.calls h.calls;
-    }
+  pub made_left : {A B : Type 0} (k : ℕ) (x : Piece A) (y : Piece B) → IsMade ctors missing ρ k (joined x y)
+      → IsMade ctors missing ρ k x
+  made_left k x y h = record {
+    steps = obeys_left k x.steps y.steps h.steps;
+  }
 
-    pub made_right : {A B : Type 0} (k : ℕ) (x : Piece A) (y : Piece B) → IsMade ctors missing ρ Meets k (joined x y)
-        → IsMade ctors missing ρ Meets (after k x) y
-    made_right k x y h = record {
-      steps = obeys_right k x.steps y.steps h.steps;
-      calls = all_right Meets x.calls y.calls h.calls;
-    }
+  pub made_right : {A B : Type 0} (k : ℕ) (x : Piece A) (y : Piece B) → IsMade ctors missing ρ k (joined x y)
+      → IsMade ctors missing ρ (after k x) y
+  made_right k x y h = record {
+    steps = obeys_right k x.steps y.steps h.steps;
+  }
 
 -- the truth value that a value is made of
 module _ (ρ : Values) where

@@ -13,7 +13,6 @@ use Rattle.pp_eval.specs.Meaning.{Frame, Meaning, field, field_in}
 use Rattle.pp_eval.specs.Operators.{unary}
 use Rattle.pp_eval.specs.Part.{Part, and_then, found}
 use Rattle.pp_eval.proofs.Extends.{Covers, same_extends, then_extends}
-use Rattle.pp_steps.specs.declared.step.Asked.{Asked}
 use Rattle.pp_steps.specs.declared.step.Step.{Step}
 use Rattle.pp_steps.specs.declared.step.Step.TheVariants as steps
 use Rattle.pp_steps.specs.Meaning.{Missing, Values, value_or}
@@ -25,15 +24,15 @@ use Rattle.pp_steps_run.proofs.Operators.{EndAlike, Ends, unary_ends}
 use Rattle.pp_steps_run.proofs.Patterns.{are_more}
 use Rattle.pp_steps_run.proofs.Pieces.{made_left, made_right, quiet_bind, quiet_plain}
 
-module _ (ctors : List Ctor) (missing : Missing) (ρ : Values) (Meets : Asked → Type 0) (asked : Option CheckId)
+module _ (ctors : List Ctor) (missing : Missing) (ρ : Values) (asked : Option CheckId)
     (frame : Frame) where
   -- The steps tell what the expression comes to, in a run whose calls end, and one that isn't reached is neither alive
   -- nor failing.
   pub record IsRight (m : Compiling) (part full : Meaning) : Type 0 where
     pub extends : Covers part full
-    pub quiet : (k : ℕ) (env : List ℕ) (reach : ℕ) → IsMade ctors missing ρ Meets k (m k env reach) → Off ρ reach
+    pub quiet : (k : ℕ) (env : List ℕ) (reach : ℕ) → IsMade ctors missing ρ k (m k env reach) → Off ρ reach
         → IsQuiet ρ (m k env reach)
-    pub told : (k : ℕ) (env : List ℕ) (reach : ℕ) → IsMade ctors missing ρ Meets k (m k env reach) → (vs : List Value)
+    pub told : (k : ℕ) (env : List ℕ) (reach : ℕ) → IsMade ctors missing ρ k (m k env reach) → (vs : List Value)
         → On ρ reach → AreValues ρ env vs → Lasts (full frame vs)
         → IsTold ρ asked (IsValue ρ) (m k env reach) (part frame vs)
 
@@ -57,12 +56,12 @@ module _ (ctors : List Ctor) (missing : Missing) (ρ : Values) (Meets : Asked �
   -- ---- literals and variables
 
   pub literal_right : (s : Step) (v : Value) →
-      ((k : ℕ) → IsMade ctors missing ρ Meets k (plain {A = ℕ} (s ∷ []) k 0) → ρ k ≡ v)
+      ((k : ℕ) → IsMade ctors missing ρ k (plain {A = ℕ} (s ∷ []) k 0) → ρ k ≡ v)
       → IsRight (λ k env reach. one s k reach) (λ f vs. Ok v) (λ f vs. Ok v)
   literal_right s v is = record {
     extends = λ f vs. refl;
     quiet = λ k env reach h off. quiet_plain ρ (s ∷ []) k reach off;
-    told = λ k env reach h vs on are lasts. step_told s k reach v on (is k (record { steps = h.steps; calls = tt }));
+    told = λ k env reach h vs on are lasts. step_told s k reach v on (is k (record { steps = h.steps }));
   }
 
   found_at : (env : List ℕ) (vs : List Value) (i reach : ℕ) → On ρ reach → AreValues ρ env vs
@@ -97,7 +96,7 @@ module _ (ctors : List Ctor) (missing : Missing) (ρ : Values) (Meets : Asked �
   module _ (m : Compiling) (part full : Meaning) (r : IsRight m part full) where
     -- a step of the value
     mapped : (s : ℕ → Step) (go : Value → Part Value) → ((v : Value) → Lasts (go v) → Ends (go v))
-        → ((k a : ℕ) (alive : ℕ) → IsMade ctors missing ρ Meets k (one (s a) k alive) → ρ k ≡ value_or (Truth false)
+        → ((k a : ℕ) (alive : ℕ) → IsMade ctors missing ρ k (one (s a) k alive) → ρ k ≡ value_or (Truth false)
         (go (ρ a)))
         → IsRight (λ k env reach. bind k (m k env reach) (λ n x alive. one (s x) n alive))
         (λ f vs. and_then (part f vs) go) (λ f vs. and_then (full f vs) go)
@@ -106,16 +105,16 @@ module _ (ctors : List Ctor) (missing : Missing) (ρ : Values) (Meets : Asked �
       quiet = λ k env reach h off.
           let x = m k env reach in
           quiet_bind ρ x (one (s x.out) (after k x) x.alive)
-          (r.quiet k env reach (made_left ctors missing ρ Meets k x (one (s x.out) (after k x) x.alive) h) off)
+          (r.quiet k env reach (made_left ctors missing ρ k x (one (s x.out) (after k x) x.alive) h) off)
           (λ dead. quiet_plain ρ _ (after k x) x.alive dead);
       told = λ k env reach h vs on are lasts.
           let x = m k env reach in
           let y = one (s x.out) (after k x) x.alive in
           told_then ρ asked x y (part frame vs) (full frame vs) go go (r.extends frame vs) lasts
-          (λ l. r.told k env reach (made_left ctors missing ρ Meets k x y h) vs on are l)
+          (λ l. r.told k env reach (made_left ctors missing ρ k x y h) vs on are l)
           (λ dead. quiet_plain ρ _ (after k x) x.alive dead)
           (λ v alive out l. ends_told (s x.out) (after k x) x.alive (go v) (ends v l) alive
-          (is (after k x) x.out x.alive (made_right ctors missing ρ Meets k x y h) ∙ ap
+          (is (after k x) x.out x.alive (made_right ctors missing ρ k x y h) ∙ ap
           (λ u. value_or (Truth false) (go u)) out));
     }
 
@@ -144,16 +143,16 @@ module _ (ctors : List Ctor) (missing : Missing) (ρ : Values) (Meets : Asked �
         let i = after k x in
         let y = n i (env ++ x.out ∷ []) x.alive in
         quiet_bind ρ x y
-        (r.quiet k env reach (made_left ctors missing ρ Meets k x y h) off)
-        (λ dead. q.quiet i (env ++ x.out ∷ []) x.alive (made_right ctors missing ρ Meets k x y h) dead);
+        (r.quiet k env reach (made_left ctors missing ρ k x y h) off)
+        (λ dead. q.quiet i (env ++ x.out ∷ []) x.alive (made_right ctors missing ρ k x y h) dead);
     told = λ k env reach h vs on are lasts.
         let x = m k env reach in
         let i = after k x in
         let y = n i (env ++ x.out ∷ []) x.alive in
         told_then ρ asked x y (part frame vs) (full frame vs) _ _ (r.extends frame vs) lasts
-        (λ l. r.told k env reach (made_left ctors missing ρ Meets k x y h) vs on are l)
-        (λ dead. q.quiet i (env ++ x.out ∷ []) x.alive (made_right ctors missing ρ Meets k x y h) dead)
-        (λ v alive out l. q.told i (env ++ x.out ∷ []) x.alive (made_right ctors missing ρ Meets k x y h)
+        (λ l. r.told k env reach (made_left ctors missing ρ k x y h) vs on are l)
+        (λ dead. q.quiet i (env ++ x.out ∷ []) x.alive (made_right ctors missing ρ k x y h) dead)
+        (λ v alive out l. q.told i (env ++ x.out ∷ []) x.alive (made_right ctors missing ρ k x y h)
         (vs ++ v ∷ []) alive
         (are_more ρ env (x.out ∷ []) vs (v ∷ []) are (out, tt)) l);
   }

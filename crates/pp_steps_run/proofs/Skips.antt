@@ -9,7 +9,6 @@ use Rattle.pp_eval.specs.declared.outcome.Stop.TheVariants.{Fails}
 use Rattle.pp_eval.specs.Meaning.{Frame, Meaning}
 use Rattle.pp_eval.specs.Part.{Part, either}
 use Rattle.pp_eval.proofs.Extends.{either_extends}
-use Rattle.pp_steps.specs.declared.step.Asked.{Asked}
 use Rattle.pp_steps.specs.Meaning.{Missing, Values, bit}
 use Rattle.pp_steps.specs.Compile.{Compiling, skipping, unless, when}
 use Rattle.pp_steps.specs.Piece.{Piece, after, asks, bind, choice, demand, joined, plain}
@@ -25,16 +24,16 @@ use Rattle.pp_steps_run.proofs.Rights.{IsRight}
 plus_zero : (a : ℕ) → a + 0 ≡ a
 plus_zero a = omega arith
 
-module _ (ctors : List Ctor) (missing : Missing) (ρ : Values) (Meets : Asked → Type 0) (asked : Option CheckId)
+module _ (ctors : List Ctor) (missing : Missing) (ρ : Values) (asked : Option CheckId)
     (frame : Frame) where
   abbrev Right : Compiling → Meaning → Meaning → Type 0
-  Right = IsRight ctors missing ρ Meets asked frame
+  Right = IsRight ctors missing ρ asked frame
 
   abbrev Goes : (ℕ → List ℕ → ℕ → ℕ → Piece ℕ) → (Bool → Meaning) → (Bool → Meaning) → Type 0
-  Goes = GoesOn ctors missing ρ Meets asked frame
+  Goes = GoesOn ctors missing ρ asked frame
 
   abbrev Made : {A : Type 0} → ℕ → Piece A → Type 0
-  Made k x = IsMade ctors missing ρ Meets k x
+  Made k x = IsMade ctors missing ρ k x
 
   module _ (b : Compiling) (pb fb : Meaning) (rb : Right b pb fb) where
     module _ (k : ℕ) (env : List ℕ) (taken x alive : ℕ) where
@@ -47,10 +46,10 @@ module _ (ctors : List Ctor) (missing : Missing) (ρ : Values) (Meets : Asked �
       abbrev Skip : Piece ℕ
       Skip = skipping b k env taken x alive
 
-      skip_is : Skip ≡ Chosen ctors missing ρ Meets k taken Branch Stands
+      skip_is : Skip ≡ Chosen ctors missing ρ k taken Branch Stands
       skip_is = ap (λ n. choice n taken Branch Stands) (sym (plus_zero (after k Branch)))
 
-      chosen : Made k Skip → Made k (Chosen ctors missing ρ Meets k taken Branch Stands)
+      chosen : Made k Skip → Made k (Chosen ctors missing ρ k taken Branch Stands)
       chosen h = subst (λ (z : Piece ℕ). Made k z) skip_is h
 
       skip_left : (part : Part Value) → Made k Skip → On ρ taken
@@ -58,24 +57,24 @@ module _ (ctors : List Ctor) (missing : Missing) (ρ : Values) (Meets : Asked �
       skip_left part h on g =
           let c = chosen h in
           subst (λ (z : Piece ℕ). IsTold ρ asked (IsValue ρ) z part) (sym skip_is)
-          (choice_left ctors missing ρ Meets k taken Branch Stands asked part c on
-          (g (choice_first ctors missing ρ Meets k taken Branch Stands c)) tt)
+          (choice_left ctors missing ρ k taken Branch Stands asked part c on
+          (g (choice_first ctors missing ρ k taken Branch Stands c)) tt)
 
       skip_right : (v : Value) → Made k Skip → Off ρ taken → On ρ alive → ρ x ≡ v
           → IsTold ρ asked (IsValue ρ) Skip (Ok v)
       skip_right v h off on is =
           let c = chosen h in
           subst (λ (z : Piece ℕ). IsTold ρ asked (IsValue ρ) z (Ok v)) (sym skip_is)
-          (choice_right ctors missing ρ Meets k taken Branch Stands asked (Ok v) c off
-          (rb.quiet k env taken (choice_first ctors missing ρ Meets k taken Branch Stands c) off).fails
+          (choice_right ctors missing ρ k taken Branch Stands asked (Ok v) c off
+          (rb.quiet k env taken (choice_first ctors missing ρ k taken Branch Stands c) off).fails
           (record { told = (on, tt, is) }))
 
       skip_quiet : Made k Skip → Off ρ taken → Off ρ alive → IsQuiet ρ Skip
       skip_quiet h off dead =
           let c = chosen h in
           subst (λ (z : Piece ℕ). IsQuiet ρ z) (sym skip_is)
-          (choice_quiet ctors missing ρ Meets k taken Branch Stands c off
-          (rb.quiet k env taken (choice_first ctors missing ρ Meets k taken Branch Stands c) off)
+          (choice_quiet ctors missing ρ k taken Branch Stands c off
+          (rb.quiet k env taken (choice_first ctors missing ρ k taken Branch Stands c) off)
           (record { alive = dead; fails = tt }))
 
     -- ---- && and ||
@@ -99,15 +98,15 @@ module _ (ctors : List Ctor) (missing : Missing) (ρ : Values) (Meets : Asked �
           (either t (pb frame vs) (Ok (Truth false)))
       and_told h vs on are true is is_t lasts =
           let s = skipping b (after n W) env n x alive in
-          let taken = when_on ctors missing ρ Meets n alive x (made_left ctors missing ρ Meets n W s h) on is_t in
+          let taken = when_on ctors missing ρ n alive x (made_left ctors missing ρ n W s h) on is_t in
           told_after ρ asked W s (pb frame vs) tt
-          (skip_left (after n W) env n x alive (pb frame vs) (made_right ctors missing ρ Meets n W s h) taken
+          (skip_left (after n W) env n x alive (pb frame vs) (made_right ctors missing ρ n W s h) taken
           (λ m. rb.told (after n W) env n m vs taken are lasts))
       and_told h vs on are false is is_t lasts =
           let s = skipping b (after n W) env n x alive in
-          let taken = when_off ctors missing ρ Meets n alive x (made_left ctors missing ρ Meets n W s h) is_t in
+          let taken = when_off ctors missing ρ n alive x (made_left ctors missing ρ n W s h) is_t in
           told_after ρ asked W s (Ok (Truth false)) tt
-          (skip_right (after n W) env n x alive (Truth false) (made_right ctors missing ρ Meets n W s h) taken on is)
+          (skip_right (after n W) env n x alive (Truth false) (made_right ctors missing ρ n W s h) taken on is)
 
       or_told : Made n one_of → (vs : List Value) → On ρ alive → AreValues ρ env vs → (t : Bool) → ρ x ≡ Truth t
           → bit (ρ x) ≡ t
@@ -115,30 +114,30 @@ module _ (ctors : List Ctor) (missing : Missing) (ρ : Values) (Meets : Asked �
           (either t (Ok (Truth true)) (pb frame vs))
       or_told h vs on are false is is_t lasts =
           let s = skipping b (after n U) env (suc n) x alive in
-          let taken = unless_on ctors missing ρ Meets n alive x (made_left ctors missing ρ Meets n U s h) on is_t in
+          let taken = unless_on ctors missing ρ n alive x (made_left ctors missing ρ n U s h) on is_t in
           told_after ρ asked U s (pb frame vs) tt
-          (skip_left (after n U) env (suc n) x alive (pb frame vs) (made_right ctors missing ρ Meets n U s h) taken
+          (skip_left (after n U) env (suc n) x alive (pb frame vs) (made_right ctors missing ρ n U s h) taken
           (λ m. rb.told (after n U) env (suc n) m vs taken are lasts))
       or_told h vs on are true is is_t lasts =
           let s = skipping b (after n U) env (suc n) x alive in
-          let taken = unless_off ctors missing ρ Meets n alive x (made_left ctors missing ρ Meets n U s h) is_t in
+          let taken = unless_off ctors missing ρ n alive x (made_left ctors missing ρ n U s h) is_t in
           told_after ρ asked U s (Ok (Truth true)) tt
           (skip_right (after n U) env (suc n) x alive (Truth true)
-          (made_right ctors missing ρ Meets n U s h) taken on is)
+          (made_right ctors missing ρ n U s h) taken on is)
 
       and_quiet : Made n both → Off ρ alive → IsQuiet ρ both
       and_quiet h dead =
           let s = skipping b (after n W) env n x alive in
-          let taken = when_dead ctors missing ρ Meets n alive x (made_left ctors missing ρ Meets n W s h) dead in
+          let taken = when_dead ctors missing ρ n alive x (made_left ctors missing ρ n W s h) dead in
           quiet_bind ρ W s (quiet_plain ρ _ n alive dead)
-          (λ d. skip_quiet (after n W) env n x alive (made_right ctors missing ρ Meets n W s h) taken dead)
+          (λ d. skip_quiet (after n W) env n x alive (made_right ctors missing ρ n W s h) taken dead)
 
       or_quiet : Made n one_of → Off ρ alive → IsQuiet ρ one_of
       or_quiet h dead =
           let s = skipping b (after n U) env (suc n) x alive in
-          let taken = unless_dead ctors missing ρ Meets n alive x (made_left ctors missing ρ Meets n U s h) dead in
+          let taken = unless_dead ctors missing ρ n alive x (made_left ctors missing ρ n U s h) dead in
           quiet_bind ρ U s (quiet_plain ρ _ (suc n) alive dead)
-          (λ d. skip_quiet (after n U) env (suc n) x alive (made_right ctors missing ρ Meets n U s h) taken dead)
+          (λ d. skip_quiet (after n U) env (suc n) x alive (made_right ctors missing ρ n U s h) taken dead)
 
     pub and_goes : Goes (λ n env x alive. bind n (when n alive x) (λ m taken _. skipping b m env taken x alive))
         (λ t f vs. either t (pb f vs) (Ok (Truth false))) (λ t f vs. either t (fb f vs) (Ok (Truth false)))
@@ -167,24 +166,24 @@ module _ (ctors : List Ctor) (missing : Missing) (ρ : Values) (Meets : Asked �
 
       assert_quiet : Made n (joined D Rest) → Off ρ alive → IsQuiet ρ (joined D Rest)
       assert_quiet h dead =
-          quiet_bind ρ D Rest (demand_quiet ctors missing ρ Meets (asks asked (Some check)) n alive x
-          (made_left ctors missing ρ Meets n D Rest h) dead)
-          (λ d. rb.quiet (after n D) env D.alive (made_right ctors missing ρ Meets n D Rest h) d)
+          quiet_bind ρ D Rest (demand_quiet ctors missing ρ (asks asked (Some check)) n alive x
+          (made_left ctors missing ρ n D Rest h) dead)
+          (λ d. rb.quiet (after n D) env D.alive (made_right ctors missing ρ n D Rest h) d)
 
       assert_told : Made n (joined D Rest) → (vs : List Value) → On ρ alive → AreValues ρ env vs → (t : Bool)
           → bit (ρ x) ≡ t
           → Lasts (either t (fb frame vs) (Err (Fails check))) → IsTold ρ asked (IsValue ρ) (joined D Rest)
           (either t (pb frame vs) (Err (Fails check)))
       assert_told h vs on are true is lasts =
-          let d = demand_on ctors missing ρ Meets (asks asked (Some check)) n alive x
-          (made_left ctors missing ρ Meets n D Rest h) on is in
+          let d = demand_on ctors missing ρ (asks asked (Some check)) n alive x
+          (made_left ctors missing ρ n D Rest h) on is in
           told_after ρ asked D Rest (pb frame vs) d.1
-          (rb.told (after n D) env D.alive (made_right ctors missing ρ Meets n D Rest h) vs d.0 are lasts)
+          (rb.told (after n D) env D.alive (made_right ctors missing ρ n D Rest h) vs d.0 are lasts)
       assert_told h vs on are false is lasts =
-          let d = demand_off ctors missing ρ Meets (asks asked (Some check)) n alive x
-          (made_left ctors missing ρ Meets n D Rest h) on is in
+          let d = demand_off ctors missing ρ (asks asked (Some check)) n alive x
+          (made_left ctors missing ρ n D Rest h) on is in
           told_stop ρ asked D Rest (Fails check) d.1
-          (rb.quiet (after n D) env D.alive (made_right ctors missing ρ Meets n D Rest h) d.0)
+          (rb.quiet (after n D) env D.alive (made_right ctors missing ρ n D Rest h) d.0)
 
     pub assert_goes : (check : CheckId)
         → Goes (λ n env x alive. bind n (demand (asks asked (Some check)) n alive x) (λ m _ going. b m env going))

@@ -15,7 +15,6 @@ use Rattle.pp_eval.specs.Meaning.{Frame, Meaning}
 use Rattle.pp_eval.specs.Operators.{operated}
 use Rattle.pp_eval.specs.Part.{and_then, either, failed}
 use Rattle.pp_eval.proofs.Extends.{same_extends, then_extends}
-use Rattle.pp_steps.specs.declared.step.Asked.{Asked}
 use Rattle.pp_steps.specs.declared.step.Step.TheVariants as steps
 use Rattle.pp_steps.specs.Meaning.{Missing, Values, applied, bit, value_or}
 use Rattle.pp_steps.specs.Compile.{Compiling, one, operating, quotient}
@@ -27,7 +26,7 @@ use Rattle.pp_steps_run.proofs.Operators.{Divided, div_is, operated_ends, rem_is
 use Rattle.pp_steps_run.proofs.Pieces.{bit_truth, made_left, made_right, quiet_bind, quiet_plain, told_after, told_stop}
 use Rattle.pp_steps_run.proofs.Rights.{IsRight, ends_alike, step_told}
 
-module _ (ctors : List Ctor) (missing : Missing) (ρ : Values) (Meets : Asked → Type 0) (asked : Option CheckId) where
+module _ (ctors : List Ctor) (missing : Missing) (ρ : Values) (asked : Option CheckId) where
   -- what an operator leaves on two operands with the values u and v
   module _ (op : BinaryOp) (check : Option CheckId) (k alive x y : ℕ) where
     abbrev Zero : Piece ℕ
@@ -39,44 +38,44 @@ module _ (ctors : List Ctor) (missing : Missing) (ρ : Values) (Meets : Asked �
     abbrev Quotient : Piece ℕ
     Quotient = one (steps.Binary op x y) (after (after k Zero) Demand) Demand.alive
 
-    quotient_quiet : IsMade ctors missing ρ Meets k (quotient asked op check k alive x y) → Off ρ alive
+    quotient_quiet : IsMade ctors missing ρ k (quotient asked op check k alive x y) → Off ρ alive
         → IsQuiet ρ (quotient asked op check k alive x y)
     quotient_quiet h dead =
-        let m = made_right ctors missing ρ Meets k Zero (joined Demand Quotient) h in
+        let m = made_right ctors missing ρ k Zero (joined Demand Quotient) h in
         quiet_bind ρ Zero (joined Demand Quotient) (quiet_plain ρ _ (suc (suc k)) alive dead)
         (λ d. quiet_bind ρ Demand Quotient
-        (demand_quiet ctors missing ρ Meets (asks asked check) (after k Zero) alive (suc (suc k))
-        (made_left ctors missing ρ Meets (after k Zero) Demand Quotient m) d)
+        (demand_quiet ctors missing ρ (asks asked check) (after k Zero) alive (suc (suc k))
+        (made_left ctors missing ρ (after k Zero) Demand Quotient m) d)
         (λ e. quiet_plain ρ _ (after (after k Zero) Demand) Demand.alive e))
 
     module _ (u v : Value) (is_u : ρ x ≡ u) (is_v : ρ y ≡ v) where
       quotient_by : (value : Value) (t : Bool) → applied op u v ≡ Ok value
-          → IsMade ctors missing ρ Meets k (quotient asked op check k alive x y) → On ρ alive
+          → IsMade ctors missing ρ k (quotient asked op check k alive x y) → On ρ alive
           → bit (ρ (suc (suc k))) ≡ not t → Lasts (either t (failed check) (Ok value))
           → IsTold ρ asked (IsValue ρ) (quotient asked op check k alive x y) (either t (failed check) (Ok value))
       quotient_by value false e h on is lasts =
-          let m = made_right ctors missing ρ Meets k Zero (joined Demand Quotient) h in
-          let md = made_left ctors missing ρ Meets (after k Zero) Demand Quotient m in
-          let mq = made_right ctors missing ρ Meets (after k Zero) Demand Quotient m in
-          let d = demand_on ctors missing ρ Meets (asks asked check) (after k Zero) alive (suc (suc k)) md on is in
+          let m = made_right ctors missing ρ k Zero (joined Demand Quotient) h in
+          let md = made_left ctors missing ρ (after k Zero) Demand Quotient m in
+          let mq = made_right ctors missing ρ (after k Zero) Demand Quotient m in
+          let d = demand_on ctors missing ρ (asks asked check) (after k Zero) alive (suc (suc k)) md on is in
           told_after ρ asked Zero (joined Demand Quotient) (Ok value) tt
           (told_after ρ asked Demand Quotient (Ok value) d.1
-          (step_told ctors missing ρ Meets asked None (steps.Binary op x y)
+          (step_told ctors missing ρ asked None (steps.Binary op x y)
           (after (after k Zero) Demand) Demand.alive value d.0
           (mq.steps.0 ∙ ap (λ w. value_or (Truth false) (applied op w (ρ y))) is_u ∙ ap
           (λ w. value_or (Truth false) (applied op u w)) is_v ∙ ap (value_or (Truth false)) e)))
       quotient_by value true e h on is lasts =
           let c = failed_is check lasts in
-          let m = made_right ctors missing ρ Meets k Zero (joined Demand Quotient) h in
-          let md = made_left ctors missing ρ Meets (after k Zero) Demand Quotient m in
-          let d = demand_off ctors missing ρ Meets (asks asked check) (after k Zero) alive (suc (suc k)) md on is in
+          let m = made_right ctors missing ρ k Zero (joined Demand Quotient) h in
+          let md = made_left ctors missing ρ (after k Zero) Demand Quotient m in
+          let d = demand_off ctors missing ρ (asks asked check) (after k Zero) alive (suc (suc k)) md on is in
           subst (λ q. IsTold ρ asked (IsValue ρ) (quotient asked op check k alive x y) q) (sym (ap failed c.1))
           (told_after ρ asked Zero (joined Demand Quotient) (Err (Fails c.0)) tt
           (told_stop ρ asked Demand Quotient (Fails c.0)
           (subst (λ (o : Option CheckId). Rattle.pp_steps_run.specs.Told.Flags ρ (asks asked o) Demand.fails) c.1 d.1)
           (quiet_plain ρ _ (after (after k Zero) Demand) Demand.alive d.0)))
 
-      quotient_told : Divided op check u v → IsMade ctors missing ρ Meets k (quotient asked op check k alive x y)
+      quotient_told : Divided op check u v → IsMade ctors missing ρ k (quotient asked op check k alive x y)
           → On ρ alive
           → Lasts (operated op check u v)
           → IsTold ρ asked (IsValue ρ) (quotient asked op check k alive x y) (operated op check u v)
@@ -88,14 +87,14 @@ module _ (ctors : List Ctor) (missing : Missing) (ρ : Values) (Meets : Asked �
           (subst Lasts d.is lasts))
 
   pub operating_quiet : (op : BinaryOp) (check : Option CheckId) (k alive x y : ℕ)
-      → IsMade ctors missing ρ Meets k (operating asked op check k alive x y) → Off ρ alive → IsQuiet ρ
+      → IsMade ctors missing ρ k (operating asked op check k alive x y) → Off ρ alive → IsQuiet ρ
       (operating asked op check k alive x y)
   operating_quiet Div check k alive x y h dead = quotient_quiet Div check k alive x y h dead
   operating_quiet Rem check k alive x y h dead = quotient_quiet Rem check k alive x y h dead
   operating_quiet op check k alive x y h dead = quiet_plain ρ _ k alive dead
 
   pub operating_told : (op : BinaryOp) (check : Option CheckId) (k alive x y : ℕ) (u v : Value) → ρ x ≡ u → ρ y ≡ v
-      → IsMade ctors missing ρ Meets k (operating asked op check k alive x y) → On ρ alive → Lasts
+      → IsMade ctors missing ρ k (operating asked op check k alive x y) → On ρ alive → Lasts
       (operated op check u v)
       → IsTold ρ asked (IsValue ρ) (operating asked op check k alive x y) (operated op check u v)
   operating_told Div check k alive x y u v e f h on lasts =
@@ -103,14 +102,14 @@ module _ (ctors : List Ctor) (missing : Missing) (ρ : Values) (Meets : Asked �
   operating_told Rem check k alive x y u v e f h on lasts =
       quotient_told Rem check k alive x y u v e f (rem_is check u v lasts) h on lasts
   operating_told op check k alive x y u v e f h on lasts =
-      ends_alike ctors missing ρ Meets asked None (steps.Binary op x y) k alive (operated op check u v)
+      ends_alike ctors missing ρ asked None (steps.Binary op x y) k alive (operated op check u v)
       (applied op u v) (operated_ends op refl check u v lasts) on
       (h.steps.0 ∙ ap (λ w. value_or (Truth false) (applied op w (ρ y))) e ∙ ap
       (λ w. value_or (Truth false) (applied op u w)) f)
 
   module _ (frame : Frame) where
     abbrev Right : Compiling → Meaning → Meaning → Type 0
-    Right = IsRight ctors missing ρ Meets asked frame
+    Right = IsRight ctors missing ρ asked frame
 
     pub strict_right : (op : BinaryOp) (check : Option CheckId) (a : Compiling) (pa fa : Meaning) → Right a pa fa
         → (b : Compiling) (pb fb : Meaning) → Right b pb fb
@@ -126,21 +125,21 @@ module _ (ctors : List Ctor) (missing : Missing) (ρ : Values) (Meets : Asked �
           let n = after k x in
           let y = b n env x.alive in
           let z = operating asked op check (after n y) y.alive x.out y.out in
-          let m = made_right ctors missing ρ Meets k x (joined y z) h in
-          quiet_bind ρ x (joined y z) (ra.quiet k env reach (made_left ctors missing ρ Meets k x (joined y z) h) off)
-          (λ d. quiet_bind ρ y z (rb.quiet n env x.alive (made_left ctors missing ρ Meets n y z m) d)
+          let m = made_right ctors missing ρ k x (joined y z) h in
+          quiet_bind ρ x (joined y z) (ra.quiet k env reach (made_left ctors missing ρ k x (joined y z) h) off)
+          (λ d. quiet_bind ρ y z (rb.quiet n env x.alive (made_left ctors missing ρ n y z m) d)
           (λ e. operating_quiet op check (after n y) y.alive x.out y.out
-          (made_right ctors missing ρ Meets n y z m) e));
+          (made_right ctors missing ρ n y z m) e));
       told = λ k env reach h vs on are lasts.
           let x = a k env reach in
           let n = after k x in
           let y = b n env x.alive in
           let z = operating asked op check (after n y) y.alive x.out y.out in
-          let m = made_right ctors missing ρ Meets k x (joined y z) h in
-          let my = made_left ctors missing ρ Meets n y z m in
-          let mz = made_right ctors missing ρ Meets n y z m in
+          let m = made_right ctors missing ρ k x (joined y z) h in
+          let my = made_left ctors missing ρ n y z m in
+          let mz = made_right ctors missing ρ n y z m in
           told_then ρ asked x (joined y z) (pa frame vs) (fa frame vs) _ _ (ra.extends frame vs) lasts
-          (λ l. ra.told k env reach (made_left ctors missing ρ Meets k x (joined y z) h) vs on are l)
+          (λ l. ra.told k env reach (made_left ctors missing ρ k x (joined y z) h) vs on are l)
           (λ d. quiet_bind ρ y z (rb.quiet n env x.alive my d)
           (λ e. operating_quiet op check (after n y) y.alive x.out y.out mz e))
           (λ u alive is_u l. told_then ρ asked y z (pb frame vs) (fb frame vs) _ _ (rb.extends frame vs) l

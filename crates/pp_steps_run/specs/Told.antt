@@ -6,7 +6,6 @@ use Rattle.pp_prog.specs.declared.value.Value.{Value}
 use Rattle.pp_eval.specs.declared.outcome.Stop.{Stop}
 use Rattle.pp_eval.specs.declared.outcome.Stop.TheVariants.{Fails, Inner, Deep, Stuck}
 use Rattle.pp_eval.specs.Part.{Part}
-use Rattle.pp_steps.specs.declared.step.Asked.{Asked}
 use Rattle.pp_steps.specs.Meaning.{Missing, Obeys, Values, bit}
 use Rattle.pp_steps.specs.Piece.{Piece, asks}
 
@@ -69,8 +68,7 @@ module _ (ρ : Values) where
     where
       pub told : Tells asked R x part
 
--- the values obey the piece, which begins at number k, and what is asked of the open calls holds
-pub record IsMade {A : Type 0} (ctors : List Ctor) (missing : Missing) (ρ : Values) (Meets : Asked → Type 0) (k : ℕ)
+-- the values obey the piece, which begins at number k
+pub record IsMade {A : Type 0} (ctors : List Ctor) (missing : Missing) (ρ : Values) (k : ℕ)
     (x : Piece A) : Type 0 where
   pub steps : Obeys ctors missing ρ k x.steps
-  pub calls : AllOf Meets x.calls

@@ -34,6 +34,7 @@ module _ (types : TypeTable) where
   step_sort σ (steps.Construct c fields) = tree_of (slice_get types.ctors c.0)
   step_sort σ (steps.CtorField c i a) = field_of_ctor (slice_get types.ctors c.0) i
   step_sort σ (steps.Field a i) = a_tree (Some (σ a)) (λ d. field_sort types [] d i)
+  step_sort σ (steps.Answer c) = Some c.result
   step_sort σ s = Some sort.Bool
 
   -- step number k has the sort that follows from its operands
@@ -108,6 +109,8 @@ module _ (types : TypeTable) where
   step_sort_same k (steps.Field a i) σ τ r h = ap (λ s. a_tree (Some s) (λ d. field_sort types [] d i)) (h a r)
   step_sort_same k (steps.IsAlike a b) σ τ r h = refl
   step_sort_same k (steps.GoesDown a b) σ τ r h = refl
+  step_sort_same k (steps.HasAnswer c) σ τ r h = refl
+  step_sort_same k (steps.Answer c) σ τ r h = refl
 
   pub assign_assigned : (k : ℕ) (ss : List Step) (σ : Sorts) → AllRead k ss → AllAssigned types (assign k ss σ) k ss
   assign_assigned k [] σ r = tt

@@ -1,6 +1,6 @@
 -- The frame of a run: what its symbols mean, by the laws of steps.
 use Rattle.std.proofs.Common.{◌≡◌, ℕ, ◌+◌, ◌<◌, List, length, Bool, true, false}
-use Rattle.std.proofs.Common.{Some, sym, ap, ◌∙◌, subst, arith}
+use Rattle.std.proofs.Common.{None, Some, sym, ap, ◌∙◌, subst, arith}
 use Rattle.std.specs.Prelude.{slice_get}
 use Rattle.std.proofs.lemmas.Option.{slice_get_within}
 use Rattle.pp_prog.specs.declared.check.Check.{Check}
@@ -38,9 +38,9 @@ use Rattle.pp_symbolic.specs.Evaluated.{IsEvaluated}
 use Rattle.pp_symbolic.specs.Frame.{AreStoodFor, IsFrame, IsFrameOf, TellsRun}
 use Rattle.pp_symbolic.proofs.Simplified.{known_first, values_first}
 
--- any value will do where a value has another constructor
-pub no_field : Missing
-no_field c k = Truth false
+-- any value will do where a value has another constructor, and no call is left open
+pub nothing_open : Missing
+nothing_open = record { field = λ c k. Truth false; answer = λ wait g params result args. None }
 
 some_same : {X : Type 0} (x y : X) → Some x ≡ Some y → x ≡ y
 some_same x y e = cc
@@ -79,8 +79,8 @@ zero_less i n h = omega arith
 -- the steps follow those of the run
 abbrev pub FollowRun : (p : Program) (c : CheckId) (round : ℕ) (f : Function) (new : List Step) (next : ℕ) → Type 1
 FollowRun p c round f new next =
-    (ρ : Values) → Obeys p.types.ctors no_field ρ 0 (run_steps p.functions f c round).steps
-    → Follows p.types.ctors no_field (length (param_sorts f.params)) (run_steps p.functions f c round).fails next
+    (ρ : Values) → Obeys p.types.ctors nothing_open ρ 0 (run_steps p.functions f c round).steps
+    → Follows p.types.ctors nothing_open (length (param_sorts f.params)) (run_steps p.functions f c round).fails next
     (run_steps p.functions f c round).steps new ρ
 
 module _ {D T : Type 0} (m : Sense D T) (p : Program) (c : CheckId) (round depth : ℕ) (d : D) (gs : List Gate)
@@ -105,19 +105,19 @@ module _ {D T : Type 0} (m : Sense D T) (p : Program) (c : CheckId) (round depth
           let stands = ev.bounded n a good in
           let args = stands.values in
           let called : IsCalled p i f args = record { function = here; arguments = stands.are.sorted } in
-          let made = exist p i f args called c round no_field in
+          let made = exist p i f args called c round nothing_open in
           let after = follow made.0 made.1.steps in
           let K : ℕ → Type 0 = IsKnown m p.types e a n σ after.values ev.registers in
-          let known = ev.known n a after.values no_field args good after.obeys stands.stand stands.are.sorted
+          let known = ev.known n a after.values nothing_open args good after.obeys stands.stand stands.are.sorted
           (values_first made.0 after.values 0 (param_sorts f.params) args
           (λ j lt. after.front j (zero_less j (length (param_sorts f.params)) lt)) made.1.arguments) in
           let learned = after.learns K known.tell in
           let next_known : K next = learned.target (runs_are_known learned.known p.functions f c round p.types.ctors
-          no_field made.0 made.1.steps learned.tells
+          nothing_open made.0 made.1.steps learned.tells
           (known_first K learned.known 0 (param_sorts f.params)
           (λ j lt. learned.front j (zero_less j (length (param_sorts f.params)) lt)) known.arguments)) in
           let same = ap bit (sym after.target) ∙ literal_tells after.values next_known in
-          let both = told p i f args called c round no_field made.0 made.1 in
+          let both = told p i f args called c round nothing_open made.0 made.1 in
           record {
             args = args;
             arguments = record { stand = stands.stand; called = called; low = stands.are.low };

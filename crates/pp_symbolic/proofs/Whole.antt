@@ -31,7 +31,7 @@ use Rattle.pp_simplify.specs.Names.{named}
 use Rattle.pp_simplify.specs.Pruned.{IsPruned}
 use Rattle.pp_simplify_laws.proofs.Following.{follows_folded, follows_more, follows_pruned}
 use Rattle.pp_symbolic.proofs.Simplified.{arguments_stand, can_folded, can_pruned}
-use Rattle.pp_symbolic.proofs.Real.{FollowRun, is_frame, no_field}
+use Rattle.pp_symbolic.proofs.Real.{FollowRun, is_frame, nothing_open}
 
 -- the laws of steps that the evaluation rests on
 pub record StepLaws : Type 0 where
@@ -111,11 +111,11 @@ module _ {D T : Type 0} (m : Sense D T) (law : Lawful m) (laws : StepLaws) (p : 
         follow : FollowRun p c round f new name
         follow ρ obeys =
             let many = length (param_sorts f.params) in
-            let folds = follows_folded p.types.ctors no_field (param_sorts f.params) (behind p f c round) asked
+            let folds = follows_folded p.types.ctors nothing_open (param_sorts f.params) (behind p f c round) asked
             steps_of_run ρ (steps_split p f c round) (laws.read p.functions f c round) obeys in
-            follows_more p.types.ctors no_field many asked name name steps_of_run (all_folded steps_of_run).steps new ρ
+            follows_more p.types.ctors nothing_open many asked name name steps_of_run (all_folded steps_of_run).steps new ρ
             folds
-            (follows_pruned p.types.ctors no_field many name (all_folded steps_of_run).steps new folds.values pruned_run
+            (follows_pruned p.types.ctors nothing_open many name (all_folded steps_of_run).steps new folds.values pruned_run
             folds.obeys)
 
         module _ (e : D) (hs : List Gate) where

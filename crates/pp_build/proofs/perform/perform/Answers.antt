@@ -2,8 +2,9 @@ use Rattle.std.specs.Int.{w32}
 use Rattle.std.proofs.lemmas.Int.{to_z-of_z}
 use Rattle.pp_domain.proofs.AnySort.{Moves_gates}
 use Rattle.pp_domain.proofs.Composition.{Moves_none}
-use Rattle.pp_build.proofs.OperatorSteps.{binary_count, binary_performed, descent_count, descent_performed}
-use Rattle.pp_build.proofs.OperatorSteps.{descent_sorts, unary_performed, unknown_performed}
+use Rattle.pp_build.proofs.OperatorSteps.{answer_performed, binary_count, binary_performed, descent_count}
+use Rattle.pp_build.proofs.OperatorSteps.{descent_performed, descent_sorts, has_answer_performed, unary_performed}
+use Rattle.pp_build.proofs.OperatorSteps.{unknown_performed}
 use Rattle.pp_build.proofs.Performing.{leaves_by, room_for}
 use Rattle.pp_build.proofs.TruthSteps.{alike_performed, bool_performed, both_left, both_performed, both_right}
 use Rattle.pp_build.proofs.TruthSteps.{int_performed, not_performed}
@@ -73,6 +74,14 @@ returns-in_err-down-in-GoesDown-clause-moves g c = rw c.in-GoesDown.is
 pub returns-in_ok-symbol-in-Open-clause-performs : goal.returns-in_ok-symbol-in-Open-clause-performs
 returns-in_ok-symbol-in-Open-clause-performs g c = rw c.in-Open.is
     (unknown_performed _ _ _ _ _ _ _ _ _ c.in_ok-symbol-in-Open.ensures.answer)
+
+pub returns-in_ok-has-in-HasAnswer-clause-performs : goal.returns-in_ok-has-in-HasAnswer-clause-performs
+returns-in_ok-has-in-HasAnswer-clause-performs g c = rw c.in-HasAnswer.is
+    (has_answer_performed _ _ _ _ _ _ _ _ _ c.in_ok-has-in-HasAnswer.ensures.answer)
+
+pub returns-in_ok-answer-in-Answer-clause-performs : goal.returns-in_ok-answer-in-Answer-clause-performs
+returns-in_ok-answer-in-Answer-clause-performs g c = rw c.in-Answer.is
+    (answer_performed _ _ _ _ _ _ _ _ _ c.in_ok-answer-in-Answer.ensures.answer)
 
 pub returns-in_ok-word-in-Int-clause-moves : goal.returns-in_ok-word-in-Int-clause-moves
 returns-in_ok-word-in-Int-clause-moves g c = rw c.in-Int.is
