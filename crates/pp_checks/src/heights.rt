@@ -59,8 +59,8 @@ fn trees_of(alloc: Global, ctors: &[Ctor]) -> Result<Items<u32>, NoMemory>
     Ok(found)
 }
 
-/// At each datatype's place, the datatypes that its fields have.
-fn field_table(alloc: Global, types: &TypeTable) -> Result<Items<Items<u32>>, NoMemory>
+/// At each datatype's place, the datatypes that its fields have. The only error is want of memory.
+pub fn field_table(alloc: Global, types: &TypeTable) -> Result<Items<Items<u32>>, NoMemory>
     ensures { IfOk result (λ table. table ≡ tables.field_table types.now) }
 {
     let mut table = Items::new(alloc);

@@ -20,7 +20,7 @@ mod sorts;
 mod tables;
 
 pub use fault::PlanFault;
-pub use heights::ctors_of;
+pub use heights::{ctors_of, field_table};
 pub use laws::{
     call_lower_ranks, contracts_call_lower_ranks, measures_share_sorts, read_sorts, share_ranks,
 };
