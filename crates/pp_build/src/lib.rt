@@ -6,6 +6,14 @@
 //! value depends do; so the parts of a run that aren't reached may stand for nothing. In a domain that isn't
 //! exact each register stands for its step's value, as soon as a naming names all values and their fields.
 //! How a step is performed may change within the number of gates that `pp_steps` allows it.
+//!
+//! - `perform`: `build`, and one step, an arm for each form.
+//! - `registers`: a register by its number, and literals of truth values.
+//! - `choice`: the choice between two registers.
+//! - `trees`: constructors, and what is read of trees.
+//! - `unknown`: `open_all`, and a symbol of any sort of which nothing is known.
+//!
+//! What operators make of symbols, and whether a measure goes down, stands in `pp_build_operators`.
 #![tactic(auto)]
 
 mod choice;

@@ -1,4 +1,20 @@
 //! The estimate of a round: how large the circuit of a check is at most, before the round is begun.
+//!
+//! The number is exactly that of `specs/Estimates`: `specs/Events` says what is counted, `specs/Visits` what each form
+//! of expression weighs, `specs/Frames` what a call does. How it is counted may change.
+//!
+//! - `estimating`: `estimate`, the rounds together, and one round.
+//! - `frames`: calls, and the frames of functions; a called one is counted once.
+//! - `visit`: expressions, an arm for each form.
+//! - `binding`: patterns, and the shapes of what they bind.
+//! - `comparing`: the components of a measure that are compared at a call.
+//! - `weights`: what operators, choices and comparisons weigh besides their node.
+//! - `sizes`: how many bits and nodes hold the values of a sort up to a height.
+//! - `instances`: what named nodes cost besides, by looks, calls and comparisons.
+//! - `counts`: what a visit has met so far.
+//! - `memo`: the frames that were counted, and the sizes that were asked for.
+//! - `place`: where a visit stands: the program, the fuel, whose frame.
+//! - `shape`: the sort of a value, and how high it is at most.
 #![tactic(auto)]
 
 mod binding;
