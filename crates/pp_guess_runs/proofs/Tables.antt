@@ -10,7 +10,7 @@ use Rattle.pp_eval.proofs.Trees.{equal_same, equal_self}
 use Rattle.pp_guess_runs.specs.Answers.{Entry, answer_in, is_of}
 use Rattle.pp_guess_runs.specs.Laws.{TablesAnswerOnce}
 
-lists_same : (xs ys : List Value) → pass_all (map equal xs) ys ≡ true → xs ≡ ys
+pub lists_same : (xs ys : List Value) → pass_all (map equal xs) ys ≡ true → xs ≡ ys
 lists_same [] [] h = refl
 lists_same [] (y ∷ ys) h = cc
 lists_same (x ∷ xs) [] h = cc
@@ -18,7 +18,7 @@ lists_same (x ∷ xs) (y ∷ ys) h =
     let p = and_parts (equal x y) (pass_all (map equal xs) ys) h in
     ap (λ z. z ∷ xs) (equal_same x y p.0) ∙ ap (λ zs. y ∷ zs) (lists_same xs ys p.1)
 
-list_self : (xs : List Value) → pass_all (map equal xs) xs ≡ true
+pub list_self : (xs : List Value) → pass_all (map equal xs) xs ≡ true
 list_self [] = refl
 list_self (x ∷ xs) = and_from (equal x x) (pass_all (map equal xs) xs) (equal_self x) (list_self xs)
 

@@ -1,0 +1,248 @@
+-- Closed predicates: what joins, and is true of simple steps, of patterns' steps and of a call's, is true of an
+-- expression's steps.
+use Rattle.std.proofs.Common.{ℕ, suc, ◌+◌, Bool, true, false, List, [], ◌∷◌, ◌++◌, map}
+use Rattle.std.proofs.Common.{Option, Some, None, sym, subst}
+use Rattle.std.specs.Prelude.{pos}
+use Rattle.pp_prog.specs.declared.expr.BinaryOp.{BinaryOp}
+use Rattle.pp_prog.specs.declared.expr.BinaryOp.TheVariants.{AndAlso, OrElse, Div, Rem, Equal}
+use Rattle.pp_prog.specs.declared.expr.Case.{Case}
+use Rattle.pp_prog.specs.declared.expr.Expr.{Expr}
+use Rattle.pp_prog.specs.declared.expr.Expr.TheFolds.{fold-roll-Case, fold-roll-Expr, ind-Expr, map-Case, map-Expr}
+use Rattle.pp_prog.specs.declared.expr.Expr.TheOpen as layer
+use Rattle.pp_prog.specs.declared.expr.Expr.TheViews.{roll-Case, roll-Expr}
+use Rattle.pp_prog.specs.declared.expr.Pattern.{Pattern}
+use Rattle.pp_prog.specs.declared.id.CheckId.{CheckId}
+use Rattle.pp_prog.specs.declared.id.FunctionId.{FunctionId}
+use Rattle.pp_steps.specs.declared.step.Step.{Step}
+use Rattle.pp_steps.specs.declared.step.Step.TheVariants as steps
+use Rattle.pp_steps.specs.Compile.{Arm, Compiling, Site, all, all_from, all_of, arm, arm_step, binary, cases}
+use Rattle.pp_steps.specs.Compile.{compile, compile_step, deciding, operating, quotient, skipping}
+use Rattle.pp_steps.specs.Compile.{unless, when}
+use Rattle.pp_steps.specs.Patterns.{fitting}
+use Rattle.pp_steps.specs.Piece.{Piece, after, asks, choice, demand, pick_step, plain}
+
+-- neither a call nor a field of a pattern's constructor
+abbrev pub IsSimple : Step → Type 0
+IsSimple (steps.HasAnswer c) = ⊥
+IsSimple (steps.Answer c) = ⊥
+IsSimple (steps.CtorField c i a) = ⊥
+IsSimple s = Unit {0}
+
+module _ (P : List Step → Type 0) (join : (xs ys : List Step) → P xs → P ys → P (xs ++ ys)) (none : P [])
+    (simple : (s : Step) → IsSimple s → P (s ∷ [])) (pats : (p : Pattern) (k t : ℕ) → P (fitting p k t).steps) where
+  more : (s : Step) (ss : List Step) → IsSimple s → P ss → P (s ∷ ss)
+  more s ss i h = join (s ∷ []) ss (simple s i) h
+
+  -- the steps of what an expression is
+  abbrev pub Closed : Compiling → Type 0
+  Closed m = (k : ℕ) (env : List ℕ) (reach : ℕ) → P (m k env reach).steps
+
+  abbrev pub ClosedSite : Site → Type 0
+  ClosedSite site = (k reach : ℕ) (g : FunctionId) (pre down : Option CheckId) (args : List ℕ)
+      → P (site k reach g pre down args).steps
+
+  abbrev pub AllClosed : List Compiling → Type 0
+  AllClosed [] = Unit {0}
+  AllClosed (m ∷ ms) = Closed m × AllClosed ms
+
+  abbrev pub MaybeClosed : Option Compiling → Type 0
+  MaybeClosed None = Unit {0}
+  MaybeClosed (Some m) = Closed m
+
+  pub record ArmClosed (a : Arm) : Type 0 where
+    pub guard : MaybeClosed a.guard
+    pub body : Closed a.body
+
+  abbrev pub ArmsClosed : List Arm → Type 0
+  ArmsClosed [] = Unit {0}
+  ArmsClosed (a ∷ rest_arms) = ArmClosed a × ArmsClosed rest_arms
+
+  pub demand_closed : (b : Bool) (k alive test : ℕ) → P (demand b k alive test).steps
+  demand_closed true k alive test =
+      more (steps.Both alive test) _ tt (more (steps.Not test) _ tt (simple (steps.Both alive (suc k)) tt))
+  demand_closed false k alive test = simple (steps.Both alive test) tt
+
+  unless_closed : (k alive test : ℕ) → P (unless k alive test).steps
+  unless_closed k alive test = more (steps.Not test) _ tt (simple (steps.Both alive k) tt)
+
+  pub all_closed : (ms : List Compiling) → AllClosed ms → (done : List ℕ) (k : ℕ) (env : List ℕ) (reach : ℕ)
+      → P (all_from done ms k env reach).steps
+  all_closed [] h done k env reach = none
+  all_closed (m ∷ ms) h done k env reach =
+      let x = m k env reach in
+      join x.steps _ (h.0 k env reach) (all_closed ms h.1 (done ++ x.out ∷ []) (after k x) env x.alive)
+
+  tests_closed : (ts : List ℕ) (k alive : ℕ) → P (all_of k ts alive).steps
+  tests_closed [] k alive = none
+  tests_closed (t ∷ ts) k alive =
+      join (when k alive t).steps _ (simple (steps.Both alive t) tt) (tests_closed ts (after k (when k alive t)) k)
+
+  pick_closed : (taken a : ℕ) (o : Option ℕ) → P (pick_step taken a o)
+  pick_closed taken a None = none
+  pick_closed taken a (Some b) = simple (steps.Choose taken a b) tt
+
+  choice_closed : (k taken : ℕ) (x : Piece ℕ) (y : Piece (Option ℕ)) → P x.steps → P y.steps
+      → P (choice k taken x y).steps
+  choice_closed k taken x y hx hy = join x.steps _ hx (join y.steps _ hy
+      (more (steps.Choose taken x.alive y.alive) _ tt (pick_closed taken x.out y.out)))
+
+  skip_closed : (b : Compiling) → Closed b → (k : ℕ) (env : List ℕ) (taken out alive : ℕ)
+      → P (skipping b k env taken out alive).steps
+  skip_closed b h k env taken out alive =
+      let y = b k env taken in choice_closed (after k y) taken y (plain [] (Some out) alive) (h k env taken) none
+
+  quotient_closed : (asked : Option CheckId) (op : BinaryOp) (check : Option CheckId) (k alive x y : ℕ)
+      → P (quotient asked op check k alive x y).steps
+  quotient_closed asked op check k alive x y =
+      join (steps.Int (pos 0) ∷ steps.Binary Equal y k ∷ steps.Not (suc k) ∷ []) _
+      (more (steps.Int (pos 0)) _ tt (more (steps.Binary Equal y k) _ tt (simple (steps.Not (suc k)) tt)))
+      (join (demand (asks asked check) (k + 3) alive (suc (suc k))).steps _
+      (demand_closed (asks asked check) (k + 3) alive (suc (suc k))) (simple (steps.Binary op x y) tt))
+
+  operating_closed : (asked : Option CheckId) (op : BinaryOp) (check : Option CheckId) (k alive x y : ℕ)
+      → P (operating asked op check k alive x y).steps
+  operating_closed asked Div check k alive x y = quotient_closed asked Div check k alive x y
+  operating_closed asked Rem check k alive x y = quotient_closed asked Rem check k alive x y
+  operating_closed asked op check k alive x y = simple (steps.Binary op x y) tt
+
+  binary_closed : (asked : Option CheckId) (op : BinaryOp) (check : Option CheckId) (a b : Compiling) → Closed a
+      → Closed b → Closed (binary asked op a b check)
+  binary_closed asked AndAlso check a b ha hb k env reach =
+      let x = a k env reach in
+      let n = after k x in
+      join x.steps _ (ha k env reach) (join (when n x.alive x.out).steps _ (simple (steps.Both x.alive x.out) tt)
+      (skip_closed b hb (after n (when n x.alive x.out)) env n x.out x.alive))
+  binary_closed asked OrElse check a b ha hb k env reach =
+      let x = a k env reach in
+      let n = after k x in
+      join x.steps _ (ha k env reach) (join (unless n x.alive x.out).steps _ (unless_closed n x.alive x.out)
+      (skip_closed b hb (after n (unless n x.alive x.out)) env (suc n) x.out x.alive))
+  binary_closed asked op check a b ha hb k env reach =
+      let x = a k env reach in
+      let n = after k x in
+      let y = b n env x.alive in
+      join x.steps _ (ha k env reach) (join y.steps _ (hb n env x.alive)
+      (operating_closed asked op check (after n y) y.alive x.out y.out))
+
+  deciding_closed : (o : Option Compiling) → MaybeClosed o → (k : ℕ) (env : List ℕ) (reach fits : ℕ)
+      → P (deciding o k env reach fits).steps
+  deciding_closed None h k env reach fits = join (unless k reach fits).steps _ (unless_closed k reach fits) none
+  deciding_closed (Some guard) h k env reach fits =
+      let x = guard k env fits in
+      let n = after k x in
+      let m = after n (when n x.alive x.out) in
+      join x.steps _ (h k env fits) (join (when n x.alive x.out).steps _ (simple (steps.Both x.alive x.out) tt)
+      (join (unless m x.alive x.out).steps _ (unless_closed m x.alive x.out)
+      (simple (steps.Choose fits (suc m) reach) tt)))
+
+  cases_closed : (asked : Option CheckId) (xs : List Arm) → ArmsClosed xs → (check : Option CheckId) (t k : ℕ)
+      (env : List ℕ) (reach : ℕ) → P (cases asked xs check t k env reach).steps
+  cases_closed asked [] h check t k env reach = simple (steps.Bool false) tt
+  cases_closed asked (a ∷ rest_arms) h check t k env reach =
+      let p = fitting a.pattern k t in
+      let q : Piece ℕ = plain p.steps t reach in
+      let inner = env ++ p.bound in
+      let n = after k q in
+      let y = all_of n p.tests reach in
+      let m = after n y in
+      let g = deciding a.guard m inner reach y.out in
+      let l = after m g in
+      let x = a.body l inner g.out.0 in
+      let rest = cases asked rest_arms check t (after l x) env g.out.1 in
+      join p.steps _ (pats a.pattern k t) (join y.steps _ (tests_closed p.tests n reach)
+      (join g.steps _ (deciding_closed a.guard h.0.guard m inner reach y.out)
+      (choice_closed (after (after l x) rest) g.out.0 x rest (h.0.body l inner g.out.0)
+      (cases_closed asked rest_arms h.1 check t (after l x) env g.out.1))))
+
+  -- ---- expressions
+
+  module _ (asked : Option CheckId) (site : Site) (its : ClosedSite site) where
+    abbrev C : Expr → Type 0
+    C e = Closed (compile asked site e)
+
+    abbrev Q : Case → Type 0
+    Q c = ArmClosed (arm asked site c)
+
+    abbrev E : Type 0
+    E = (e : Expr) × C e
+
+    abbrev K : Type 0
+    K = (c : Case) × Q c
+
+    parts_closed : (ys : List E) → AllClosed (map (compile asked site) (map (λ z. z.0) ys))
+    parts_closed [] = tt
+    parts_closed (y ∷ ys) = (y.1, parts_closed ys)
+
+    arms_closed : (ys : List K) → ArmsClosed (map (arm asked site) (map (λ z. z.0) ys))
+    arms_closed [] = tt
+    arms_closed (y ∷ ys) = (y.1, arms_closed ys)
+
+    abbrev under : layer.Expr-F E K → layer.Expr-F Expr Case
+    under y = map-Expr E K Expr Case (λ z. z.0) (λ z. z.0) y
+
+    level : (y : layer.Expr-F E K)
+        → Closed (compile_step asked site
+        (map-Expr Expr Case Compiling Arm (compile asked site) (arm asked site) (under y)))
+    level (layer.Int n) k env reach = simple (steps.Int n) tt
+    level (layer.Bool b) k env reach = simple (steps.Bool b) tt
+    level (layer.Var i) k env reach = none
+    level (layer.Unary op a) k env reach = join (compile asked site a.0 k env reach).steps _ (a.1 k env reach)
+        (simple (steps.Unary op (compile asked site a.0 k env reach).out) tt)
+    level (layer.Binary op a b check) k env reach =
+        binary_closed asked op check (compile asked site a.0) (compile asked site b.0) a.1 b.1 k env reach
+    level (layer.Construct c args) k env reach =
+        let ms = map (compile asked site) (map (λ z. z.0) args) in
+        join (all ms k env reach).steps _ (all_closed ms (parts_closed args) [] k env reach)
+        (simple (steps.Construct c (all ms k env reach).out) tt)
+    level (layer.Field x i) k env reach = join (compile asked site x.0 k env reach).steps _ (x.1 k env reach)
+        (simple (steps.Field (compile asked site x.0 k env reach).out i) tt)
+    level (layer.If t a b) k env reach =
+        let x = compile asked site t.0 k env reach in
+        let n = after k x in
+        let m = after n (when n x.alive x.out) in
+        let l = after m (unless m x.alive x.out) in
+        let y = compile asked site a.0 l env n in
+        let z = compile asked site b.0 (after l y) env (suc m) in
+        join x.steps _ (t.1 k env reach) (join (when n x.alive x.out).steps _ (simple (steps.Both x.alive x.out) tt)
+        (join (unless m x.alive x.out).steps _ (unless_closed m x.alive x.out)
+        (choice_closed (after (after l y) z) n y
+        (record { steps = z.steps; out = Some z.out; alive = z.alive; fails = z.fails })
+        (a.1 l env n) (b.1 (after l y) env (suc m)))))
+    level (layer.Match x ys check) k env reach =
+        let y = compile asked site x.0 k env reach in
+        join y.steps _ (x.1 k env reach) (cases_closed asked (map (arm asked site) (map (λ z. z.0) ys)) (arms_closed ys)
+        check y.out (after k y) env y.alive)
+    level (layer.Val a b) k env reach =
+        let x = compile asked site a.0 k env reach in
+        join x.steps _ (a.1 k env reach) (b.1 (after k x) (env ++ x.out ∷ []) x.alive)
+    level (layer.Assert check t rest) k env reach =
+        let x = compile asked site t.0 k env reach in
+        let n = after k x in
+        let d = demand (asks asked (Some check)) n x.alive x.out in
+        join x.steps _ (t.1 k env reach) (join d.steps _ (demand_closed (asks asked (Some check)) n x.alive x.out)
+        (rest.1 (after n d) env d.alive))
+    level (layer.Call g args pre down) k env reach =
+        let ms = map (compile asked site) (map (λ z. z.0) args) in
+        let x = all ms k env reach in
+        join x.steps _ (all_closed ms (parts_closed args) [] k env reach) (its (after k x) x.alive g pre down x.out)
+
+    at_level : (y : layer.Expr-F E K) → C (roll-Expr (under y))
+    at_level y = subst (λ (m : Compiling). Closed m)
+        (sym (fold-roll-Expr Compiling Arm (compile_step asked site) arm_step (under y))) (level y)
+
+    at_parts : (p : Pattern) (o : Option E) (b : E) → let y : layer.Case-F E K =
+        record { pattern = p; guard = o; body = b } in
+        let z = map-Case E K Expr Case (λ w. w.0) (λ w. w.0) y in
+        ArmClosed (arm_step (map-Case Expr Case Compiling Arm (compile asked site) (arm asked site) z))
+    at_parts p None b = record { guard = tt; body = b.1 }
+    at_parts p (Some e) b = record { guard = e.1; body = b.1 }
+
+    at_case : (y : layer.Case-F E K) → Q (roll-Case (map-Case E K Expr Case (λ z. z.0) (λ z. z.0) y))
+    at_case y =
+        let z = map-Case E K Expr Case (λ w. w.0) (λ w. w.0) y in
+        subst (λ (k : Arm). ArmClosed k) (sym (fold-roll-Case Compiling Arm (compile_step asked site) arm_step z))
+        (at_parts y.pattern y.guard y.body)
+
+    pub expr_closed : (e : Expr) → Closed (compile asked site e)
+    expr_closed = ind-Expr C Q (λ x y is. subst (λ z. C (roll-Expr z)) is (at_level y))
+        (λ x y is. subst (λ z. Q (roll-Case z)) is (at_case y))

@@ -1,0 +1,58 @@
+-- Each guess run has values that obey its steps.
+use Rattle.std.proofs.Common.{true, false, ◌≡◌, ℕ, zero, suc, ◌+◌, List, [], ◌∷◌, ◌++◌, map, sym, ap, subst, arith}
+use Rattle.std.specs.Prelude.{slice_index_or}
+use Rattle.pp_prog.specs.declared.expr.Function.{Function}
+use Rattle.pp_prog.specs.declared.id.CheckId.{CheckId}
+use Rattle.pp_prog.specs.declared.types.Ctor.{Ctor}
+use Rattle.pp_prog.specs.declared.value.Value.TheVariants.{Bool as Truth}
+use Rattle.pp_prog.specs.Sorts.{param_sorts}
+use Rattle.pp_steps.specs.declared.step.Step.TheVariants as steps
+use Rattle.pp_steps.specs.Frames.{open_step}
+use Rattle.pp_steps.specs.Guesses.{guess_steps}
+use Rattle.pp_steps.specs.Meaning.{Missing, Values}
+use Rattle.pp_steps_run.specs.Told.{AreValues}
+use Rattle.pp_steps_exist.proofs.Laws.{open_left, opened_are}
+use Rattle.pp_steps_exist.proofs.Solve.{AllOpen, solved, solved_obeys}
+use Rattle.pp_guess_steps.specs.Laws.{GuessesExist, GuessesRead}
+use Rattle.pp_guess_steps.proofs.OwnFrame.{F, R, arguments_are, base}
+use Rattle.pp_guess_steps.proofs.RoundsRead.{guess_read}
+
+pub guesses_read : GuessesRead
+guesses_read functions f check n = guess_read functions f check n
+
+zero_plus : (i : ℕ) → 0 + i ≡ i
+zero_plus i = omega arith
+
+-- the open values of the own frame
+open_base : (ctors : List Ctor) (missing : Missing) (chosen ρ : Values) (functions : List Function) (f : Function)
+    (check : CheckId) (r : ℕ) → AllOpen ctors missing chosen ρ 0 (guess_steps functions f check r).steps
+    → AllOpen ctors missing chosen ρ 0 (base functions f check).steps
+open_base ctors missing chosen ρ functions f check zero h =
+    open_left ctors missing chosen ρ 0 (base functions f check).steps _ h
+open_base ctors missing chosen ρ functions f check (suc r) h =
+    let g = guess_steps functions f check r in
+    open_base ctors missing chosen ρ functions f check r
+    (open_left ctors missing chosen ρ 0 g.steps _ (open_left ctors missing chosen ρ 0 (g.steps ++ _) _ h))
+
+pub guesses_exist : GuessesExist
+guesses_exist p i f args called check n missing =
+    let ctors = p.types.ctors in
+    let chosen : Values = λ k. slice_index_or args k (Truth false) in
+    let g = guess_steps p.functions f check n in
+    let ρ = solved ctors missing chosen 0 g.steps (λ k. Truth false) in
+    let both = solved_obeys ctors missing chosen 0 g.steps (λ k. Truth false) (guess_read p.functions f check n).reads
+    in
+    let ss = param_sorts f.params in
+    let opens = map open_step ss in
+    let tail = steps.Bool true ∷ [] in
+    let rest = (R p.functions f check).steps ++ (F p.functions f check).steps in
+    let o = open_left ctors missing chosen ρ 0 opens tail
+    (open_left ctors missing chosen ρ 0 (opens ++ tail) rest
+    (open_base ctors missing chosen ρ p.functions f check n both.1)) in (
+      ρ,
+      record {
+        steps = both.0;
+        arguments = subst (λ ks. AreValues ρ ks args) (sym (arguments_are p.functions f check n))
+            (opened_are ctors missing chosen ρ ss args 0 called.arguments (λ j. ap chosen (zero_plus j)) o);
+      },
+    )

@@ -1,0 +1,3 @@
+pub mod OpenCalls
+pub mod OwnWorld
+pub mod Laws
