@@ -1,3 +1,5 @@
 pub mod Ends
+pub mod GuessesAlike
+pub mod Repeated
 pub mod RoundEnds
 pub mod ProofEnds

@@ -38,30 +38,30 @@ evidence_at p i c round depth lemmas s le h = record {
 }
 
 module _ {p : Program} {limits : Limits} {i : ℕ} {c : CheckId} {round : ℕ} (searched : IsSearchedTo p limits i c round)
-    where
-  pub proved_by : NoGuessFails p i c round → IsEnd p limits i c (Proved round)
-  proved_by guesses = record {
-    begun = searched.begun;
-    proved = record { guesses = guesses; runs = searched.none };
-    open_still = searched.open_still;
-  }
+  where
+    pub proved_by : NoGuessFails p i c round → IsEnd p limits i c (Proved round)
+    proved_by guesses = record {
+      begun = searched.begun;
+      proved = record { guesses = guesses; runs = searched.none };
+      open_still = searched.open_still;
+    }
 
-  pub open_by_proof : (s : Spent) → 1 ≤ limits.depth → IsNotPlain p c → IsProofEvidence p i c round 1 limits.lemmas s
-      → IsEnd p limits i c (Open (Some round) (Lemmas s))
-  open_by_proof s least not_plain evidence = (
-    searched,
-    inr (record {
-      not_plain = not_plain;
-      evidence = evidence_at p i c round limits.depth limits.lemmas s least evidence;
-    }),
-  )
+    pub open_by_proof : (s : Spent) → 1 ≤ limits.depth → IsNotPlain p c → IsProofEvidence p i c round 1 limits.lemmas s
+        → IsEnd p limits i c (Open (Some round) (Lemmas s))
+    open_by_proof s least not_plain evidence = (
+      searched,
+      inr (record {
+        not_plain = not_plain;
+        evidence = evidence_at p i c round limits.depth limits.lemmas s least evidence;
+      }),
+    )
 
-  pub one_more_searched : HasSearchedBefore p limits i c round → IsNotPlain p c
-      → HasSearchedBefore p limits i c (round + 1)
-  one_more_searched before not_plain = record {
-    each = below_more (IsSearchedTo p limits i c) round before.each searched;
-    not_plain = λ first. not_plain;
-  }
+    pub one_more_searched : HasSearchedBefore p limits i c round → IsNotPlain p c
+        → HasSearchedBefore p limits i c (round + 1)
+    one_more_searched before not_plain = record {
+      each = below_more (IsSearchedTo p limits i c) round before.each searched;
+      not_plain = λ first. not_plain;
+    }
 
 -- what follows a round that ended nothing
 pub after_gives : (p : Program) (limits : Limits) (progress : Progress) → HasCome p limits progress

@@ -1,6 +1,6 @@
 -- The ends of a check, round after round.
-use Rattle.std.proofs.Common.{◌≡◌, ℕ, zero, suc, ◌+◌, ◌<◌, ◌≤◌, true, refl, sym, ◌∙◌, subst, arith, below_more, inl, inr}
-use Rattle.std.specs.Prelude.{List, [], ◌∷◌, Some}
+use Rattle.std.proofs.Common.{◌≡◌, ℕ, zero, suc, ◌+◌, ◌≤◌, true, refl, arith, below_more, inl}
+use Rattle.std.specs.Prelude.{List, [], ◌∷◌}
 use Rattle.std.proofs.lemmas.Bool.{and_parts}
 use Rattle.std.proofs.lemmas.List.Elements.{All-cons, All-nil, Contains-append_right}
 use Rattle.pp_clause.specs.declared.spent.Spent.{Spent}
@@ -11,16 +11,16 @@ use Rattle.pp_prog.specs.declared.types.Ctor.{Ctor}
 use Rattle.pp_prog.specs.declared.value.Value.{Value}
 use Rattle.pp_prog.specs.Values.{height}
 use Rattle.pp_prog.specs.Sorts.{has_sort, have_sorts, param_sorts}
-use Rattle.pp_eval.proofs.Lasts.{lasts}
 use Rattle.pp_checks.specs.Closed.{AreUpTo, Closed}
-use Rattle.pp_run_laws.proofs.Nested.{nested_never_deep}
-use Rattle.pp_evidence.specs.Evidence.{IsProofEvidence, IsSearchEvidence}
-use Rattle.pp_induct.specs.declared.ends.CheckEnd.TheVariants.{Exhausted, Invalid, Open, Proved}
+use Rattle.pp_evidence.specs.Evidence.{IsSearchEvidence}
+use Rattle.pp_induct.specs.declared.ends.CheckEnd.TheVariants.{Exhausted, Invalid}
 use Rattle.pp_induct.specs.declared.ends.Why.TheVariants.{Lemmas}
 use Rattle.pp_induct.specs.declared.limits.Limits.{Limits}
-use Rattle.pp_induct.specs.Reports.{IsBegun, IsEnd, IsNotPlain, IsOutOfLemmas, IsSearched, IsSearchedTo}
-use Rattle.pp_induction.specs.Ends.{NoGuessFails, NoLowRunFails, NoRunFails}
+use Rattle.pp_induct.specs.Reports.{IsBegun, IsEnd, IsOutOfLemmas, IsSearched, IsSearchedTo}
+use Rattle.pp_induction.specs.Ends.{NoLowRunFails, NoRunFails}
 use Rattle.pp_sound.specs.Counterexample.{AreLow, IsCounterexample}
+use Rattle.pp_verify.proofs.Repeated.{repeated_are_alike}
+use Rattle.pp_verify.specs.Laws.{IsAlikeAfter}
 use Rattle.pp_verify.specs.Rounds.{HasSearchedBefore, IsRepeated, open_before, round_before}
 
 -- where values of these sorts are up to the height, lists of such values are
@@ -40,22 +40,19 @@ module _ {p : Program} {limits : Limits} {i : ℕ} {c : CheckId} where
   repeated_is_searched zero before begun nests = absurd nests
   repeated_is_searched (suc n) before begun nests = record {
     each = below_more (IsSearchedTo p limits i c) (suc n) before.each
-        (record { begun = begun; none = none; open_still = open_still });
+        (record {
+          begun = begun;
+          none = alike.runs.0 last.none;
+          open_still = λ closed. last.open_still (alike.closed.1 closed);
+        });
     not_plain = λ first. before.not_plain (omega arith);
   }
     where
       last : IsSearchedTo p limits i c n
       last = before.each n (omega arith)
 
-      none : NoLowRunFails p i c (suc n) limits.depth
-      none f args called low fails =
-          let never = nested_never_deep p i f args called n nests in
-          last.none f args called low
-          (sym (lasts p.types.ctors p.functions f args n (suc n) (omega arith) never) ∙ fails)
-
-      open_still : Closed p.types p.functions i (suc n) limits.depth → ⊥
-      open_still closed =
-          last.open_still (record { acyclic = closed.acyclic; nested = nests; low = closed.low })
+      alike : IsAlikeAfter p i c n limits.depth
+      alike = repeated_are_alike p i n nests c limits.depth
 
 -- what stands behind the end of a check in a round that is begun, after rounds that found nothing
 module _ {p : Program} {limits : Limits} {i : ℕ} {c : CheckId} {round : ℕ}
