@@ -56,7 +56,8 @@ has_ctor_is ctors c k n v at many h = record {
 -- the value that a step reads in a field is what the operand has there
 pub field_is_of : (ctors : List Ctor) (n : Naming) (missing : Missing) (c : CtorId) (k : Ctor) (place : ℕ) (s : Sort)
     (v u : Value) → slice_get ctors c.0 ≡ Some k → slice_get k.fields place ≡ Some s
-    → has_sort ctors v (sort.Tree k.of) ≡ true → u ≡ ctor_field missing c place v → IsDefault n s (missing.field c place)
+    → has_sort ctors v (sort.Tree k.of) ≡ true → u ≡ ctor_field missing c place v → IsDefault n s
+    (missing.field c place)
     → IsFieldOf n c place s v u
 field_is_of ctors n missing c k place s v u entry field sorted does default =
     by (nat_eq c.0 t.ctor.0) refl

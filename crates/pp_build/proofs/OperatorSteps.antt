@@ -69,7 +69,7 @@ module _ {D T : Type 0} (m : Sense D T) (types : TypeTable) (d : D) (gs : List G
   pub has_answer_performed : (c : OpenCall) (e : D) (hs : List Gate) (r : Symbol T)
       → IsUnknownSymbol m types d gs e hs sort.Bool 0 r → Performs m types d gs rs (steps.HasAnswer c) e hs r
   has_answer_performed c =
-      nothing_told (steps.HasAnswer c) sort.Bool (λ can. can.sorted.1) (λ σ η. refl) (λ ρ K. tt)
+      nothing_told (steps.HasAnswer c) sort.Bool (λ can. can.sorted.2) (λ σ η. refl) (λ ρ K. tt)
 
   pub answer_performed : (c : OpenCall) (e : D) (hs : List Gate) (r : Symbol T)
       → IsUnknownSymbol m types d gs e hs c.result 0 r → Performs m types d gs rs (steps.Answer c) e hs r

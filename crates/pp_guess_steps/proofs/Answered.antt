@@ -138,7 +138,8 @@ module _ (ctors : List Ctor) (functions : List Function) (field : CtorId → ℕ
           let more = run_extends OwnSteps (own ctors functions W check N)
           (λ frame g pre down vs. own_cover ctors check (An 1) (An 0) (called functions W (one_less N))
           (called functions W N)
-          (covers_at 1 (one_less N) (pred_is N)) (covers_at 0 N (minus_zero N)) (slice_get functions g.0) frame g pre down
+          (covers_at 1 (one_less N) (pred_is N)) (covers_at 0 N (minus_zero N)) (slice_get functions g.0) frame g pre
+          down
           vs) f args in
           extends_failed (run_with OwnSteps f args) (run_with (own ctors functions W check N) f args) failed more
         where

@@ -23,5 +23,11 @@ mod AllTrue
 mod Answered
 mod Reading
 mod RoundsRead
+mod Labels
+mod OperatorSorts
+mod Sorting
+pub mod RoundsSorted
+mod SolvedSorted
 pub mod Existing
+pub mod SortedValues
 pub mod Laws

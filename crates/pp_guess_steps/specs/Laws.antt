@@ -1,14 +1,21 @@
 -- What the steps of a guess run tell. Source: own; that what is supposed makes open calls agree is of Suter, Köksal,
 -- Kuncak, Satisfiability Modulo Recursive Programs, SAS 2011.
 use Rattle.std.specs.Prelude.{◌≡◌, ◌≢◌, ◌↔◌, ◌<◌, ℕ, suc, true, List, [], ◌∷◌, ◌++◌, length, map, Option, None}
-use Rattle.std.specs.Prelude.{Some, Err, slice_get, Contains}
+use Rattle.std.specs.Prelude.{Some, Err, slice_get, Contains, IsTrue}
 use Rattle.pp_prog.specs.declared.expr.Expr.{Expr}
 use Rattle.pp_prog.specs.declared.expr.Function.{Function}
 use Rattle.pp_prog.specs.declared.id.CheckId.{CheckId}
 use Rattle.pp_prog.specs.declared.id.CtorId.{CtorId}
 use Rattle.pp_prog.specs.declared.id.FunctionId.{FunctionId}
 use Rattle.pp_prog.specs.declared.program.Program.{Program}
+use Rattle.pp_prog.specs.declared.sort.Sort.{Sort}
+use Rattle.pp_prog.specs.declared.sort.Sort.TheVariants as sort
 use Rattle.pp_prog.specs.declared.types.Ctor.{Ctor}
+use Rattle.pp_prog.specs.declared.types.TypeTable.{TypeTable}
+use Rattle.pp_prog.specs.Sorts.{has_sort, have_sorts, param_sorts}
+use Rattle.pp_prog.specs.Table.{is_sort}
+use Rattle.pp_checks.specs.Plan.{IsPlanOf, Plan}
+use Rattle.pp_steps.specs.Sorted.{AllSorted, Sorts}
 use Rattle.pp_prog.specs.declared.value.Value.{Value}
 use Rattle.pp_prog.specs.declared.value.Value.TheVariants.{Bool as Truth}
 use Rattle.pp_eval.specs.declared.outcome.Stop.TheVariants.{Deep, Fails, Stuck}
@@ -21,7 +28,8 @@ use Rattle.pp_guess_runs.specs.Answers.{Answering, answers_of}
 use Rattle.pp_guess_runs.specs.Guess.{fails, guess, own}
 use Rattle.pp_steps.specs.declared.step.Step.{Step}
 use Rattle.pp_steps.specs.declared.step.Step.TheVariants as steps
-use Rattle.pp_steps.specs.Guesses.{GuessSteps, Standing, guess_steps, standing}
+use Rattle.pp_steps.specs.Frames.{result_of}
+use Rattle.pp_steps.specs.Guesses.{GuessSteps, Standing, guess_steps, params_of, standing}
 use Rattle.pp_steps.specs.Meaning.{Does, Missing, Obeys, Values, bit}
 use Rattle.pp_steps.specs.Reads.{AllRead, Below}
 use Rattle.pp_steps_run.specs.Told.{AllOf, AreValues, On}
@@ -50,6 +58,52 @@ pub record IsReading (g : GuessSteps) : Type 0 where
 abbrev pub GuessesRead : Type 0
 GuessesRead =
     (functions : List Function) (f : Function) (check : CheckId) (n : ℕ) → IsReading (guess_steps functions f check n)
+
+-- the steps have sorts, those of the arguments are those of the parameters, and what is asked for are truth values
+pub record HaveGuessSorts (types : TypeTable) (g : GuessSteps) (params : List Sort) : Type 0 where
+  pub sorts : Sorts
+  pub sorted : AllSorted types sorts 0 g.steps
+  pub arguments : map sorts g.arguments ≡ params
+  pub fails : sorts g.fails ≡ sort.Bool
+  pub supposed : AllOf (λ k. sorts k ≡ sort.Bool) g.supposed
+
+-- in a program that has a plan, the steps of each round have sorts
+abbrev pub GuessesAreSorted : Type 0
+GuessesAreSorted =
+    (plan : Plan) (p : Program) → IsPlanOf plan p → (i : ℕ) (f : Function) → slice_get p.functions i ≡ Some f
+    → (check : CheckId) (n : ℕ) → HaveGuessSorts p.types (guess_steps p.functions f check n) (param_sorts f.params)
+
+-- what stands for a missing field has its sort
+abbrev pub FieldsHaveSorts : TypeTable → Missing → Type 0
+FieldsHaveSorts types missing =
+    (c : CtorId) (k : Ctor) (place : ℕ) (s : Sort) → slice_get types.ctors c.0 ≡ Some k
+    → slice_get k.fields place ≡ Some s → IsTrue (has_sort types.ctors (missing.field c place) s)
+
+-- answers to calls on arguments of the parameters' sorts have the results' sorts
+abbrev pub AnswersHaveSorts : TypeTable → List Function → Missing → Type 0
+AnswersHaveSorts types functions missing =
+    (wait : ℕ) (g : FunctionId) (args : List Value) (v : Value)
+    → missing.answer wait g (params_of (slice_get functions g.0)) (result_of (slice_get functions g.0)) args ≡ Some v
+    → IsTrue (have_sorts types.ctors args (params_of (slice_get functions g.0)))
+    → IsTrue (has_sort types.ctors v (result_of (slice_get functions g.0)))
+
+-- values that obey the steps and have their sorts
+pub record IsSortedGuess (p : Program) (f : Function) (check : CheckId) (n : ℕ) (missing : Missing) (args : List Value)
+    (sorts : Sorts) : Type 0 where
+  pub values : Values
+  pub guess : IsGuess p.types.ctors p.functions f check n missing values args
+  pub sorted : (k : ℕ) → k < length (guess_steps p.functions f check n).steps
+      → IsTrue (has_sort p.types.ctors (values k) (sorts k))
+
+-- they exist where fields and answers have their sorts, and each sort has a default
+abbrev pub SortedGuessesExist : Type 0
+SortedGuessesExist =
+    (p : Program) (i : ℕ) (f : Function) (args : List Value) → IsCalled p i f args → (check : CheckId) (n : ℕ)
+    (missing : Missing) → FieldsHaveSorts p.types missing → AnswersHaveSorts p.types p.functions missing
+    → (default : Sort → Value)
+    → ((s : Sort) → IsTrue (is_sort p.types.datatypes s) → IsTrue (has_sort p.types.ctors (default s) s))
+    → (run : HaveGuessSorts p.types (guess_steps p.functions f check n) (param_sorts f.params))
+    → IsSortedGuess p f check n missing args run.sorts
 
 -- ---- what the steps tell
 

@@ -4,8 +4,8 @@
 //! nothing: its contract is the law.
 #![tactic(auto)]
 
-ghost use Rattle.pp_guess_steps.specs.Laws.{GuessesExist, GuessesRead, GuessesSuppose, GuessesTell, SupposedAgree};
-ghost use Rattle.pp_guess_steps.specs.Laws.{WholeGuessesAnswer};
+ghost use Rattle.pp_guess_steps.specs.Laws.{GuessesAreSorted, GuessesExist, GuessesRead, GuessesSuppose, GuessesTell};
+ghost use Rattle.pp_guess_steps.specs.Laws.{SortedGuessesExist, SupposedAgree, WholeGuessesAnswer};
 
 /// On all arguments of the parameters' sorts some values obey the steps of a guess run, whatever its open calls are
 /// answered: by a table, by what is true, or not at all. It does nothing: its contract is the law.
@@ -17,6 +17,18 @@ pub fn guesses_exist()
 /// contract is the law.
 pub fn guesses_read()
     ensures { GuessesRead }
+{}
+
+/// In a program that has a plan, the steps of a guess run have sorts, those of the arguments being the parameters'. It
+/// does nothing: its contract is the law.
+pub fn guesses_are_sorted()
+    ensures { GuessesAreSorted }
+{}
+
+/// Where missing fields and answers have their sorts, and each sort has a default, some of those values have the sorts
+/// of their steps. It does nothing: its contract is the law.
+pub fn sorted_guesses_exist()
+    ensures { SortedGuessesExist }
 {}
 
 /// In values that obey the steps of a guess run the number of `fails` is true exactly where the run over the answers

@@ -1,6 +1,6 @@
 -- Steps with renamed operands do the same, where the operands have the same values, sorts and heights.
 use Rattle.std.proofs.Common.{◌≡◌, ℕ, false, List, [], ◌∷◌, map, refl, sym, ap}
-use Rattle.std.proofs.Common.{◌∙◌, subst, Some}
+use Rattle.std.proofs.Common.{◌∙◌, Some}
 use Rattle.std.specs.Prelude.{All, if◌then◌else◌, not, ◌&&◌}
 use Rattle.std.proofs.lemmas.List.Elements.{All-cons, All-head, All-nil, All-tail}
 use Rattle.pp_prog.specs.declared.sort.Sort.{Sort}
@@ -140,7 +140,7 @@ module _ (r : ℕ → ℕ) where
       record { datatype = made.datatype; operand = e.0 ∙ made.operand; field = made.field }
   sorted_renamed types σ τ (steps.IsAlike a b) t e h = (e.0 ∙ h.0 ∙ sym e.1.0, h.1)
   sorted_renamed types σ τ (steps.GoesDown a b) t e h = (e.0 ∙ h.0 ∙ sym e.1.0, h.1)
-  sorted_renamed types σ τ (steps.HasAnswer c) t e h = (map_agree r σ τ c.args e.1 ∙ h.0, h.1)
+  sorted_renamed types σ τ (steps.HasAnswer c) t e h = (e.0 ∙ h.0, map_agree r σ τ c.args e.1 ∙ h.1, h.2)
   sorted_renamed types σ τ (steps.Answer c) t e h = (map_agree r σ τ c.args e.1 ∙ h.0, h.1, h.2)
 
   -- ---- what is known

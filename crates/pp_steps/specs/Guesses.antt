@@ -157,8 +157,8 @@ all_agreeing k olds (c ∷ cs) true_one =
 
 -- ---- rounds
 
--- the steps so far, the arguments, the number that tells whether the check fails, a number that is true, and the numbers
--- that are supposed to be true
+-- the steps so far, the arguments, the number that tells whether the check fails, a number that is true, and the
+-- numbers that are supposed to be true
 pub record GuessSteps : Type 0 where
   pub steps : List Step
   pub arguments : List ℕ

@@ -70,7 +70,7 @@ module _ (types : TypeTable) (σ : Sorts) where
   -- measures are compared where they have one list of sorts, so what is asked of two values of one sort is always true
   IsSorted (steps.IsAlike a b) r = (σ a ≡ σ b) × (r ≡ sort.Bool)
   IsSorted (steps.GoesDown a b) r = (σ a ≡ σ b) × (r ≡ sort.Bool)
-  IsSorted (steps.HasAnswer c) r = (map σ c.args ≡ c.params) × (r ≡ sort.Bool)
+  IsSorted (steps.HasAnswer c) r = (σ c.reach ≡ sort.Bool) × (map σ c.args ≡ c.params) × (r ≡ sort.Bool)
   IsSorted (steps.Answer c) r = (map σ c.args ≡ c.params) × (r ≡ c.result) × IsTrue (is_sort types.datatypes c.result)
 
   -- each step has its sort, where the first has the number k

@@ -129,19 +129,25 @@ module _ (ctors : List Ctor) (missing : Missing) (chosen : Values) where
   plus_zero : (k : ℕ) → k + 0 ≡ k
   plus_zero k = omega arith
 
+  some_first : (n : ℕ) → 0 < suc n
+  some_first n = omega arith
+
+  suc_less : (i n : ℕ) → i < n → suc i < suc n
+  suc_less i n lt = omega arith
+
   plus_suc : (k i : ℕ) → suc k + i ≡ k + suc i
   plus_suc k i = omega arith
 
   pub opened_are : (ρ : Values) (ss : List Sort) (vs : List Value) (k : ℕ) → have_sorts ctors vs ss ≡ true
-      → ((i : ℕ) → chosen (k + i) ≡ slice_index_or vs i (Truth false))
+      → ((i : ℕ) → i < length vs → chosen (k + i) ≡ slice_index_or vs i (Truth false))
       → AllOpen ctors missing chosen ρ k (map open_step ss) → AreValues ρ (numbers k ss) vs
   opened_are ρ [] [] k h at o = tt
   opened_are ρ [] (v ∷ vs) k h at o = absurd (cc)
   opened_are ρ (s ∷ ss) [] k h at o = absurd (cc)
   opened_are ρ (s ∷ ss) (v ∷ vs) k h at o = (
-    o.0 ∙ ap chosen (sym (plus_zero k)) ∙ at 0,
+    o.0 ∙ ap chosen (sym (plus_zero k)) ∙ at 0 (some_first (length vs)),
     opened_are ρ ss vs (suc k) (and_parts (has_sort ctors v s) _ h).1
-        (λ i. ap chosen (plus_suc k i) ∙ at (suc i)) o.1,
+        (λ i lt. ap chosen (plus_suc k i) ∙ at (suc i) (suc_less i (length vs) lt)) o.1,
   )
 
 zero_plus : (i : ℕ) → 0 + i ≡ i
@@ -163,6 +169,6 @@ runs_exist p i f args called check fuel missing =
       ρ,
       record {
         steps = both.0;
-        arguments = opened_are ctors missing chosen ρ ss args 0 called.arguments (λ j. ap chosen (zero_plus j)) o;
+        arguments = opened_are ctors missing chosen ρ ss args 0 called.arguments (λ j lt. ap chosen (zero_plus j)) o;
       },
     )

@@ -25,10 +25,10 @@ nat_eq_self k = grind arith
 nat_eq_less : (i k : ℕ) → i < k → nat_eq i k ≡ false
 nat_eq_less i k h = grind arith
 
-set_here : (ρ : Values) (k : ℕ) (v : Value) → set ρ k v k ≡ v
+pub set_here : (ρ : Values) (k : ℕ) (v : Value) → set ρ k v k ≡ v
 set_here ρ k v = rw (nat_eq_self k) refl
 
-set_less : (ρ : Values) (k : ℕ) (v : Value) (i : ℕ) → i < k → set ρ k v i ≡ ρ i
+pub set_less : (ρ : Values) (k : ℕ) (v : Value) (i : ℕ) → i < k → set ρ k v i ≡ ρ i
 set_less ρ k v i h = rw (nat_eq_less i k h) refl
 
 -- the answer, or this value where there is none

@@ -1,5 +1,5 @@
 -- Patterns: their steps and tests take at most twice what their events cost.
-use Rattle.std.proofs.Common.{◌≡◌, ℕ, suc, ◌+◌, ◌*◌, ◌-◌, ◌≤◌, min, true, false, if◌then◌else◌, List, [], ◌∷◌, ◌++◌}
+use Rattle.std.proofs.Common.{◌≡◌, ℕ, suc, ◌+◌, ◌*◌, ◌-◌, ◌≤◌, min, List, [], ◌∷◌, ◌++◌}
 use Rattle.std.proofs.Common.{map, length, Option, Some, None, refl, sym, ap, ◌∙◌, subst, arith, length-append}
 use Rattle.std.proofs.lemmas.Option.{same_Some}
 use Rattle.std.proofs.Math.Nat.{add-zero, zero-add}
@@ -18,7 +18,6 @@ use Rattle.pp_prog.specs.PatternSorts as sorts
 use Rattle.pp_prog.specs.PatternSorts.{bind_fields, bind_tree, binds_none, bound_sorts, then_bind}
 use Rattle.pp_prog.specs.Results.{fields_of_ctor, tree_result}
 use Rattle.pp_prog.specs.Sizes.{height_at}
-use Rattle.pp_prog.specs.Sorts.{same_sort}
 use Rattle.pp_sound.proofs.Binding.{bind_then, none_binds, tree_binds}
 use Rattle.pp_estimate.specs.declared.shape.Shape.{Shape}
 use Rattle.pp_estimate.specs.Events.{Event, cost}

@@ -1,7 +1,6 @@
 -- The forms of expressions: what they reach is known, where it is of their parts.
-use Rattle.std.proofs.Common.{ℕ, zero, suc, List, [], ◌∷◌, ◌++◌, Option, Some, refl, sym, ◌∙◌}
-use Rattle.std.specs.Prelude.{All, pos, slice_index_or, ◌≢◌}
-use Rattle.std.proofs.lemmas.Bool.{both_ways, not-true}
+use Rattle.std.proofs.Common.{ℕ, zero, suc, List, [], ◌∷◌, ◌++◌, Option, Some, refl}
+use Rattle.std.specs.Prelude.{All, pos, slice_index_or}
 use Rattle.std.proofs.Math.Nat.{add-zero}
 use Rattle.std.proofs.lemmas.List.Elements.{All-append, All-head, All-nil, All-push, All-tail}
 use Rattle.pp_prog.specs.declared.expr.BinaryOp.{BinaryOp}
@@ -10,10 +9,6 @@ use Rattle.pp_prog.specs.declared.id.CheckId.{CheckId}
 use Rattle.pp_prog.specs.declared.id.CtorId.{CtorId}
 use Rattle.pp_prog.specs.declared.id.FunctionId.{FunctionId}
 use Rattle.pp_prog.specs.declared.types.Ctor.{Ctor}
-use Rattle.pp_prog.specs.declared.value.Value.{Value}
-use Rattle.pp_prog.specs.declared.value.Value.TheVariants.{Int}
-use Rattle.pp_eval.specs.Equality.{equal}
-use Rattle.pp_eval.proofs.Trees.{same_equal}
 use Rattle.pp_steps.specs.declared.step.Step.{Step}
 use Rattle.pp_steps.specs.declared.step.Step.TheVariants as steps
 use Rattle.pp_steps.specs.Compile.{Compiling, Site, all, all_from, binary, branches, one, operating, quotient, skipping}
@@ -22,7 +17,7 @@ use Rattle.pp_steps.specs.Known.{Tells}
 use Rattle.pp_steps.specs.Meaning.{Missing, Values}
 use Rattle.pp_steps.specs.Piece.{Piece, after, asks, bind, demand, joined, plain, possible}
 use Rattle.pp_steps_run.specs.Told.{On}
-use Rattle.pp_steps_known.proofs.Given.{IsGiven, IsKnown, bit_is, choice_known, demand_known, given_left, given_right}
+use Rattle.pp_steps_known.proofs.Given.{IsGiven, IsKnown, choice_known, demand_known, given_left, given_right}
 use Rattle.pp_steps_known.proofs.Given.{known_behind, known_joined, known_plain, known_within, possible_known}
 use Rattle.pp_steps_known.proofs.Given.{unless_known, when_known}
 

@@ -201,7 +201,8 @@ module _ (ctors : List Ctor) (missing : Missing) (ρ : Values) where
         let l2 = inside_lasts g (and_then full truth) l1 in
         let both = then_extends part full truth truth e (λ v. same_extends (truth v)) in
         admit_part asked g pre check k args reach h part
-        ((right_in None sites c d are None None tt pre).told k args reach (made_left ctors missing ρ k x q h) vs on values
+        ((right_in None sites c d are None None tt pre).told k args reach (made_left ctors missing ρ k x q h) vs on
+        values
         (lasts_first full truth l2))
         (λ v is. lasts_next part full truth e v is l2)
         (λ t is. let inner_is : inside g (and_then part truth) ≡ Ok t = ap (inside g) is in
@@ -250,7 +251,8 @@ module _ (ctors : List Ctor) (missing : Missing) (ρ : Values) where
         quiet_body : Made k Entered → Off ρ N.alive → IsQuiet ρ B
         quiet_body h dead =
             let any = some_frame M.out in
-            (right_in None sites c d are M.out any.0 any.1 f.body).quiet (after (after (after k A) M) N) args N.alive (made_b h) dead
+            (right_in None sites c d are M.out any.0 any.1 f.body).quiet (after (after (after k A) M) N) args N.alive
+            (made_b h) dead
 
         quiet_nb : Made k Entered → Off ρ M.alive → IsQuiet ρ (joined N B)
         quiet_nb h dead = quiet_bind ρ N B
@@ -330,7 +332,8 @@ module _ (ctors : List Ctor) (functions : List Function) (deeper : CallMeaning) 
         (enters (Fueled n) ctors o frame g pre down vs)
     entering_told None k reach args h on vs values lasts = absurd (lasts.meant refl)
     entering_told (Some f) k reach args h on vs values lasts = entered_told ctors missing ρ
-        (inlined functions n None) (Fueled n) (Full n) are asked ks frame its g pre down f k reach args h on vs values lasts
+        (inlined functions n None) (Fueled n) (Full n) are asked ks frame its g pre down f k reach args h on vs values
+        lasts
 
   -- calls with this fuel
   pub inlined_right : (n : ℕ) (asked : Option CheckId)
@@ -348,6 +351,7 @@ module _ (ctors : List Ctor) (functions : List Function) (deeper : CallMeaning) 
       quiet = λ k reach g pre down args h off. entering_quiet n (inlined_right n None) asked ks frame its g pre down
           (slice_get functions g.0) k reach args h off;
       told = λ k reach g pre down args h on vs values lasts. entering_told n
-          (inlined_right n None) asked ks frame its g pre down (slice_get functions g.0) k reach args h on vs values lasts;
+          (inlined_right n None) asked ks frame its g pre down (slice_get functions g.0) k reach args h on vs values
+          lasts;
     };
   }

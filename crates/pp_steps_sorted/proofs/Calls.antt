@@ -1,6 +1,6 @@
 -- The steps of calls are well sorted in a program that has a plan.
 use Rattle.std.proofs.Common.{◌≡◌, ℕ, zero, suc, Bool, true, false, List, [], ◌∷◌, map, Option, Some, None, is_some}
-use Rattle.std.proofs.Common.{slice_get, refl, sym, ap, ◌∙◌, subst}
+use Rattle.std.proofs.Common.{slice_get, sym, ap, ◌∙◌, subst}
 use Rattle.std.proofs.lemmas.Bool.{and_parts}
 use Rattle.std.specs.List.{list_all}
 use Rattle.pp_prog.specs.declared.expr.Expr.{Expr}
@@ -82,7 +82,7 @@ module _ (p : Program) (σ : Sorts) where
         (expr_compiles p σ i asked site its e scope sort.Bool is met k env reach a r)
         (λ x. demand_sorted p.types σ b _ _ _ x.alive x.out)
 
-  admitting_sorted : (g : ℕ) (site : Site) → IsSiteSorted p σ g site → (o : Option Expr) (scope : List Sort)
+  pub admitting_sorted : (g : ℕ) (site : Site) → IsSiteSorted p σ g site → (o : Option Expr) (scope : List Sort)
       → is_sorted_pre p.types p.functions o scope ≡ true → AreMet p g (pre_sites p.types p.functions o scope)
       → (asked check : Option CheckId) (k : ℕ) (args : List ℕ) (reach : ℕ) → AreOf p.types σ scope args
       → σ reach ≡ sort.Bool
@@ -110,7 +110,7 @@ module _ (p : Program) (σ : Sorts) where
 
   module _ (plan : Plan) (plans : IsPlanOf plan p) where
     -- where a site has a measure check, the measures of both functions have one list of sorts
-    same_measures : (i : ℕ) (caller : Function) → slice_get p.functions i ≡ Some caller
+    pub same_measures : (i : ℕ) (caller : Function) → slice_get p.functions i ≡ Some caller
         → (g : FunctionId) (f : Function) → slice_get p.functions g.0 ≡ Some f
         → (down : Option CheckId) → IsMet p i (measure g down)
         → (c : CheckId) → down ≡ Some c

@@ -1,12 +1,12 @@
-mod Assigned
-mod Pieces
-mod Steps
-mod Patterns
-mod Forms
-mod Operators
-mod Matches
-mod Exprs
-mod Measures
-mod Calls
-mod Runs
+pub mod Assigned
+pub mod Pieces
+pub mod Steps
+pub mod Patterns
+pub mod Forms
+pub mod Operators
+pub mod Matches
+pub mod Exprs
+pub mod Measures
+pub mod Calls
+pub mod Runs
 pub mod Laws

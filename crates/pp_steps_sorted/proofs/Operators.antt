@@ -1,18 +1,17 @@
 -- The steps of operators are well sorted where those of the operands are.
-use Rattle.std.proofs.Common.{◌≡◌, ℕ, suc, ◌+◌, List, [], ◌∷◌, Option, Some, None, refl, sym, ap, ◌∙◌, subst, arith}
+use Rattle.std.proofs.Common.{◌≡◌, ℕ, suc, ◌+◌, List, [], ◌∷◌, Option, Some, refl, sym, ap, ◌∙◌, subst, arith}
 use Rattle.std.specs.Prelude.{pos}
 use Rattle.pp_prog.specs.declared.expr.BinaryOp.{BinaryOp}
-use Rattle.pp_prog.specs.declared.expr.BinaryOp.TheVariants.{Equal, Differ, AndAlso, OrElse, And, Or, Xor, Div, Rem}
+use Rattle.pp_prog.specs.declared.expr.BinaryOp.TheVariants.{Equal, AndAlso, OrElse, Div, Rem}
 use Rattle.pp_prog.specs.declared.expr.UnaryOp.{UnaryOp}
-use Rattle.pp_prog.specs.declared.expr.UnaryOp.TheVariants.{Neg, Not, Flip}
 use Rattle.pp_prog.specs.declared.id.CheckId.{CheckId}
 use Rattle.pp_prog.specs.declared.sort.Sort.{Sort}
 use Rattle.pp_prog.specs.declared.sort.Sort.TheVariants as sort
 use Rattle.pp_prog.specs.declared.types.TypeTable.{TypeTable}
-use Rattle.pp_prog.specs.ExprSorts.{a_bool, alike, an_int, binary_sort, bits_sort, equality_sort, truth_sort}
+use Rattle.pp_prog.specs.ExprSorts.{a_bool, an_int, binary_sort, truth_sort}
 use Rattle.pp_prog.specs.ExprSorts.{unary_sort}
-use Rattle.pp_prog.proofs.PartSorts.{alike_are, bool_then, int_then, sort_then}
-use Rattle.pp_sound.proofs.Operands.{HasASort, operand, operands}
+use Rattle.pp_prog.proofs.PartSorts.{bool_then, int_then}
+use Rattle.pp_sound.proofs.Operands.{operand, operands}
 use Rattle.pp_steps.specs.declared.step.Step.TheVariants as steps
 use Rattle.pp_steps.specs.Compile.{Compiling, binary, one, operating, quotient, skipping, unless, when}
 use Rattle.pp_steps.specs.Piece.{Piece, after, asks, bind, choice, demand, plain}

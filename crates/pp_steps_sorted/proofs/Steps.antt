@@ -1,6 +1,5 @@
 -- The sorts of single steps, by those of their operands.
-use Rattle.std.proofs.Common.{◌≡◌, ℕ, true, List, [], Option, Some, slice_get, refl, sym, ap, ◌∙◌}
-use Rattle.std.proofs.lemmas.Bool.{eq-eqb}
+use Rattle.std.proofs.Common.{◌≡◌, ℕ, List, [], Option, Some, slice_get, sym, ap, ◌∙◌}
 use Rattle.pp_prog.specs.declared.expr.BinaryOp.{BinaryOp}
 use Rattle.pp_prog.specs.declared.expr.BinaryOp.TheVariants.{Equal}
 use Rattle.pp_prog.specs.declared.expr.UnaryOp.{UnaryOp}
@@ -11,7 +10,6 @@ use Rattle.pp_prog.specs.declared.sort.Sort.TheVariants as sort
 use Rattle.pp_prog.specs.declared.types.Ctor.{Ctor}
 use Rattle.pp_prog.specs.declared.types.TypeTable.{TypeTable}
 use Rattle.pp_prog.specs.ExprSorts.{a_tree, field_of_ctor, field_sort, sort_if, then_sort, unary_sort}
-use Rattle.pp_prog.specs.Sorts.{same_sort}
 use Rattle.pp_prog.proofs.ValueSorts.{its_sort}
 use Rattle.pp_steps.specs.declared.step.Step.TheVariants as steps
 use Rattle.pp_steps.specs.Sorted.{Sorts, operated_sort}

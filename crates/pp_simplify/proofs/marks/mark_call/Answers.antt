@@ -5,5 +5,6 @@ use Rattle.pp_simplify.proofs.marks.mark_call.Goals as goal
 
 pub returns : goal.returns
 returns c =
-    subst (λ ns. Marks c.args.marks.now.items c.mark_all.new.marks.items (c.args.call.now.reach ∷ ns)) c.as_slice.ensures
+    subst (λ ns. Marks c.args.marks.now.items c.mark_all.new.marks.items (c.args.call.now.reach ∷ ns))
+    c.as_slice.ensures
     (marks_more _ _ _ (_ ∷ []) _ c.mark.ensures c.mark_all.ensures)
