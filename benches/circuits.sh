@@ -4,8 +4,8 @@
 # now (both by a majority, only the digits that a remainder may have), and as they would be with an exclusive or of
 # three besides. One run says little, since it hangs on how the variables are numbered: the median of eleven
 # numberings is shown, and the least and the greatest. The circuits are those of a model of pp_bits, pp_products and
-# pp_shifts, which has their gates: it prints the numbers over fresh words of 32 bits first, which pp_bits_tables and
-# pp_wordgate_tables print too. It wants minisat (apt-get install minisat) and python3.
+# pp_shifts, which has their gates: it prints the numbers over fresh words of 32 bits first, which pp_circuit_cases
+# prints too. It wants minisat (apt-get install minisat) and python3.
 set -eu
 benches=$(cd "$(dirname "${BASH_SOURCE[0]}")" && pwd)
 here=$(mktemp -d)
