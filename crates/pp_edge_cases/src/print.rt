@@ -1,11 +1,8 @@
 //! Prints the lines of `pp_print` that no program of a source has, those on words, files and memory, and what a sink
-//! takes of three lines where one of its puts fails. What is printed was written by hand: `stdout` has it.
-#![tactic(auto)]
+//! takes of three lines where one of its puts fails. What is printed was written by hand.
 
-mod failing;
-
+use crate::failing::Failing;
 use anyhow::Result;
-use failing::Failing;
 use pp_list::Items;
 use pp_print::{
     count_line, done_line, memory_line, put_lines, read_fault_line, summary_line, too_long_line,
@@ -13,6 +10,13 @@ use pp_print::{
 };
 use pp_prog::{CtorId, Value};
 use std::alloc::Global;
+
+/// Prints all of them.
+pub fn print_lines(rt: &impl Print, alloc: Global) -> Result<()> {
+    print_odd(rt, alloc)?;
+    print_refusals(rt, alloc)?;
+    print_puts(rt, alloc)
+}
 
 /// The most checks that a number can tell, more functions than a program has, a value of an unknown constructor, and an
 /// empty name.
@@ -61,11 +65,4 @@ fn print_puts(rt: &impl Print, alloc: Global) -> Result<()> {
     let failed = put_lines(&mut out, &[]).is_err();
     println!(rt; "no lines: {failed}, {} puts", out.puts)?;
     Ok(())
-}
-
-fn main(rt: HostRuntime) -> Result<()> {
-    let alloc = rt.alloc();
-    print_odd(&rt, alloc)?;
-    print_refusals(&rt, alloc)?;
-    print_puts(&rt, alloc)
 }

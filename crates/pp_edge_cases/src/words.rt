@@ -1,14 +1,18 @@
-//! Tries lines of words, one a line of standard input, and prints what each asks. What the answers must be was worked
-//! out apart from the program: `stdout` has it.
-//!
-//! Words stand apart by blanks; `''` is the empty word. The answer is `refused`, or the task with its numbers, and the
-//! paths.
-#![tactic(auto)]
+//! Lines of words, one a line of the file, and what each asks. Words stand apart by blanks; `''` is the empty word. The
+//! answer is `refused`, or the task with its numbers, and the paths.
 
 use anyhow::Result;
 use pp_words::{Line, Task, WordsFault, read};
 use std::alloc::Global;
-use std::io::{BufRead, BufReader};
+use std::fs;
+
+/// Prints what each line of the file asks.
+pub fn print_answers(rt: &HostRuntime, alloc: Global, path: &str) -> Result<()> {
+    for line in fs::read_to_string(rt, path)?.as_str().lines() {
+        println!(rt; "{}", answer(alloc, line)?)?;
+    }
+    Ok(())
+}
 
 fn words<'a>(alloc: Global, line: &'a str) -> Result<Vec<&'a str>> {
     let mut words = Vec::new(alloc);
@@ -47,14 +51,4 @@ fn answer(alloc: Global, line: &str) -> Result<String> {
         Err(WordsFault::Refused) => Ok(String::from_str(alloc, "refused")?),
         Err(WordsFault::Memory) => Ok(String::from_str(alloc, "memory")?),
     }
-}
-
-fn main(rt: HostRuntime) -> Result<()> {
-    let alloc = rt.alloc();
-    for line in BufReader::new(alloc, rt.reader())?.lines(alloc) {
-        let line = line?;
-        let answer = answer(alloc, line.as_str())?;
-        println!(rt; "{answer}")?;
-    }
-    Ok(())
 }

@@ -1,5 +1,5 @@
-//! Tries shelves and sinks, in memory, on files, and over readers and writers that falter: a case a line of standard
-//! input, an answer a line, which is put through a sink. What they must be was worked out apart: `stdout` has it.
+//! Shelves and sinks, in memory, on files, and over readers and writers that falter: a case a line of the file, an
+//! answer a line, which is put through a sink.
 //!
 //! - `add PATH BYTES` and `fail NUMBER` prepare the shelves in memory, `room NUMBER` and `cut NUMBER AFTER` the sink in
 //!   memory; `fetch PATH LIMIT` and `put PIECE` then ask them, where `''` is no piece.
@@ -8,19 +8,64 @@
 //!   many bytes left, gives so many at a time, and at their end `fails` or `ends`.
 //! - `write INTERRUPTED STEP INTERRUPTED END` puts `hello` on a writer that is interrupted so often, takes so many
 //!   bytes at a time, is interrupted so often when it is flushed, and then `fails` or `ends`.
-#![tactic(auto)]
 
-mod falter;
-
+use crate::falter::{Drip, Slow};
 use anyhow::Result;
-use falter::{Drip, Slow};
 use pp_seam::{
     Bytes, FetchFault, FileShelf, ReadFault, Shelf, Shelves, Sink, StdSink, read_within,
 };
 use std::alloc::Global;
-use std::io;
-use std::io::{BufRead, BufReader};
 use std::rt::Files;
+use std::{fs, io};
+
+/// What the cases ask: the shelves and the sink in memory, and the files.
+#[derive(Drop)]
+struct Asked<R: Files + Drop> {
+    shelves: Shelves,
+    sink: Bytes,
+    files: FileShelf<R>,
+}
+
+/// Prints the answer to each line of the file.
+pub fn print_answers(rt: &HostRuntime, path: &str) -> Result<()> {
+    let alloc = rt.alloc();
+    let mut asked = Asked {
+        shelves: Shelves::new(alloc),
+        sink: Bytes::with_room(alloc, 0)?,
+        files: FileShelf::new(alloc, rt),
+    };
+    let mut out = StdSink::new(io::writer(rt));
+    let _ = out.put("".as_bytes());
+    for line in fs::read_to_string(rt, path)?.as_str().lines() {
+        let answer = answer(alloc, &mut asked, line)?;
+        let _ = out.put(answer.as_str().as_bytes());
+    }
+    Ok(())
+}
+
+/// The answer to a line.
+fn answer(alloc: Global, asked: &mut Asked<impl Files + Drop>, line: &str) -> Result<String> {
+    let words = words_of(alloc, line)?;
+    let mut answer = match word(&words, 0) {
+        "add" | "fail" => stock(alloc, &mut asked.shelves, &words)?,
+        "fetch" => fetched(alloc, &mut asked.shelves, &words)?,
+        "room" | "cut" => prepare(alloc, &mut asked.sink, &words)?,
+        "put" => put(alloc, &mut asked.sink, &words)?,
+        "file" => filed(alloc, &mut asked.files, &words)?,
+        "read" => read(alloc, &words)?,
+        _ => written(alloc, &words)?,
+    };
+    answer.push_str("\n")?;
+    Ok(answer)
+}
+
+fn words_of(alloc: Global, line: &str) -> Result<Vec<&str>> {
+    let mut words = Vec::new(alloc);
+    for word in line.split_whitespace() {
+        words.push(word)?;
+    }
+    Ok(words)
+}
 
 /// The word at this place, or none.
 fn word<'a>(words: &[&'a str], at: usize) -> &'a str {
@@ -122,37 +167,4 @@ fn prepare(alloc: Global, sink: &mut Bytes, words: &[&str]) -> Result<String> {
         sink.fail_at(small(words, 1), number(words, 2));
     }
     Ok(String::from_str(alloc, "prepared")?)
-}
-
-fn words_of(alloc: Global, line: &str) -> Result<Vec<&str>> {
-    let mut words = Vec::new(alloc);
-    for word in line.split_whitespace() {
-        words.push(word)?;
-    }
-    Ok(words)
-}
-
-fn main(rt: HostRuntime) -> Result<()> {
-    let alloc = rt.alloc();
-    let mut shelves = Shelves::new(alloc);
-    let mut files = FileShelf::new(alloc, &rt);
-    let mut sink = Bytes::with_room(alloc, 0)?;
-    let mut out = StdSink::new(io::writer(&rt));
-    let _ = out.put("".as_bytes());
-    for line in BufReader::new(alloc, rt.reader())?.lines(alloc) {
-        let line = line?;
-        let words = words_of(alloc, line.as_str())?;
-        let mut answer = match word(&words, 0) {
-            "add" | "fail" => stock(alloc, &mut shelves, &words)?,
-            "fetch" => fetched(alloc, &mut shelves, &words)?,
-            "room" | "cut" => prepare(alloc, &mut sink, &words)?,
-            "put" => put(alloc, &mut sink, &words)?,
-            "file" => filed(alloc, &mut files, &words)?,
-            "read" => read(alloc, &words)?,
-            _ => written(alloc, &words)?,
-        };
-        answer.push_str("\n")?;
-        let _ = out.put(answer.as_str().as_bytes());
-    }
-    Ok(())
 }
