@@ -24,6 +24,8 @@
 //!   last decision made false, how many steps make the others false, and the variables that were met. `refute :
 //!   DECISIONS : CLAUSES` propagates once, after all decisions, and prints what is derived of these alone. Both print
 //!   `none` where no clause is false.
+//! - `ring STEPS` prints whether a log is accepted whose chain goes so many steps round a ring of clauses of ten
+//!   literals, which follows from them.
 //! - `laws` calls the functions that only state theorems.
 //! - `values CLAUSES|CALLS` makes calls to a trail over the clauses: `+` adds the clause of the letters behind it,
 //!   `?` decides a literal, `<` keeps so many steps, `!` propagates. At `!` and `.` it prints what is true, with a
@@ -37,6 +39,7 @@ mod case;
 mod learning;
 mod lists;
 mod orders;
+mod ring;
 mod three;
 mod tries;
 

@@ -2,6 +2,7 @@
 
 use crate::case::{Case, MOST, text};
 use crate::orders::{Shown, order};
+use crate::ring::check_steps;
 use crate::three::decided_lists;
 use crate::{learning, lists};
 use anyhow::{Result, bail, ensure};
@@ -28,6 +29,7 @@ pub fn answer(alloc: Global, line: &str) -> Result<String> {
         "lit" => lists::literal(alloc, rest),
         "ascending" => lists::ascending(alloc, rest),
         "copies" => lists::copies(alloc, &Case::read(alloc, rest)?.clauses),
+        "ring" => check_steps(alloc, rest),
         "laws" => lists::state_laws(alloc),
         "evidence" => evidence(alloc, Case::read(alloc, rest)?),
         "learn" => learning::learn(alloc, &Case::read(alloc, rest)?),

@@ -1,5 +1,4 @@
-//! Times the checker of logs: a chain of as many steps as the word says, over clauses of ten literals.
-#![tactic(auto)]
+//! A long chain of a log, over clauses of ten literals: `benches/refute.sh` times its check.
 
 ghost use Rattle.std.specs.Prelude.{◌≤◌};
 
@@ -7,7 +6,16 @@ use anyhow::{Context, Result, bail};
 use pp_clause::{Chain, Clause, Clauses, Lemma, Lit, Log};
 use pp_refute::accepts;
 use std::alloc::Global;
-use std::env;
+
+/// Whether the log of a chain of so many steps is accepted.
+pub fn check_steps(alloc: Global, rest: &str) -> Result<String> {
+    let steps = rest.parse::<u32>().context("the number of steps")?;
+    let clauses = clauses(alloc)?;
+    let log = log(alloc, steps)?;
+    let assumptions = assumptions(alloc, steps)?;
+    let answer = accepts(alloc, &clauses, &assumptions, &log)?;
+    Ok(format!(in alloc; "{steps} steps: {answer}")?)
+}
 
 /// How many variables each clause has besides those of the ring.
 const SIDES: u32 = 8;
@@ -69,17 +77,4 @@ fn assumptions(alloc: Global, steps: u32) -> Result<Vec<Lit>> {
     }
     assumptions.push(ring(steps).negated())?;
     Ok(assumptions)
-}
-
-fn main(rt: HostRuntime) -> Result<()> {
-    let mut words = env::args(&rt)?;
-    let _program = words.next();
-    let word = words.next().context("the number of steps")?;
-    let steps = word.parse::<u32>().context("the number of steps")?;
-    let clauses = clauses(rt.alloc())?;
-    let log = log(rt.alloc(), steps)?;
-    let assumptions = assumptions(rt.alloc(), steps)?;
-    let answer = accepts(rt.alloc(), &clauses, &assumptions, &log)?;
-    println!(rt; "{steps} steps: {answer}")?;
-    Ok(())
 }
