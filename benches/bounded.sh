@@ -3,10 +3,10 @@
 # recursive fields at height 4. Prints the rows of a table: the gates that one call adds, how many it may add at most,
 # and the seconds of 100 times the two trees and the call (of `unknown`, the two trees alone). The choice of `merge` is
 # an input.
-# It wants crates/pp_bounded_bench/out/pp_bounded_bench, which `rt run` in that crate's folder leaves.
+# It wants crates/pp_bounded_cases/out/pp_bounded_cases, which `rt run` in that crate's folder leaves.
 set -eu
 root=$(cd "$(dirname "${BASH_SOURCE[0]}")/.." && pwd)
-bench=$root/crates/pp_bounded_bench/out/pp_bounded_bench
+program=$root/crates/pp_bounded_cases/out/pp_bounded_cases
 TIMEFORMAT=%R
 
 # The allowance of a call, from the bits and the nodes of a full tree: a list has 34 bits and a node for each step of
@@ -27,10 +27,10 @@ allowance() {
 printf '| Trees | Call | Gates | Allowed | 100 times, s |\n|---|---|---|---|---|\n'
 for case in lists wide; do
     for call in unknown equal merge below read; do
-        read -r trees _ _ gates _ < <("$bench" "$case" "$call" 1)
+        read -r trees _ _ gates _ < <("$program" <<< "$case $call 1")
         # The constant, the input for the choice and two trees.
         [ "$call" != unknown ] || gates=$(((trees - 2) / 2))
-        seconds=$( { time "$bench" "$case" "$call" 100 > /dev/null; } 2>&1)
+        seconds=$( { time "$program" <<< "$case $call 100" > /dev/null; } 2>&1)
         printf '| %s | `%s` | %s | %s | %s |\n' "$case" "$call" "$gates" "$(allowance "$case" "$call")" "$seconds"
     done
 done

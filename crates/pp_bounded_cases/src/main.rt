@@ -13,19 +13,39 @@
 //! then the parts of the first tree and of the choice: for each constructor of the datatype whether the tree has it,
 //! and behind the one that it has what is read of its fields, each in brackets. It is an error where the values that
 //! are read compare otherwise by themselves, the choice isn't the one of them that was asked for, or one is too high.
+//!
+//! A line `CASE CALL TIMES` makes an input for a choice, two unknown trees and the call so many times, and prints how
+//! many gates there were before the call and how many it added. The cases are `lists` (lists of numbers at height 6)
+//! and `wide` (four constructors with three recursive fields at height 4), the calls `unknown` (the trees alone),
+//! `equal`, `below`, `merge` and `read`.
 #![tactic(auto)]
 
 mod asking;
 mod case;
 mod found;
+mod measuring;
 mod showing;
 mod solving;
 mod trying;
 
+ghost use Rattle.pp_bounded_samples.specs.Sample.{IsSample};
+
 use anyhow::Result;
 use pp_bounded_samples::table::sample_types;
+use pp_prog::TypeTable;
+use std::alloc::Global;
 use std::io::{BufRead, BufReader};
-use trying::answer;
+
+/// The answer to a line.
+fn answer(alloc: Global, table: &TypeTable, line: &str) -> Result<String>
+    requires { IsSample table.now }
+{
+    if line.starts_with("lists ") || line.starts_with("wide ") {
+        measuring::measure(alloc, table, line)
+    } else {
+        trying::answer(alloc, table, line)
+    }
+}
 
 fn main(rt: HostRuntime) -> Result<()> {
     let alloc = rt.alloc();

@@ -1,10 +1,10 @@
-//! The calls that are measured.
+//! How large circuits of bounded trees are, and how fast they are built: `benches/bounded.sh` times them.
 
 ghost use Rattle.pp_gate.specs.Circuit.{IsOf};
 ghost use Rattle.pp_bounded_samples.specs.Kept.{KeepsPair};
 ghost use Rattle.pp_bounded_samples.specs.Sample.{IsSample};
 
-use anyhow::{Result, bail, ensure};
+use anyhow::{Context, Result, bail, ensure};
 use pp_bounded::Bounded;
 use pp_bounded_samples::pair::TreePair;
 use pp_bounded_samples::reading::read;
@@ -15,8 +15,24 @@ use pp_gate::Circuit;
 use pp_prog::{DataId, TypeTable};
 use std::alloc::Global;
 
+/// What `CASE CALL TIMES` measures, where the trees and the call are made so many times.
+pub fn measure(alloc: Global, table: &TypeTable, line: &str) -> Result<String>
+    requires { IsSample table.now }
+{
+    let mut words = line.split_whitespace();
+    let case = words.next().context("a case")?;
+    let call = words.next().context("a call")?;
+    let times = words.next().context("a number")?;
+    let times = times.parse::<u32>().context("a number")?;
+    let mut gates = (0, 0);
+    for _ in 0..times {
+        gates = measured(alloc, table, case, call)?;
+    }
+    Ok(format!(in alloc; "{} gates, and {} more", gates.0, gates.1)?)
+}
+
 /// How many gates the constant, an input for a choice and two unknown trees have, and how many the call adds.
-pub fn measured(alloc: Global, table: &TypeTable, case: &str, call: &str) -> Result<(u32, u32)>
+fn measured(alloc: Global, table: &TypeTable, case: &str, call: &str) -> Result<(u32, u32)>
     requires { IsSample table.now }
 {
     let (of, height) = match case {
