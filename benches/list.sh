@@ -10,12 +10,12 @@
 # - a run of a function of one line
 # Where only instances and the plan are meant, the words ask for a run of a function that isn't there: it is looked up
 # last, so that no estimate and no run is in the time. The time of parsing and typing alone is shown beside it. It wants
-# crates/pureproof/out/pureproof and crates/pp_types_bench/out/pp_types_bench, which `rt run` in these crates' folders
+# crates/pureproof/out/pureproof and crates/pp_source_cases/out/pp_source_cases, which `rt run` in these crates' folders
 # leaves; another program in the first's place is named by PUREPROOF.
 set -eu
 root=$(cd "$(dirname "${BASH_SOURCE[0]}")/.." && pwd)
 program=${PUREPROOF:-$root/crates/pureproof/out/pureproof}
-typing=$root/crates/pp_types_bench/out/pp_types_bench
+typing=$root/crates/pp_source_cases/out/pp_source_cases
 here=$(mktemp -d)
 trap 'rm -rf "$here"' EXIT
 cd "$here"
@@ -149,7 +149,7 @@ run() {
     "$program" $words "$@" > answer 2>&1 || true
     printf '%s: %s lines, the first %s\n' "$name" "$(wc -l < answer)" "$(head -n 1 answer)"
     for _ in 1 2 3; do
-        bash -c "TIMEFORMAT='$name, parsed and typed: %R s'; time '$typing' check $* > /dev/null"
+        bash -c "TIMEFORMAT='$name, parsed and typed: %R s'; time '$typing' 'type $*' > /dev/null"
         bash -c "TIMEFORMAT='$name: %R s'; time '$program' $words $* > /dev/null 2>&1" || true
     done
 }

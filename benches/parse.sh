@@ -1,12 +1,10 @@
 #!/usr/bin/env bash
 # Times the parser on sources of 262,144 bytes: open round brackets, balanced brackets round one name, a realistic
 # program, and one sum of names. The time of the lexer alone on the same source is shown beside it. It wants
-# crates/pp_parse_bench/out/pp_parse_bench and crates/pp_tokens_bench/out/pp_tokens_bench, which `rt run` in these
-# crates' folders leaves.
+# crates/pp_source_cases/out/pp_source_cases, which `rt run` in that crate's folder leaves.
 set -eu
 root=$(cd "$(dirname "${BASH_SOURCE[0]}")/.." && pwd)
-tokens=$root/crates/pp_tokens_bench/out/pp_tokens_bench
-parse=$root/crates/pp_parse_bench/out/pp_parse_bench
+program=$root/crates/pp_source_cases/out/pp_source_cases
 here=$(mktemp -d)
 trap 'rm -rf "$here"' EXIT
 cd "$here"
@@ -45,9 +43,9 @@ PY
 
 for kind in open balanced program sum; do
     printf '%s: ' "$kind"
-    "$parse" "$kind"
+    "$program" "count_declarations $kind" | tail -n 1
     for _ in 1 2 3; do
-        /usr/bin/env bash -c "TIMEFORMAT='$kind, tokens: %R s'; time '$tokens' $kind > /dev/null"
-        /usr/bin/env bash -c "TIMEFORMAT='$kind, tokens and parser: %R s'; time '$parse' $kind > /dev/null"
+        bash -c "TIMEFORMAT='$kind, tokens: %R s'; time '$program' 'count_tokens $kind' > /dev/null"
+        bash -c "TIMEFORMAT='$kind, tokens and parser: %R s'; time '$program' 'count_declarations $kind' > /dev/null"
     done
 done

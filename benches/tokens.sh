@@ -1,9 +1,9 @@
 #!/usr/bin/env bash
 # Times the lexer on sources of 262,144 bytes: round brackets, opened comments, letters, and a realistic program.
-# It wants crates/pp_tokens_bench/out/pp_tokens_bench, which `rt run` in that crate's folder leaves.
+# It wants crates/pp_source_cases/out/pp_source_cases, which `rt run` in that crate's folder leaves.
 set -eu
 root=$(cd "$(dirname "${BASH_SOURCE[0]}")/.." && pwd)
-program=$root/crates/pp_tokens_bench/out/pp_tokens_bench
+program=$root/crates/pp_source_cases/out/pp_source_cases
 here=$(mktemp -d)
 trap 'rm -rf "$here"' EXIT
 cd "$here"
@@ -24,6 +24,6 @@ repeated '  def insert(x: Int, l: List): List = l match {
 
 for kind in round comments letters program; do
     for _ in 1 2 3; do
-        /usr/bin/env bash -c "TIMEFORMAT='$kind: %R s'; time '$program' $kind"
+        /usr/bin/env bash -c "TIMEFORMAT='$kind: %R s'; time '$program' 'count_tokens $kind' | tail -n 1"
     done
 done

@@ -1,11 +1,11 @@
 #!/usr/bin/env bash
 # Times typing: sixteen sources of 262,144 bytes with realistic functions that call one another; a function with one
 # expression of 60,000 nodes; and 10,000 case classes of which each holds the next, in either order. The time of
-# parsing alone is shown beside it. It wants crates/pp_types_bench/out/pp_types_bench, which `rt run` in that crate's
+# parsing alone is shown beside it. It wants crates/pp_source_cases/out/pp_source_cases, which `rt run` in that crate's
 # folder leaves.
 set -eu
 root=$(cd "$(dirname "${BASH_SOURCE[0]}")/.." && pwd)
-bench=$root/crates/pp_types_bench/out/pp_types_bench
+program=$root/crates/pp_source_cases/out/pp_source_cases
 here=$(mktemp -d)
 trap 'rm -rf "$here"' EXIT
 cd "$here"
@@ -65,10 +65,10 @@ run() {
     name=$1
     shift
     printf '%s: ' "$name"
-    "$bench" check "$@"
+    "$program" "type $*" | tail -n 1
     for _ in 1 2 3; do
-        bash -c "TIMEFORMAT='$name, parsed: %R s'; time '$bench' parse $* > /dev/null"
-        bash -c "TIMEFORMAT='$name, parsed and typed: %R s'; time '$bench' check $* > /dev/null"
+        bash -c "TIMEFORMAT='$name, parsed: %R s'; time '$program' 'parse $*' > /dev/null"
+        bash -c "TIMEFORMAT='$name, parsed and typed: %R s'; time '$program' 'type $*' > /dev/null"
     done
 }
 run 'sixteen sources' source0 source1 source2 source3 source4 source5 source6 source7 source8 source9 source10 source11 \

@@ -1,6 +1,6 @@
 //! How units and declarations print.
 
-use crate::exprs::{push_expr, push_type};
+use crate::parsing::exprs::{push_expr, push_type};
 use pp_parse::NoMemory;
 use pp_tree::{ClassDecl, Decl, DefDecl, Param, Post, Unit};
 

@@ -1,11 +1,10 @@
-//! Tries the typing of sources, a case a line of standard input, and prints an answer a line. What the answers must be
-//! was worked out apart from the program: `stdout` has it.
+//! The typing of sources.
 //!
-//! In a line `\n` stands for a line feed, and `\s` stands between sources. The answer is `typed`, or the fault with its
-//! name, the number of its source and its offset; `no unit` where a source spells none.
-#![tactic(auto)]
+//! In a line of `typing` `\n` stands for a line feed, and `\s` stands between sources. The answer is `typed`, or the
+//! fault with its name, the number of its source and its offset; `no unit` where a source spells none. `parse` and
+//! `type` take sources with blanks between, of one program.
 
-use anyhow::Result;
+use anyhow::{Result, bail};
 use bumpalo::Bump;
 use pp_parse::parse;
 use pp_text::{MOST_BYTES, Name, Text};
@@ -13,9 +12,68 @@ use pp_tokens::tokens;
 use pp_tree::Unit;
 use pp_types::{TypeFault, check};
 use std::alloc::Global;
-use std::io::{BufRead, BufReader};
+use std::fs;
 
-// The source that a part of a line has.
+/// Does the task of this name.
+pub fn run(rt: &HostRuntime, name: &str, given: &str) -> Result<()> {
+    match name {
+        "typing" => print_answers(rt, rt.alloc(), given),
+        _ => print_count(rt, rt.alloc(), given, name == "type"),
+    }
+}
+
+/// Prints what the sources of each line are answered.
+fn print_answers(rt: &HostRuntime, alloc: Global, path: &str) -> Result<()> {
+    for line in fs::read_to_string(rt, path)?.as_str().lines() {
+        println!(rt; "{}", answer(alloc, line)?)?;
+    }
+    Ok(())
+}
+
+/// Prints how many units the sources spell, or how many functions these have where they are to be typed.
+fn print_count(rt: &HostRuntime, alloc: Global, paths: &str, typed: bool) -> Result<()> {
+    let arena = Bump::new(alloc);
+    let units = units(rt, alloc, &arena, paths)?;
+    if !typed {
+        println!(rt; "{} units", units.len())?;
+        return Ok(());
+    }
+    match functions(alloc, &units) {
+        Some(count) => println!(rt; "{count} functions")?,
+        None => println!(rt; "not typed")?,
+    }
+    Ok(())
+}
+
+/// The units of the sources at these paths.
+fn units<'a>(
+    rt: &HostRuntime,
+    alloc: Global,
+    arena: &'a Bump,
+    paths: &str,
+) -> Result<Vec<Unit<'a>>> {
+    let mut units = Vec::new(alloc);
+    for path in paths.split_whitespace() {
+        let Some(unit) = unit(alloc, arena, &fs::read(rt, path)?) else {
+            bail!("no unit");
+        };
+        units.push(unit)?;
+    }
+    Ok(units)
+}
+
+/// How many functions the units have, where they are typed.
+fn functions(alloc: Global, units: &[Unit]) -> Option<usize> {
+    if units.len() > 16 {
+        return None;
+    }
+    match check(alloc, units) {
+        Ok(typed) => Some(typed.typed().defs.as_slice().len()),
+        Err(_) => None,
+    }
+}
+
+/// The source that a part of a line has.
 fn source(alloc: Global, part: &str) -> Result<String> {
     let mut source = String::new(alloc);
     let mut lines = part.split("\\n");
@@ -29,9 +87,8 @@ fn source(alloc: Global, part: &str) -> Result<String> {
     Ok(source)
 }
 
-// The unit of a source, where it spells one.
-fn unit<'a>(alloc: Global, arena: &'a Bump, source: &str) -> Option<Unit<'a>> {
-    let bytes = source.as_bytes();
+/// The unit of a source, where it spells one.
+fn unit<'a>(alloc: Global, arena: &'a Bump, bytes: &[u8]) -> Option<Unit<'a>> {
     if bytes.len() > MOST_BYTES {
         return None;
     }
@@ -44,12 +101,13 @@ fn unit<'a>(alloc: Global, arena: &'a Bump, source: &str) -> Option<Unit<'a>> {
     parse(alloc, arena, &text, &tokens).ok()
 }
 
+/// A fault, with its name, the number of its source and its offset.
 fn fault(alloc: Global, kind: &str, name: &Name, source: u32, offset: u32) -> Result<String> {
     let name = name.as_str();
     Ok(format!(in alloc; "{kind} {name} at {source}:{offset}")?)
 }
 
-// What the units are answered.
+/// What the units are answered.
 fn told(alloc: Global, units: &[Unit]) -> Result<String> {
     if units.len() > 16 {
         return Ok(String::from_str(alloc, "too many sources")?);
@@ -116,25 +174,16 @@ fn told(alloc: Global, units: &[Unit]) -> Result<String> {
     }
 }
 
+/// What the sources of a line are answered.
 fn answer(alloc: Global, line: &str) -> Result<String> {
     let arena = Bump::new(alloc);
     let mut units = Vec::new(alloc);
     for part in line.split("\\s") {
         let source = source(alloc, part)?;
-        let Some(unit) = unit(alloc, &arena, source.as_str()) else {
+        let Some(unit) = unit(alloc, &arena, source.as_bytes()) else {
             return Ok(String::from_str(alloc, "no unit")?);
         };
         units.push(unit)?;
     }
     told(alloc, &units)
-}
-
-fn main(rt: HostRuntime) -> Result<()> {
-    let alloc = rt.alloc();
-    for line in BufReader::new(alloc, rt.reader())?.lines(alloc) {
-        let line = line?;
-        let answer = answer(alloc, line.as_str())?;
-        println!(rt; "{answer}")?;
-    }
-    Ok(())
 }
