@@ -7,6 +7,7 @@ mod call;
 mod count;
 
 use anyhow::{Context, Result, ensure};
+use call::Call;
 use count::{Operand, counted};
 use pp_bits::laws;
 use std::alloc::Global;
@@ -41,7 +42,7 @@ fn operand(number: u64, known: bool) -> Operand {
 /// What is printed for a line.
 fn print_row(rt: &impl Print, alloc: Global, line: &str) -> Result<()> {
     let mut words = line.split_whitespace();
-    let call = words.next().context("a call")?;
+    let call = Call::named(words.next().context("a call")?).context("no such call")?;
     let width = number(words.next())?;
     ensure!(width <= MOST_DIGITS, "more digits than {MOST_DIGITS}");
     let width = width as u32;

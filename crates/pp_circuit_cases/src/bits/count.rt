@@ -4,7 +4,7 @@ ghost use Rattle.std.specs.Prelude.{◌≡◌, ◌+◌, ◌≤◌, ◌^◌, All,
 ghost use Rattle.pp_gate.specs.Circuit.{IsOf};
 ghost use Rattle.pp_gate.specs.Growth.{Grows};
 
-use crate::bits::call::apply;
+use crate::bits::call::Call;
 use anyhow::{Result, ensure};
 use pp_bits::{constant, inputs, number};
 use pp_clause::{Assignment, Lit};
@@ -26,14 +26,14 @@ pub struct Count {
 }
 
 /// A call on two operands of so many digits in a circuit of their own.
-pub fn counted(alloc: Global, name: &str, width: u32, x: Operand, y: Operand) -> Result<Count>
+pub fn counted(alloc: Global, call: Call, width: u32, x: Operand, y: Operand) -> Result<Count>
     requires { width ≤ 32 }
 {
     let mut circuit = Circuit::new(alloc)?;
     let a = digits(&mut circuit, x, width)?;
     let b = digits(&mut circuit, y, width)?;
     let start = circuit.gates();
-    let answer = apply(&mut circuit, name, &a, &b)?;
+    let answer = call.apply(&mut circuit, &a, &b)?;
     ensure!(answer.len() <= 64, "more than 64 digits");
     let all = circuit.complete(&chosen(alloc, width, x, y)?)?;
     Ok(Count {
