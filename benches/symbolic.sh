@@ -5,15 +5,15 @@
 # a list. For each check it prints the steps of the run, the gates of the circuit (inputs and the constant among them)
 # and the estimate; and for each program the seconds that all its circuits took, and how many gates a second were
 # built. Reading the program isn't counted: the circuits are built many times, and once the program is only read. It
-# wants python3 and crates/pp_symbolic_bench/out/pp_symbolic_bench, which `rt run` in that crate's folder leaves;
+# wants python3 and crates/pp_symbolic_cases/out/pp_symbolic_cases, which `rt run` in that crate's folder leaves;
 # another program in its place is named by SYMBOLIC. With a folder as its argument it only leaves the sources and
 # their words there.
 set -eu
 root=$(cd "$(dirname "${BASH_SOURCE[0]}")/.." && pwd)
-program=${SYMBOLIC:-$root/crates/pp_symbolic_bench/out/pp_symbolic_bench}
+program=${SYMBOLIC:-$root/crates/pp_symbolic_cases/out/pp_symbolic_cases}
 here=$(mktemp -d)
 trap 'rm -rf "$here"' EXIT
-python3 - "$program" "$here" "${1:-}" "$root/crates/pp_symbolic_bench/data/length.scala" <<'PY'
+python3 - "$program" "$here" "${1:-}" "$root/crates/pp_symbolic_cases/data/length.scala" <<'PY'
 import os, re, subprocess, sys, time
 
 PROGRAM, FOLDER, LEFT, LENGTH = sys.argv[1:]
@@ -130,7 +130,7 @@ WORKS += [("pair", PAIR, n, 3) for n in range(3)]
 def told(path, round, depth, times):
     """What is printed, and the seconds."""
     start = time.monotonic()
-    words = [PROGRAM, path, str(round), str(depth), str(times)]
+    words = [PROGRAM, f"circuits {path} {round} {depth} {times}"]
     text = subprocess.run(words, capture_output=True, text=True, check=True).stdout
     return text, time.monotonic() - start
 
@@ -141,13 +141,13 @@ for number, (name, source, round, depth) in enumerate(WORKS):
         file.write(source)
     if LEFT:
         with open(path + ".args", "w") as file:
-            file.write(f"{{}}\n{round}\n{depth}\n1\n")
+            file.write(f"circuits /dev/stdin {round} {depth} 1\n")
         continue
     read = min(told(path, round, depth, 0)[1] for _ in range(3))
     text, seconds = min((told(path, round, depth, TIMES) for _ in range(3)), key=lambda it: it[1])
     gates = sum(map(int, re.findall(r"(\d+) gates of", text)))
     each = max(seconds - read, 1e-9) / TIMES
     print(f"{name}, round {round}, depth {depth}: {each * 1e3:.2f} ms, {gates / each:,.0f} gates a second")
-    for line in text.splitlines():
+    for line in text.splitlines()[1:]:
         print(f"  {line}")
 PY

@@ -1,2 +1,3 @@
-mod Symbols
 mod Frames
+mod Growth
+mod Symbols

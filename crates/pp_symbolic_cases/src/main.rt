@@ -1,95 +1,44 @@
-//! Compares the circuits of rounds with the evaluator, for small programs: a line for each program, check and round. In
-//! how many cases the check fails was worked out apart from the program, by a model of the language in Python that
-//! reads the same sources and runs them: `stdout` has it.
+//! Tries what stands between a program and its circuits, and measures how fast it is: rounds beside the evaluator,
+//! plans, circuits of runs, and whether matches are covered. What is to be printed was worked out apart from the
+//! program: `stdout` has it.
 //!
-//! The input has programs one after the other: a line with the name, the source, and a line `end`. For each check and
-//! the rounds 0 to 3 a circuit is built over trees of height at most 2. Then all lists of arguments of such heights,
-//! with the Ints -1, 0, 1 and 3, are tried: the solver is asked what `fails` is where the inputs are those of these
-//! arguments, and the function is run on them with the round as its fuel. The line says on how many of all lists the
-//! run fails the check. Each list on which the circuit says another thing than the run has a line of its own before.
+//! Each word of the command line is a task and, behind a blank, what it takes: a file of programs, or a source or a
+//! case with its sizes. It is printed as a heading, and below it what the task prints. `args` has the tasks that are
+//! tried on the files in `data`; the scripts under `benches/` give those that measure larger sizes.
+//!
+//! | Task | What is done | Module |
+//! |---|---|---|
+//! | `rounds FILE` | the circuits of rounds are compared with the runs | `rounds` |
+//! | `plans FILE` | what the plans of the programs say | `plans` |
+//! | `circuits SOURCE ROUND DEPTH TIMES` | how large the circuits of runs are | `circuits` |
+//! | `coverage CASE SIZE` | whether a large match is covered | `coverage` |
 #![tactic(auto)]
 
-mod arguments;
-mod asking;
-mod comparing;
-mod round;
-mod running;
-mod solving;
+mod accepted;
+mod circuits;
+mod coverage;
+mod plans;
+mod rounds;
 
-ghost use Rattle.std.specs.Prelude.{◌↔◌, All, IfOk, IsTrue};
-ghost use Rattle.pp_checks.specs.Plan.{IsPlanOf};
-ghost use Rattle.pp_front.specs.Programs.{IsShort};
+use anyhow::{Context, Result, bail};
+use std::env;
 
-use anyhow::{Result, bail, ensure};
-use comparing::compare;
-use pp_checks::Plan;
-use pp_front::{Accepted, Refusal, accept};
-use pp_prog::{CheckId, Program};
-use pp_text::MOST_BYTES;
-use std::alloc::Global;
-use std::io;
-
-/// What ends a program of the input.
-const END: &str = "\nend\n";
-
-/// The rounds that are tried are those below this.
-const ROUNDS: u32 = 4;
-
-fn are_short(sources: &[Vec<u8>]) -> bool
-    ensures { IsTrue result ↔ All IsShort sources.now }
-{
-    sources.iter().all(|source| source.len() <= MOST_BYTES)
-}
-
-/// The program of a source, which must be accepted.
-fn accepted(alloc: Global, source: &str) -> Result<Accepted>
-    ensures { IfOk result (λ accepted. IsPlanOf accepted.plan accepted.program) }
-{
-    let mut sources = Vec::new(alloc);
-    sources.push(Vec::from_slice(alloc, source.as_bytes())?)?;
-    ensure!(sources.len() <= 16 && are_short(&sources), "too long");
-    match accept(alloc, &sources) {
-        Ok(accepted) => Ok(accepted),
-        Err(Refusal::Line(line)) => bail!("{line}"),
-        Err(Refusal::Memory) => bail!("out of memory"),
+/// Does a task.
+fn run(rt: &HostRuntime, task: &str) -> Result<()> {
+    println!(rt; "# {task}")?;
+    let (name, given) = task.split_once(' ').context("a task and what it takes")?;
+    match name {
+        "rounds" => rounds::print_rounds(rt, given),
+        "plans" => plans::print_plans(rt, given),
+        "circuits" => circuits::print_sizes(rt, given),
+        "coverage" => coverage::print_coverage(rt, given),
+        other => bail!("no task {other}"),
     }
-}
-
-/// Compares all rounds of all checks, and prints what is found.
-fn try_program(
-    rt: &impl Print,
-    alloc: Global,
-    name: &str,
-    program: &Program,
-    plan: &Plan,
-) -> Result<()>
-    requires { IsPlanOf plan.now program.now }
-{
-    for number in 0..program.checks().len() {
-        let check = CheckId(number as u32);
-        for round in 0..ROUNDS {
-            let compared = compare(alloc, program, plan, check, round)?;
-            for difference in &compared.differences {
-                println!(rt; "{name} check {number} round {round} at{difference}")?;
-            }
-            println!(rt;
-                "{name} check {number} round {round}: {} of {} fail",
-                compared.failing, compared.tried
-            )?;
-        }
-    }
-    Ok(())
 }
 
 fn main(rt: HostRuntime) -> Result<()> {
-    let alloc = rt.alloc();
-    let text = io::read_to_string(alloc, rt.reader())?;
-    for case in text.as_str().split(END) {
-        let Some((name, source)) = case.split_once('\n') else {
-            continue;
-        };
-        let Accepted { program, plan } = accepted(alloc, source)?;
-        try_program(&rt, alloc, name, &program, &plan)?;
+    for task in env::args(&rt)?.skip(1) {
+        run(&rt, task.as_str())?;
     }
     Ok(())
 }

@@ -1,0 +1,100 @@
+//! Compares the circuits of rounds with the evaluator, for small programs: a line for each program, check and round. In
+//! how many cases the check fails was worked out by a model of the language in Python that reads the same sources and
+//! runs them.
+//!
+//! The file has programs one after the other: a line with the name, the source, and a line `end`. For each check and
+//! the rounds 0 to 3 a circuit is built over trees of height at most 2. Then all lists of arguments of such heights,
+//! with the Ints -1, 0, 1 and 3, are tried: the solver is asked what `fails` is where the inputs are those of these
+//! arguments, and the function is run on them with the round as its fuel. The line says on how many of all lists the
+//! run fails the check. Each list on which the circuit says another thing than the run has a line of its own before.
+
+mod arguments;
+mod asking;
+mod comparing;
+mod round;
+mod running;
+mod solving;
+
+ghost use Rattle.std.specs.Prelude.{◌<◌, ◌≤◌, length};
+ghost use Rattle.pp_checks.specs.Plan.{IsPlanOf};
+
+use crate::accepted::accepted;
+use anyhow::Result;
+use comparing::compare;
+use pp_checks::Plan;
+use pp_prog::{CheckId, Program};
+use std::alloc::Global;
+use std::fs;
+
+/// What ends a program of the file.
+const END: &str = "\nend\n";
+
+/// The rounds that are tried are those below this.
+const ROUNDS: u32 = 4;
+
+/// Prints the comparisons of each program of the file.
+pub fn print_rounds(rt: &HostRuntime, path: &str) -> Result<()> {
+    for case in fs::read_to_string(rt, path)?.as_str().split(END) {
+        if let Some((name, source)) = case.split_once('\n') {
+            try_source(rt, rt.alloc(), name, source)?;
+        }
+    }
+    Ok(())
+}
+
+fn try_source(rt: &impl Print, alloc: Global, name: &str, source: &str) -> Result<()> {
+    let accepted = accepted(alloc, source)?;
+    try_program(rt, alloc, name, &accepted.program, &accepted.plan)
+}
+
+/// Compares all rounds of all checks, and prints what is found.
+fn try_program(
+    rt: &impl Print,
+    alloc: Global,
+    name: &str,
+    program: &Program,
+    plan: &Plan,
+) -> Result<()>
+    requires { IsPlanOf plan.now program.now }
+{
+    for number in 0..program.checks().len() {
+        for round in 0..ROUNDS {
+            try_round(
+                rt,
+                alloc,
+                name,
+                program,
+                plan,
+                CheckId(number as u32),
+                round,
+            )?;
+        }
+    }
+    Ok(())
+}
+
+/// Compares a round of a check, and prints what is found.
+fn try_round(
+    rt: &impl Print,
+    alloc: Global,
+    name: &str,
+    program: &Program,
+    plan: &Plan,
+    check: CheckId,
+    round: u32,
+) -> Result<()>
+    requires plan { IsPlanOf plan.now program.now }
+    requires check { check.0 < length program.now.checks }
+    requires round { round ≤ 12 }
+{
+    let number = check.0;
+    let compared = compare(alloc, program, plan, check, round)?;
+    for difference in &compared.differences {
+        println!(rt; "{name} check {number} round {round} at{difference}")?;
+    }
+    println!(rt;
+        "{name} check {number} round {round}: {} of {} fail",
+        compared.failing, compared.tried
+    )?;
+    Ok(())
+}
