@@ -10,6 +10,7 @@ use Rattle.pp_prog.specs.declared.types.Ctor.{Ctor}
 use Rattle.pp_prog.specs.declared.value.Value.{Value}
 use Rattle.pp_prog.specs.Calls.{call_table, calls, function_calls, joined, post_calls, pre_calls}
 use Rattle.pp_checks.specs.Closed.{Nests}
+use Rattle.pp_checks.specs.Rules.{contract_calls}
 use Rattle.pp_checks.proofs.Ruling.{calls_at}
 use Rattle.pp_eval.specs.Invocation.{admits, descends}
 use Rattle.pp_eval.specs.Meaning.{CallMeaning, Frame}
@@ -23,18 +24,15 @@ use Rattle.pp_run_laws.specs.Laws.{SameAt}
 
 -- calls that do the same at all that a function calls do the same in each of its parts
 module _ (c d : CallMeaning) (f : Function) (same : SameAt (function_calls f) c d) where
-  abbrev contract_calls_of : List ℕ
-  contract_calls_of = pre_calls f.pre ++ joined (map calls f.measure)
+  before_post : SameAt (contract_calls f ++ calls f.body) c d
+  before_post = same_left (contract_calls f ++ calls f.body) (post_calls f.post) c d same
 
-  before_post : SameAt (contract_calls_of ++ calls f.body) c d
-  before_post = same_left (contract_calls_of ++ calls f.body) (post_calls f.post) c d same
-
-  contracts : SameAt contract_calls_of c d
-  contracts = same_left contract_calls_of (calls f.body) c d before_post
+  contracts : SameAt (contract_calls f) c d
+  contracts = same_left (contract_calls f) (calls f.body) c d before_post
 
   held_same : (args : List Value) (v : Value) → held c f.post args v ≡ held d f.post args v
   held_same args v =
-      by f.post (same_right (contract_calls_of ++ calls f.body) (post_calls f.post) c d same)
+      by f.post (same_right (contract_calls f ++ calls f.body) (post_calls f.post) c d same)
     where
       by : (post : Option (CheckId × Expr)) → SameAt (post_calls post) c d → held c post args v ≡ held d post args v
       by None same = refl
@@ -45,7 +43,7 @@ module _ (c d : CallMeaning) (f : Function) (same : SameAt (function_calls f) c 
       → unfolded c answer (Some f) g args ≡ unfolded d answer (Some f) g args
   unfolded_same answer g args =
       ap (inside g)
-      (then_same _ _ (expr_same c d f.body (same_right contract_calls_of (calls f.body) c d before_post) None args)
+      (then_same _ _ (expr_same c d f.body (same_right (contract_calls f) (calls f.body) c d before_post) None args)
       (λ v. ap (λ q. and_then q (agreed answer)) (held_same args v)))
 
   admits_same : (g : FunctionId) (check : Option CheckId) (args : List Value)
