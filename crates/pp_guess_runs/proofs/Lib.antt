@@ -1,3 +1,4 @@
 pub mod Truth
 pub mod Tables
+pub mod OwnCalls
 pub mod Sorted

@@ -1,7 +1,7 @@
 -- Calls of guess runs have values of their functions' result sorts, or stop.
-use Rattle.std.proofs.Common.{◌≡◌, ℕ, zero, suc, ◌<◌, true, List, [], ◌∷◌, ◌++◌, Option, Some, None, is_some, length}
+use Rattle.std.proofs.Common.{◌≡◌, ℕ, zero, suc, true, List, [], ◌∷◌, ◌++◌, Option, Some, None}
 use Rattle.std.proofs.Common.{slice_get, refl, sym, ap, ◌∙◌, subst}
-use Rattle.std.specs.Prelude.{⊤, Bool, false, Err, Ok, if◌then◌else◌, nat_eq}
+use Rattle.std.specs.Prelude.{Bool, false, Err, Ok, if◌then◌else◌, nat_eq}
 use Rattle.std.proofs.lemmas.Option.{slice_get_within}
 use Rattle.pp_prog.specs.declared.expr.Expr.{Expr}
 use Rattle.pp_prog.specs.declared.expr.Function.{Function}
@@ -11,35 +11,33 @@ use Rattle.pp_prog.specs.declared.program.Program.{Program}
 use Rattle.pp_prog.specs.declared.sort.Sort.{Sort}
 use Rattle.pp_prog.specs.declared.sort.Sort.TheVariants as sort
 use Rattle.pp_prog.specs.declared.value.Value.{Value}
-use Rattle.pp_prog.specs.ExprSorts.{is_sorted_post, is_sorted_pre}
-use Rattle.pp_prog.specs.Listing.{post_sites, pre_sites}
+use Rattle.pp_prog.specs.ExprSorts.{is_sorted_post}
+use Rattle.pp_prog.specs.Listing.{post_sites}
 use Rattle.pp_prog.specs.Sorts.{param_sorts}
-use Rattle.pp_prog.specs.Valid.{has_precondition}
 use Rattle.pp_eval.specs.declared.outcome.Outcome.{Outcome}
 use Rattle.pp_eval.specs.declared.outcome.Outcome.TheVariants.{Done, Outside, Fails, Inner, Deep}
 use Rattle.pp_eval.specs.declared.outcome.Stop.TheVariants as stop
-use Rattle.pp_eval.specs.Invocation.{admits, descends}
 use Rattle.pp_eval.specs.Equality.{equal}
-use Rattle.pp_eval.specs.Measure.{is_below}
 use Rattle.pp_eval.specs.Meaning.{CallMeaning, Frame}
 use Rattle.pp_eval.specs.Part.{Part}
 use Rattle.pp_eval.specs.Runs.{run, run_at, run_with}
 use Rattle.pp_sound.specs.Sound.{IsCalled}
-use Rattle.pp_sound.proofs.Calls.{condition_fine, frame_fine, whole}
+use Rattle.pp_sound.proofs.Calls.{whole}
 use Rattle.pp_prog.proofs.ValueSorts.{Has, Have, have_more, have_one}
 use Rattle.pp_sound.proofs.Exprs.{AreGood, expr_sound}
 use Rattle.pp_sound.proofs.Laws.{keep_sorts}
 use Rattle.pp_sound.proofs.Operators.{judged}
-use Rattle.pp_sound.proofs.Parts.{IsAny, IsFine, IsOwn, IsSorted, MayStop, fine_either, fine_failed, fine_inside}
+use Rattle.pp_sound.proofs.Parts.{IsSorted, fine_either, fine_inside}
 use Rattle.pp_sound.proofs.Parts.{fine_stop, fine_then, fine_value}
 use Rattle.pp_sound.proofs.Runs.{run_fine}
 use Rattle.pp_sound.proofs.Sites.{AreMet, met_left}
 use Rattle.pp_prog.proofs.PartSorts.{has_the_sort_is}
 use Rattle.pp_run_laws.proofs.MeasureSorts.{told_value}
 use Rattle.pp_guess_runs.specs.Answers.{Answering, Answers, IsAnswering, answers_of, table, truth, value_done}
-use Rattle.pp_guess_runs.specs.Guess.{agreed, called, compared, done, fails, guess, guessed, held, skip, is_check}
-use Rattle.pp_guess_runs.specs.Guess.{one_less, or_deep, own, own_call, unfolded}
+use Rattle.pp_guess_runs.specs.Guess.{agreed, called, done, fails, guess, guessed, held, skip}
+use Rattle.pp_guess_runs.specs.Guess.{one_less, or_deep, own, unfolded}
 use Rattle.pp_guess_runs.specs.Laws.{GuessesKeepSorts}
+use Rattle.pp_guess_runs.proofs.OwnCalls.{own_calls_good}
 use Rattle.pp_guess_runs.proofs.Tables.{tables_answer_once}
 
 module _ (p : Program) (W : Answering) (answering : IsAnswering p W) where
@@ -131,51 +129,9 @@ module _ (p : Program) (W : Answering) (answering : IsAnswering p W) where
     part = λ frame g pre down args f is have met_pre met_down. called_fine n i frame g pre down args f is have;
   }
 
-  -- ---- calls from the own frame
-
-  descends_fine : (i : ℕ) (check : Option CheckId) (old new : Frame) → IsOwn p i check
-      → IsFine (MayStop p U i) (IsAny {A = ⊤}) (descends p.types.ctors check old new)
-  descends_fine i None old new mine = fine_value tt
-  descends_fine i (Some c) None new mine = fine_value tt
-  descends_fine i (Some c) (Some old) None mine = fine_value tt
-  descends_fine i (Some c) (Some old) (Some new) mine =
-      fine_either (is_below p.types.ctors new old) (fine_value tt) (fine_stop mine)
-
-  module _ (i n : ℕ) (g : FunctionId) (f : Function) (is : slice_get p.functions g.0 ≡ Some f) (args : List Value)
-      (have : Have p.types.ctors (param_sorts f.params) args) where
-    within : g.0 < length p.functions
-    within = slice_get_within p.functions g.0 f is
-
-    admits_fine : (pre : Option Expr) (check : Option CheckId)
-        → is_sorted_pre p.types p.functions pre (param_sorts f.params) ≡ true
-        → AreMet p g.0 (pre_sites p.types p.functions pre (param_sorts f.params)) → is_some check ≡ is_some pre
-        → IsOwn p i check
-        → IsFine (MayStop p U i) (IsAny {A = ⊤}) (admits (calls_of n) g pre check args)
-    admits_fine None check sorted met some mine = fine_value tt
-    admits_fine (Some pre) check sorted met some mine =
-        fine_then (fine_inside p U i g within (condition_fine p U g.0 (calls_of n) (called_good n g.0) pre
-        (param_sorts f.params) sorted met None args have))
-        (λ t _. fine_either t (fine_value tt) (fine_failed p U i check some mine))
-
-    compared_fine : (c : CheckId) (down : Option CheckId) (frame : Frame) → IsOwn p i down
-        → IsFine (MayStop p U i) (IsAny {A = ⊤}) (compared p.types.ctors c (calls_of n) f.measure g down frame args)
-    compared_fine c down frame mine =
-        let w = whole p g.0 f is in
-        fine_either (is_check c down)
-        (fine_then (fine_inside p U i g within (frame_fine p U g.0 (calls_of n) (called_good n g.0) f.measure
-        (param_sorts f.params) w.measure_sorted w.measure_met args have))
-        (λ new _. descends_fine i down frame new mine)) (fine_value tt)
-
-  pub own_good : (c : CheckId) (n i : ℕ) → AreGood p U i (own p.types.ctors p.functions answer c n)
+  own_good : (c : CheckId) (n i : ℕ) → AreGood p U i (own p.types.ctors p.functions answer c n)
   own_good c n i = record {
-    part = λ frame g pre down args f is have met_pre met_down.
-        let w = whole p g.0 f is in
-        subst (λ o. IsSorted p U i f.result (own_call p.types.ctors c (calls_of (one_less n)) (calls_of n) o frame g
-        pre down args)) (sym is)
-        (fine_then (admits_fine i (one_less n) g f is args have f.pre pre w.pre_sorted w.pre_met
-        (met_pre.carries ∙ ap has_precondition is) met_pre.own)
-        (λ _ _. fine_then (compared_fine i (one_less n) g f is args have c down frame met_down.own)
-        (λ _ _. (called_good n i).part frame g pre down args f is have met_pre met_down)));
+    part = (own_calls_good p U (calls_of (one_less n)) (calls_of n) (called_good (one_less n)) (called_good n) c i).part;
   }
 
   -- ---- the value of a guess run

@@ -63,7 +63,7 @@ le_next : (k n m : ℕ) → k + suc n ≤ m → suc k + n ≤ m
 le_next k n m le = omega arith
 
 -- each call of steps that look at earlier ones stands in front of their end
-standing_before : (k m : ℕ) (ss : List Step) → k + length ss ≤ m → AllRead k ss → Paired ss
+pub standing_before : (k m : ℕ) (ss : List Step) → k + length ss ≤ m → AllRead k ss → Paired ss
     → AllOf (IsBefore m) (standing k ss)
 standing_before k m [] le h p = tt
 standing_before k m (steps.HasAnswer c ∷ []) le h p = absurd p

@@ -63,6 +63,13 @@ value_at_has types σ (s ∷ ss) (v ∷ vs) j (suc k) e h lt =
     less : (k n : ℕ) → suc k < suc n → k < n
     less k n lt = omega (arith, lt)
 
+-- values that have their sorts, by their numbers
+pub all_have : (types : TypeTable) (σ : Sorts) (k : ℕ) (ns : List ℕ) (ρ : Values) → Below k ns
+    → ((i : ℕ) → i < k → Has types.ctors (σ i) (ρ i)) → Have types.ctors (map σ ns) (map ρ ns)
+all_have types σ k [] ρ b all = refl
+all_have types σ k (n ∷ ns) ρ b all =
+    and_from (has_sort types.ctors (ρ n) (σ n)) _ (all n b.0) (all_have types σ k ns ρ b.1 all)
+
 module _ (types : TypeTable) (functions : List Function) (missing : Missing) (chosen : Values) (σ : Sorts)
     (fields : FieldsHaveSorts types missing) (answers : AnswersHaveSorts types functions missing)
     (choices : (k : ℕ) → is_sort types.datatypes (σ k) ≡ true → Has types.ctors (σ k) (chosen k)) where
@@ -118,12 +125,6 @@ module _ (types : TypeTable) (functions : List Function) (missing : Missing) (ch
 
   -- ---- one step
 
-  all_have : (k : ℕ) (ns : List ℕ) (ρ : Values) → Below k ns → ((i : ℕ) → i < k → Of (σ i) (ρ i))
-      → Have types.ctors (map σ ns) (map ρ ns)
-  all_have k [] ρ b all = refl
-  all_have k (n ∷ ns) ρ b all =
-      and_from (has_sort types.ctors (ρ n) (σ n)) _ (all n b.0) (all_have k ns ρ b.1 all)
-
   truth : (k : ℕ) (b : Bool) → σ k ≡ sort.Bool → Of (σ k) (Truth b)
   truth k b e = subst (λ r. Of r (Truth b)) (sym e) (truth_has types.ctors b)
 
@@ -164,7 +165,7 @@ module _ (types : TypeTable) (functions : List Function) (missing : Missing) (ch
       let made : Constructs types σ c ns (σ k) = h in
       subst (λ s. Of s (Tree c (map ρ ns))) (sym made.result)
       (tree_has_sort types.ctors c made.ctor (map ρ ns) made.stands
-      (subst (λ ss. Have types.ctors ss (map ρ ns)) made.fields (all_have k ns ρ r all)))
+      (subst (λ ss. Have types.ctors ss (map ρ ns)) made.fields (all_have types σ k ns ρ r all)))
   value_has k (steps.IsCtor c n a) ρ r h l all = truth k _ h.1
   value_has k (steps.CtorField c i a) ρ r h l all =
       let made : Selects types σ c i a (σ k) = h in
@@ -176,7 +177,7 @@ module _ (types : TypeTable) (functions : List Function) (missing : Missing) (ch
   value_has k (steps.IsAlike a b) ρ r h l all = truth k _ h.1
   value_has k (steps.GoesDown a b) ρ r h l all = truth k _ h.1
   value_has k (steps.HasAnswer c) ρ r h l all = truth k _ h.2
-  value_has k (steps.Answer c) ρ r h l all = answer_has k c ρ l h.0 h.1 h.2 (all_have k c.args ρ r.1 all)
+  value_has k (steps.Answer c) ρ r h l all = answer_has k c ρ l h.0 h.1 h.2 (all_have types σ k c.args ρ r.1 all)
 
   -- ---- all steps
 
