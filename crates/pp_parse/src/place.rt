@@ -86,10 +86,10 @@ impl<'a> Parsed<'a> {
 
     /// A declaration is read.
     #[tactic(auto, using(crate::proofs::Lists::stacked_push))]
-    pub fn declare(&mut self, decl: Checked<Decl<'a>>) -> Result<(), NoMemory>
-        ensures { IfOk result (λ _. parsed_of self.new ≡ with_decl (parsed_of self.old) (decl_of decl.entry.tree)) }
+    pub fn declare(&mut self, decl: &Checked<Decl<'a>>) -> Result<(), NoMemory>
+        ensures { IfOk result (λ _. parsed_of self.new ≡ with_decl (parsed_of self.old) (decl_of decl.now.tree)) }
     {
-        self.decls.push(decl)?;
+        self.decls.push(*decl)?;
         Ok(())
     }
 

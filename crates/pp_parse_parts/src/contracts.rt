@@ -1,10 +1,10 @@
 //! Contracts, postconditions and misplaced names.
 
-ghost use Rattle.std.specs.Prelude.{◌≡◌, [], IfOk, None};
+ghost use Rattle.std.specs.Prelude.{◌≡◌, [], IfOk, None, option_map};
 ghost use Rattle.pp_tokens.specs.declared.token.Token.{Token};
 ghost use Rattle.pp_tree.specs.Parts.{claim_parts};
 ghost use Rattle.pp_tree.specs.Plain.{Word, name};
-ghost use Rattle.pp_tree.specs.Shown.{tree_of};
+ghost use Rattle.pp_tree.specs.Shown.{tree_of, type_of};
 ghost use Rattle.pp_grammar.specs.Words.{res};
 ghost use Rattle.pp_grammar.specs.Joining.{late_behind, with_measure, with_requirement, with_word};
 ghost use Rattle.pp_grammar.specs.StepBodies.{misplaced_name};
@@ -12,9 +12,9 @@ ghost use Rattle.pp_parse_state.specs.Shown.{Stops, contracts_of, stacked};
 ghost use Rattle.pp_parse_state.specs.Words.{role_of};
 
 use pp_parse_state::words::Role;
-use pp_parse_state::{Contracts, NoMemory, Placed, Stop};
+use pp_parse_state::{Contracts, Current, NoMemory, Placed, Stop, keep, type_itself};
 use pp_tree::build::Claim;
-use pp_tree::{Built, Expr, build};
+use pp_tree::{Built, Expr, TypeText, build};
 
 /// The name of the result in `holds` and in a claim with a hole.
 pub const RES: &str = "res";
@@ -23,13 +23,13 @@ pub const RES: &str = "res";
 #[tactic(auto, using(crate::proofs::Finished::stacked_push))]
 pub fn with_requirement<'a>(
     contracts: Contracts<'a>,
-    claim: Built<Expr<'a>>,
+    claim: &'a Built<Expr<'a>>,
 ) -> Result<Contracts<'a>, NoMemory>
     ensures { IfOk result (λ c. contracts_of c ≡ with_requirement (contracts_of contracts.entry)
-        (tree_of claim.entry.tree)) }
+        (tree_of claim.now.tree)) }
 {
     let mut contracts = contracts;
-    contracts.requirements.push(claim)?;
+    contracts.requirements.push(*claim)?;
     Ok(contracts)
 }
 
@@ -71,16 +71,41 @@ pub fn with_word<'a>(contracts: Contracts<'a>, word: &'a str, at: u32) -> Contra
     contracts
 }
 
-/// `holds` claims the result itself.
-pub fn holding<'a>(at: u32) -> Claim<'a>
-    ensures { claim_parts result ≡ record { at = at; name = res; of = None; claim = name at res } }
+/// The parts of a postcondition.
+pub fn claimed<'a>(
+    cx: &Current<'a, '_>,
+    at: u32,
+    name: &'a str,
+    of: Option<&'a Built<TypeText<'a>>>,
+    claim: &'a Built<Expr<'a>>,
+) -> Result<&'a Claim<'a>, NoMemory>
+    ensures { IfOk result (λ p. claim_parts p.now ≡ record {
+      at = at;
+      name = name.now;
+      of = option_map (λ t. type_of t.now.tree) of.entry;
+      claim = tree_of claim.now.tree;
+    }) }
 {
-    Claim {
+    let parts = Claim {
+        at,
+        name,
+        of: type_itself(of),
+        claim: *claim,
+    };
+    keep(cx.arena, parts)
+}
+
+/// `holds` claims the result itself.
+pub fn holding<'a>(cx: &Current<'a, '_>, at: u32) -> Result<&'a Claim<'a>, NoMemory>
+    ensures { IfOk result (λ p. claim_parts p.now ≡ record { at = at; name = res; of = None; claim = name at res }) }
+{
+    let parts = Claim {
         at,
         name: RES,
         of: None,
         claim: build::name(at, RES),
-    }
+    };
+    keep(cx.arena, parts)
 }
 
 /// The name that was read before is no operand.

@@ -9,7 +9,9 @@ ghost use Rattle.pp_grammar.specs.Joining.{class_tree, def_tree, head_at, object
 ghost use Rattle.pp_grammar.specs.Joining.{with_type_param};
 ghost use Rattle.pp_parse_state.specs.Shown.{Moves, contracts_of, head_of};
 
-use pp_parse_state::{Contracts, Current, Head, Move, NoMemory, Stop};
+use pp_parse_state::{
+    Contracts, Current, Head, Move, NoMemory, Stop, claim_itself, keep, type_itself,
+};
 use pp_tree::build::{Claim, ClassParts, DefParts, class, def, param};
 use pp_tree::{Built, Checked, ClassDecl, Decl, Expr, TypeText};
 
@@ -19,12 +21,12 @@ pub fn with_param<'a>(
     head: Head<'a>,
     at: u32,
     name: &'a str,
-    of: Built<TypeText<'a>>,
+    of: &'a Built<TypeText<'a>>,
 ) -> Result<Head<'a>, NoMemory>
-    ensures { IfOk result (λ h. head_of h ≡ with_param (head_of head.entry) at name.now (type_of of.entry.tree)) }
+    ensures { IfOk result (λ h. head_of h ≡ with_param (head_of head.entry) at name.now (type_of of.now.tree)) }
 {
     let mut head = head;
-    head.params.push(param(at, name, of))?;
+    head.params.push(param(at, name, *of))?;
     Ok(head)
 }
 
@@ -67,21 +69,21 @@ pub fn class_ends<'a>(
     case: bool,
     is_trait: bool,
     head: Head<'a>,
-    parent: Option<Built<TypeText<'a>>>,
+    parent: Option<&'a Built<TypeText<'a>>>,
 ) -> Result<Move<'a>, Stop<'a>>
     ensures { (s : List plain_frame) → Moves result s (ends (class_decl sealed case is_trait
-        (class_tree (head_of head.entry) (option_map (λ t. type_of t.tree) parent.entry)))) }
+        (class_tree (head_of head.entry) (option_map (λ t. type_of t.now.tree) parent.entry)))) }
 {
     let parts = ClassParts {
         at: head.at,
         name: head.name,
         params: &head.type_params,
         fields: &head.params,
-        parent,
+        parent: type_itself(parent),
         object: false,
     };
     let class = class(cx.arena, parts)?;
-    Ok(Move::Ends(declared(sealed, case, is_trait, class)))
+    Ok(Move::Ends(keep(cx.arena, declared(sealed, case, is_trait, class))?))
 }
 
 /// The case object ends.
@@ -89,24 +91,25 @@ pub fn object_ends<'a>(
     cx: &Current<'a, '_>,
     at: u32,
     name: &'a str,
-    of: Built<TypeText<'a>>,
+    of: &'a Built<TypeText<'a>>,
 ) -> Result<Move<'a>, Stop<'a>>
-    ensures { (s : List plain_frame) → Moves result s (ends (object_tree at name.now (type_of of.entry.tree))) }
+    ensures { (s : List plain_frame) → Moves result s (ends (object_tree at name.now (type_of of.now.tree))) }
 {
     let parts = ClassParts {
         at,
         name,
         params: &[],
         fields: &[],
-        parent: Some(of),
+        parent: Some(*of),
         object: true,
     };
     let class = class(cx.arena, parts)?;
     let tree = Decl::Ctor(class.tree);
-    Ok(Move::Ends(Checked {
+    let decl = Checked {
         tree,
         deep: class.deep,
-    }))
+    };
+    Ok(Move::Ends(keep(cx.arena, decl)?))
 }
 
 /// The head that begins with the name.
@@ -137,14 +140,14 @@ pub fn with_type_param<'a>(head: Head<'a>, name: &'a str) -> Result<Head<'a>, No
 pub fn def_ends<'a>(
     cx: &Current<'a, '_>,
     head: Head<'a>,
-    result_type: Built<TypeText<'a>>,
+    result_type: &'a Built<TypeText<'a>>,
     contracts: Contracts<'a>,
-    body: Built<Expr<'a>>,
-    post: Option<Claim<'a>>,
+    body: &'a Built<Expr<'a>>,
+    post: Option<&'a Claim<'a>>,
 ) -> Result<Move<'a>, Stop<'a>>
     ensures { (s : List plain_frame) → Moves result s (ends (def_tree (head_of head.entry)
-        (type_of result_type.entry.tree) (contracts_of contracts.entry) (tree_of body.entry.tree)
-        (option_map claim_parts post.entry))) }
+        (type_of result_type.now.tree) (contracts_of contracts.entry) (tree_of body.now.tree)
+        (option_map (λ p. claim_parts p.now) post.entry))) }
 {
     let parts = DefParts {
         at: head.at,
@@ -152,16 +155,17 @@ pub fn def_ends<'a>(
         type_params: &head.type_params,
         params: &head.params,
         list: head.listed,
-        result: result_type,
+        result: *result_type,
         pre: &contracts.requirements,
         measure: &contracts.measure,
-        body,
-        post,
+        body: *body,
+        post: claim_itself(post),
     };
     let def = def(cx.arena, parts)?;
     let tree = Decl::Def(def.tree);
-    Ok(Move::Ends(Checked {
+    let decl = Checked {
         tree,
         deep: def.deep,
-    }))
+    };
+    Ok(Move::Ends(keep(cx.arena, decl)?))
 }

@@ -1,8 +1,8 @@
 //! The steps where an operand is wanted.
 
-ghost use Rattle.std.specs.Prelude.{List, ◌∷◌, cond, nat_le};
+ghost use Rattle.std.specs.Prelude.{List, ◌∷◌, cond, false, nat_le};
 ghost use Rattle.pp_tokens.specs.Spans.{IsSpan};
-ghost use Rattle.pp_grammar.specs.Frames.{Frame as plain_frame, go, prefixing, want};
+ghost use Rattle.pp_grammar.specs.Frames.{Frame as plain_frame, go, have, prefixing, want};
 ghost use Rattle.pp_grammar.specs.Joining.{floor};
 ghost use Rattle.pp_grammar.specs.StepExprs.{on_if, on_minus, on_negative, on_number, on_operand_name, on_want};
 ghost use Rattle.pp_grammar.specs.StepExprs.{on_want_then};
@@ -12,6 +12,7 @@ ghost use Rattle.pp_tokens.specs.declared.token.TokenKind.TheVariants.{Hole, Op,
 ghost use Rattle.pp_tokens.specs.declared.token.Reserved.TheVariants.{If};
 ghost use Rattle.pp_tokens.specs.declared.token.Operator.TheVariants.{Minus};
 ghost use Rattle.pp_grammar.specs.Words.{tightest};
+ghost use Rattle.pp_tree.specs.Plain.{bool as plain_bool};
 ghost use Rattle.pp_grammar.specs.StepTypes.{refuse};
 
 use crate::contracts::RES;
@@ -19,7 +20,7 @@ use crate::opening::open;
 use pp_parse_state::numbers::{is_signed, negative_of, number_of};
 use pp_parse_state::operators::TIGHTEST;
 use pp_parse_state::words::Role;
-use pp_parse_state::{Current, Frame, Mode, Move, Stack, Stop};
+use pp_parse_state::{Current, Frame, Mode, Move, Stack, Stop, keep};
 use pp_tokens::{Bracket, Operator, Reserved, TokenKind};
 use pp_tree::UnaryOp;
 use pp_tree::build::{bool, int, name};
@@ -30,7 +31,7 @@ fn on_number<'a>(cx: &Current<'a, '_>, value: Option<i32>) -> Result<Move<'a>, S
     ensures { (s : List plain_frame) → Moves result s (on_number cx.now.text.now cx.now.token s value) }
 {
     match value {
-        Some(n) => Ok(Move::Go(Mode::Have(int(cx.token.from, n), false))),
+        Some(n) => Ok(Move::Go(Mode::Have(keep(cx.arena, int(cx.token.from, n))?, false))),
         None => Err(cx.refuse()),
     }
 }
@@ -48,19 +49,26 @@ pub fn on_operand_name<'a>(cx: &Current<'a, '_>, role: Role) -> Result<Move<'a>,
     }
 }
 
+/// A truth value as an operand.
+fn on_bool<'a>(cx: &Current<'a, '_>, value: bool) -> Result<Move<'a>, Stop<'a>>
+    ensures { (s : List plain_frame) → Moves result s (go s (have (plain_bool cx.now.token.from value) false)) }
+{
+    let tree = keep(cx.arena, bool(cx.token.from, value))?;
+    Ok(Move::Go(Mode::Have(tree, false)))
+}
+
 /// An operand is wanted, with or without a prefix.
 pub fn on_want<'a>(cx: &Current<'a, '_>, stack: &mut Stack<'a>) -> Result<Move<'a>, Stop<'a>>
     requires { IsSpan cx.now.text.now cx.now.token }
     ensures { Moves result (frames stack.new) (on_want cx.now.text.now cx.now.token (frames stack.old)
         cx.now.token.kind) }
 {
-    let from = cx.token.from;
     match cx.token.kind {
         TokenKind::Number(_) => on_number(cx, number_of(cx.token.kind)),
         TokenKind::Hex(_) => on_number(cx, number_of(cx.token.kind)),
         TokenKind::Name => on_operand_name(cx, cx.role()),
-        TokenKind::Word(Reserved::True) => Ok(Move::Go(Mode::Have(bool(from, true), false))),
-        TokenKind::Word(Reserved::False) => Ok(Move::Go(Mode::Have(bool(from, false), false))),
+        TokenKind::Word(Reserved::True) => on_bool(cx, true),
+        TokenKind::Word(Reserved::False) => on_bool(cx, false),
         TokenKind::Hole => on_hole(cx, stack),
         TokenKind::Op(Operator::Minus) => on_minus_sign(cx, stack),
         TokenKind::Op(Operator::Not) => on_prefix(cx, stack, UnaryOp::Not),
@@ -78,7 +86,7 @@ fn on_negative<'a>(cx: &Current<'a, '_>, at: u32, value: Option<i32>) -> Result<
     ensures { (s : List plain_frame) → Moves result s (on_negative cx.now.text.now cx.now.token s at value) }
 {
     match value {
-        Some(n) => Ok(Move::Go(Mode::HaveNegative(int(at, n)))),
+        Some(n) => Ok(Move::Go(Mode::HaveNegative(keep(cx.arena, int(at, n))?))),
         None => Err(cx.refuse()),
     }
 }
@@ -133,7 +141,7 @@ fn on_hole<'a>(cx: &Current<'a, '_>, stack: &mut Stack<'a>) -> Result<Move<'a>, 
     if !stack.takes_hole() {
         return Err(cx.refuse());
     }
-    Ok(Move::Go(Mode::Have(name(cx.token.from, RES), true)))
+    Ok(Move::Go(Mode::Have(keep(cx.arena, name(cx.token.from, RES))?, true)))
 }
 
 /// A minus sign before an operand.

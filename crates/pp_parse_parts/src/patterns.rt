@@ -1,9 +1,10 @@
 //! The steps in patterns.
 
-ghost use Rattle.std.specs.Prelude.{◌≡◌, List, [], ◌∷◌, IfOk, option_map};
+ghost use Rattle.std.specs.Prelude.{◌≡◌, List, [], ◌∷◌, IfOk, None, option_map};
 ghost use Rattle.pp_tokens.specs.Spans.{IsSpan};
+ghost use Rattle.pp_tree.specs.Plain.{any as plain_any, bool_pattern as plain_bool};
 ghost use Rattle.pp_tree.specs.Shown.{pattern_of};
-ghost use Rattle.pp_grammar.specs.Frames.{Frame as plain_frame};
+ghost use Rattle.pp_grammar.specs.Frames.{Frame as plain_frame, go, have_pattern};
 ghost use Rattle.pp_grammar.specs.Patterns.{named_at};
 ghost use Rattle.pp_grammar.specs.StepTypes.{on_int_pattern, on_want_pattern, on_pattern_minus, on_pattern_arg};
 ghost use Rattle.pp_grammar.specs.StepTypes.{on_pattern_round, on_case_pattern, on_named_pattern, on_naming};
@@ -15,7 +16,7 @@ use crate::lists::with_pattern;
 use crate::opening::{open, refuse_above};
 use pp_parse_state::numbers::{is_signed, negated_of, negative_of, number_of};
 use pp_parse_state::words::binds;
-use pp_parse_state::{Current, Frame, Mode, Move, NoMemory, Stack, Stop};
+use pp_parse_state::{Current, Frame, Mode, Move, NoMemory, Stack, Stop, keep};
 use pp_tokens::{Bracket, Operator, Reserved, TokenKind};
 use pp_tree::build::{any, bool_pattern, ctor_pattern, int_pattern};
 use pp_tree::{Built, Pattern};
@@ -28,21 +29,28 @@ fn place(pattern: &Pattern) -> u32
 }
 
 /// The pattern under the name, which stands at the offset: a pattern has room for one name.
-fn named_at<'a>(at: u32, name: &'a str, pattern: Built<Pattern<'a>>) -> Option<Built<Pattern<'a>>>
-    ensures { option_map (λ p. pattern_of p.tree) result ≡ named_at at name.now (pattern_of pattern.entry.tree) }
+fn named_at<'a>(
+    cx: &Current<'a, '_>,
+    at: u32,
+    name: &'a str,
+    pattern: &'a Built<Pattern<'a>>,
+) -> Result<Option<&'a Built<Pattern<'a>>>, NoMemory>
+    ensures { IfOk result (λ n. option_map (λ p. pattern_of p.now.tree) n ≡ named_at at name.now
+        (pattern_of pattern.now.tree)) }
 {
     if pattern.tree.name.is_some() {
-        return None;
+        return Ok(None);
     }
     let tree = Pattern {
         at,
         name: Some(name),
         kind: pattern.tree.kind,
     };
-    Some(Built {
+    let named = Built {
         tree,
         levels: pattern.levels,
-    })
+    };
+    Ok(Some(keep(cx.arena, named)?))
 }
 
 /// A name alone: it binds, or is a constructor.
@@ -50,13 +58,14 @@ fn pattern_of_name<'a>(
     cx: &Current<'a, '_>,
     at: u32,
     name: &'a str,
-) -> Result<Built<Pattern<'a>>, NoMemory>
-    ensures { IfOk result (λ p. pattern_of p.tree ≡ pattern_of_name cx.now.text.now cx.now.token at name.now) }
+) -> Result<&'a Built<Pattern<'a>>, NoMemory>
+    ensures { IfOk result (λ p. pattern_of p.now.tree ≡ pattern_of_name cx.now.text.now cx.now.token at name.now) }
 {
     if binds(name) {
-        return Ok(any(at, Some(name)));
+        return keep(cx.arena, any(at, Some(name)));
     }
-    ctor_pattern(cx.arena, at, None, name, &[])
+    let pattern = ctor_pattern(cx.arena, at, None, name, &[])?;
+    keep(cx.arena, pattern)
 }
 
 /// An integer pattern, if the token is a number that may stand there.
@@ -69,9 +78,26 @@ fn on_int_pattern<'a>(
     ensures { (s : List plain_frame) → Moves result s (on_int_pattern cx.now.text.now cx.now.token s at value) }
 {
     match value {
-        Some(n) => Ok(Move::Go(Mode::HavePattern(int_pattern(at, None, n)))),
+        Some(n) => Ok(Move::Go(Mode::HavePattern(keep(cx.arena, int_pattern(at, None, n))?))),
         None => Err(cx.refuse()),
     }
+}
+
+/// A truth value as a pattern.
+fn on_bool_pattern<'a>(cx: &Current<'a, '_>, value: bool) -> Result<Move<'a>, Stop<'a>>
+    ensures { (s : List plain_frame) → Moves result s (go s (have_pattern (plain_bool cx.now.token.from None
+        value))) }
+{
+    let pattern = keep(cx.arena, bool_pattern(cx.token.from, None, value))?;
+    Ok(Move::Go(Mode::HavePattern(pattern)))
+}
+
+/// `_` as a pattern.
+fn on_any_pattern<'a>(cx: &Current<'a, '_>) -> Result<Move<'a>, Stop<'a>>
+    ensures { (s : List plain_frame) → Moves result s (go s (have_pattern (plain_any cx.now.token.from None))) }
+{
+    let pattern = keep(cx.arena, any(cx.token.from, None))?;
+    Ok(Move::Go(Mode::HavePattern(pattern)))
 }
 
 /// A pattern is wanted.
@@ -86,16 +112,12 @@ pub fn on_want_pattern<'a>(
     let from = cx.token.from;
     match cx.token.kind {
         TokenKind::Name => Ok(Move::Go(Mode::AfterPatternName(from, cx.word()?))),
-        TokenKind::Hole => Ok(Move::Go(Mode::HavePattern(any(from, None)))),
+        TokenKind::Hole => on_any_pattern(cx),
         TokenKind::Number(_) => on_int_pattern(cx, from, number_of(cx.token.kind)),
         TokenKind::Hex(_) => on_int_pattern(cx, from, number_of(cx.token.kind)),
         TokenKind::Op(Operator::Minus) => Ok(Move::Go(Mode::AfterPatternMinus(from, cx.token.to))),
-        TokenKind::Word(Reserved::True) => Ok(Move::Go(Mode::HavePattern(bool_pattern(
-            from, None, true,
-        )))),
-        TokenKind::Word(Reserved::False) => Ok(Move::Go(Mode::HavePattern(bool_pattern(
-            from, None, false,
-        )))),
+        TokenKind::Word(Reserved::True) => on_bool_pattern(cx, true),
+        TokenKind::Word(Reserved::False) => on_bool_pattern(cx, false),
         TokenKind::Mark(Bracket::OpenRound) => open(stack, Frame::PatternRound, Mode::WantPattern),
         _ => Err(cx.refuse()),
     }
@@ -122,11 +144,11 @@ fn on_pattern_arg<'a>(
     at: u32,
     name: &'a str,
     fields: Vec<Built<Pattern<'a>>>,
-    field: Built<Pattern<'a>>,
+    field: &'a Built<Pattern<'a>>,
 ) -> Result<Move<'a>, Stop<'a>>
     requires { IsSpan cx.now.text.now cx.now.token }
     ensures { Moves result (frames stack.new) (on_pattern_arg cx.now.text.now cx.now.token (frames stack.old) at
-        name.now (stacked (λ p. pattern_of p.tree) fields.entry.items []) (pattern_of field.entry.tree)
+        name.now (stacked (λ p. pattern_of p.tree) fields.entry.items []) (pattern_of field.now.tree)
         cx.now.token.kind) }
 {
     let fields = with_pattern(fields, field)?;
@@ -137,7 +159,8 @@ fn on_pattern_arg<'a>(
             Mode::WantPattern,
         ),
         TokenKind::Mark(Bracket::CloseRound) => {
-            Ok(Move::Go(Mode::HavePattern(ctor_pattern(cx.arena, at, None, name, &fields)?)))
+            let pattern = ctor_pattern(cx.arena, at, None, name, &fields)?;
+            Ok(Move::Go(Mode::HavePattern(keep(cx.arena, pattern)?)))
         }
         _ => Err(cx.refuse()),
     }
@@ -146,11 +169,11 @@ fn on_pattern_arg<'a>(
 /// Behind a pattern in round brackets.
 fn on_pattern_round<'a>(
     cx: &Current<'a, '_>,
-    pattern: Built<Pattern<'a>>,
+    pattern: &'a Built<Pattern<'a>>,
 ) -> Result<Move<'a>, Stop<'a>>
     requires { IsSpan cx.now.text.now cx.now.token }
     ensures { (s : List plain_frame) → Moves result s (on_pattern_round cx.now.text.now cx.now.token s
-        (pattern_of pattern.entry.tree) cx.now.token.kind) }
+        (pattern_of pattern.now.tree) cx.now.token.kind) }
 {
     match cx.token.kind {
         TokenKind::Mark(Bracket::CloseRound) => Ok(Move::Go(Mode::HavePattern(pattern))),
@@ -162,11 +185,11 @@ fn on_pattern_round<'a>(
 fn on_case_pattern<'a>(
     cx: &Current<'a, '_>,
     stack: &mut Stack<'a>,
-    pattern: Built<Pattern<'a>>,
+    pattern: &'a Built<Pattern<'a>>,
 ) -> Result<Move<'a>, Stop<'a>>
     requires { IsSpan cx.now.text.now cx.now.token }
     ensures { Moves result (frames stack.new) (on_case_pattern cx.now.text.now cx.now.token (frames stack.old)
-        (pattern_of pattern.entry.tree) cx.now.token.kind) }
+        (pattern_of pattern.now.tree) cx.now.token.kind) }
 {
     match cx.token.kind {
         TokenKind::Word(Reserved::If) => open(stack, Frame::Guarding(pattern), Mode::Want),
@@ -179,11 +202,11 @@ fn on_case_pattern<'a>(
 fn on_named_pattern<'a>(
     cx: &Current<'a, '_>,
     stack: &mut Stack<'a>,
-    pattern: Built<Pattern<'a>>,
+    pattern: &'a Built<Pattern<'a>>,
 ) -> Result<Move<'a>, Stop<'a>>
     requires { IsSpan cx.now.text.now cx.now.token }
     ensures { Moves result (frames stack.new) (on_named_pattern cx.now.text.now cx.now.token (frames stack.old)
-        (pattern_of pattern.entry.tree) cx.now.token.kind) }
+        (pattern_of pattern.now.tree) cx.now.token.kind) }
 {
     match stack.pop() {
         Some(frame) => on_named_above(cx, stack, frame, pattern),
@@ -196,11 +219,11 @@ fn on_named_above<'a>(
     cx: &Current<'a, '_>,
     stack: &mut Stack<'a>,
     frame: Frame<'a>,
-    pattern: Built<Pattern<'a>>,
+    pattern: &'a Built<Pattern<'a>>,
 ) -> Result<Move<'a>, Stop<'a>>
     requires { IsSpan cx.now.text.now cx.now.token }
     ensures { Moves result (frames stack.new) (on_named_pattern cx.now.text.now cx.now.token
-        (frame_of frame.entry ∷ frames stack.old) (pattern_of pattern.entry.tree) cx.now.token.kind) }
+        (frame_of frame.entry ∷ frames stack.old) (pattern_of pattern.now.tree) cx.now.token.kind) }
 {
     match frame {
         Frame::PatternRound => on_pattern_round(cx, pattern),
@@ -219,12 +242,12 @@ fn on_named_above<'a>(
 fn on_naming<'a>(
     cx: &Current<'a, '_>,
     stack: &mut Stack<'a>,
-    named: Option<Built<Pattern<'a>>>,
-    pattern: Built<Pattern<'a>>,
+    named: Option<&'a Built<Pattern<'a>>>,
+    pattern: &'a Built<Pattern<'a>>,
 ) -> Result<Move<'a>, Stop<'a>>
     requires { IsSpan cx.now.text.now cx.now.token }
     ensures { Moves result (frames stack.new) (on_naming cx.now.text.now cx.now.token (frames stack.old)
-        (option_map (λ p. pattern_of p.tree) named.entry) (pattern_of pattern.entry.tree) cx.now.token.kind) }
+        (option_map (λ p. pattern_of p.now.tree) named.entry) (pattern_of pattern.now.tree) cx.now.token.kind) }
 {
     match named {
         Some(named) => on_named_pattern(cx, stack, named),
@@ -236,17 +259,20 @@ fn on_naming<'a>(
 pub fn on_have_pattern<'a>(
     cx: &Current<'a, '_>,
     stack: &mut Stack<'a>,
-    pattern: Built<Pattern<'a>>,
+    pattern: &'a Built<Pattern<'a>>,
 ) -> Result<Move<'a>, Stop<'a>>
     requires { IsSpan cx.now.text.now cx.now.token }
     ensures { Moves result (frames stack.new) (on_have_pattern cx.now.text.now cx.now.token (frames stack.old)
-        (pattern_of pattern.entry.tree) cx.now.token.kind) }
+        (pattern_of pattern.now.tree) cx.now.token.kind) }
 {
     let Some(frame) = stack.pop() else {
         return Err(cx.refuse());
     };
     match frame {
-        Frame::Naming(at, name) => on_naming(cx, stack, named_at(at, name, pattern), pattern),
+        Frame::Naming(at, name) => {
+            let named = named_at(cx, at, name, pattern)?;
+            on_naming(cx, stack, named, pattern)
+        },
         other => on_named_above(cx, stack, other, pattern),
     }
 }
@@ -308,7 +334,8 @@ pub fn on_pattern_args_open<'a>(
 {
     match cx.token.kind {
         TokenKind::Mark(Bracket::CloseRound) => {
-            Ok(Move::Go(Mode::HavePattern(ctor_pattern(cx.arena, at, None, name, &[])?)))
+            let pattern = ctor_pattern(cx.arena, at, None, name, &[])?;
+            Ok(Move::Go(Mode::HavePattern(keep(cx.arena, pattern)?)))
         }
         _ => {
             stack.push(Frame::PatternArgs(at, name, Vec::new(cx.alloc)))?;

@@ -12,7 +12,7 @@ ghost use Rattle.pp_parse_state.specs.Shown.{frames, head_of, kind_of, stacked, 
 use crate::heads::{class_ends, object_ends, with_list, with_param};
 use crate::lists::with_type;
 use crate::opening::{open, refuse_above};
-use pp_parse_state::{Contracts, Current, Frame, Head, Kind, Mode, Move, Stack, Stop};
+use pp_parse_state::{Contracts, Current, Frame, Head, Kind, Mode, Move, Stack, Stop, keep};
 use pp_tokens::{Bracket, Operator, TokenKind};
 use pp_tree::build::type_text;
 use pp_tree::{Built, TypeText};
@@ -23,11 +23,11 @@ fn on_param_type<'a>(
     stack: &mut Stack<'a>,
     at: u32,
     name: &'a str,
-    of: Built<TypeText<'a>>,
+    of: &'a Built<TypeText<'a>>,
 ) -> Result<Move<'a>, Stop<'a>>
     requires { IsSpan cx.now.text.now cx.now.token }
     ensures { Moves result (frames stack.new) (on_param_type cx.now.text.now cx.now.token (frames stack.old) at
-        name.now (type_of of.entry.tree) cx.now.token.kind) }
+        name.now (type_of of.now.tree) cx.now.token.kind) }
 {
     let Some(frame) = stack.pop() else {
         return Err(cx.refuse());
@@ -52,11 +52,11 @@ fn on_param_type<'a>(
 fn on_result_type<'a>(
     cx: &Current<'a, '_>,
     stack: &mut Stack<'a>,
-    of: Built<TypeText<'a>>,
+    of: &'a Built<TypeText<'a>>,
 ) -> Result<Move<'a>, Stop<'a>>
     requires { IsSpan cx.now.text.now cx.now.token }
     ensures { Moves result (frames stack.new) (on_result_type cx.now.text.now cx.now.token (frames stack.old)
-        (type_of of.entry.tree) cx.now.token.kind) }
+        (type_of of.now.tree) cx.now.token.kind) }
 {
     let Some(frame) = stack.pop() else {
         return Err(cx.refuse());
@@ -73,11 +73,11 @@ fn on_head_result<'a>(
     stack: &mut Stack<'a>,
     kind: Kind,
     head: Head<'a>,
-    of: Built<TypeText<'a>>,
+    of: &'a Built<TypeText<'a>>,
 ) -> Result<Move<'a>, Stop<'a>>
     requires { IsSpan cx.now.text.now cx.now.token }
     ensures { Moves result (frames stack.new) (on_result_type cx.now.text.now cx.now.token (header (kind_of kind)
-        (head_of head.entry) ∷ frames stack.old) (type_of of.entry.tree) cx.now.token.kind) }
+        (head_of head.entry) ∷ frames stack.old) (type_of of.now.tree) cx.now.token.kind) }
 {
     match kind {
         Kind::Def => match cx.token.kind {
@@ -95,11 +95,11 @@ fn on_head_result<'a>(
 fn on_parent_type<'a>(
     cx: &Current<'a, '_>,
     stack: &mut Stack<'a>,
-    of: Built<TypeText<'a>>,
+    of: &'a Built<TypeText<'a>>,
 ) -> Result<Move<'a>, Stop<'a>>
     requires { IsSpan cx.now.text.now cx.now.token }
     ensures { Moves result (frames stack.new) (on_parent_type cx.now.text.now cx.now.token (frames stack.old)
-        (type_of of.entry.tree)) }
+        (type_of of.now.tree)) }
 {
     let Some(frame) = stack.pop() else {
         return Err(cx.refuse());
@@ -124,11 +124,11 @@ fn on_type_arg<'a>(
     at: u32,
     name: &'a str,
     types: Vec<Built<TypeText<'a>>>,
-    of: Built<TypeText<'a>>,
+    of: &'a Built<TypeText<'a>>,
 ) -> Result<Move<'a>, Stop<'a>>
     requires { IsSpan cx.now.text.now cx.now.token }
     ensures { Moves result (frames stack.new) (on_type_arg cx.now.text.now cx.now.token (frames stack.old) at name.now
-        (stacked (λ t. type_of t.tree) types.entry.items []) (type_of of.entry.tree) cx.now.token.kind) }
+        (stacked (λ t. type_of t.tree) types.entry.items []) (type_of of.now.tree) cx.now.token.kind) }
 {
     let types = with_type(types, of)?;
     match cx.token.kind {
@@ -138,7 +138,7 @@ fn on_type_arg<'a>(
             Mode::WantType,
         ),
         TokenKind::Mark(Bracket::CloseSquare) => {
-            let of = type_text(cx.arena, at, name, &types)?;
+            let of = keep(cx.arena, type_text(cx.arena, at, name, &types)?)?;
             Ok(Move::Go(Mode::HaveType(of)))
         }
         _ => Err(cx.refuse()),
@@ -152,11 +152,11 @@ fn on_name_type<'a>(
     at: u32,
     name: &'a str,
     types: Vec<Built<TypeText<'a>>>,
-    of: Built<TypeText<'a>>,
+    of: &'a Built<TypeText<'a>>,
 ) -> Result<Move<'a>, Stop<'a>>
     requires { IsSpan cx.now.text.now cx.now.token }
     ensures { Moves result (frames stack.new) (on_name_type cx.now.text.now cx.now.token (frames stack.old) at
-        name.now (stacked (λ t. type_of t.tree) types.entry.items []) (type_of of.entry.tree) cx.now.token.kind) }
+        name.now (stacked (λ t. type_of t.tree) types.entry.items []) (type_of of.now.tree) cx.now.token.kind) }
 {
     let types = with_type(types, of)?;
     match cx.token.kind {
@@ -178,11 +178,11 @@ fn on_val_type<'a>(
     stack: &mut Stack<'a>,
     at: u32,
     name: &'a str,
-    of: Built<TypeText<'a>>,
+    of: &'a Built<TypeText<'a>>,
 ) -> Result<Move<'a>, Stop<'a>>
     requires { IsSpan cx.now.text.now cx.now.token }
     ensures { Moves result (frames stack.new) (on_val_type cx.now.text.now cx.now.token (frames stack.old) at name.now
-        (type_of of.entry.tree) cx.now.token.kind) }
+        (type_of of.now.tree) cx.now.token.kind) }
 {
     match cx.token.kind {
         TokenKind::Op(Operator::Assign) => open(
@@ -199,11 +199,11 @@ fn on_result_name_type<'a>(
     cx: &Current<'a, '_>,
     stack: &mut Stack<'a>,
     name: &'a str,
-    of: Built<TypeText<'a>>,
+    of: &'a Built<TypeText<'a>>,
 ) -> Result<Move<'a>, Stop<'a>>
     requires { IsSpan cx.now.text.now cx.now.token }
     ensures { Moves result (frames stack.new) (on_result_name_type cx.now.text.now cx.now.token (frames stack.old)
-        name.now (type_of of.entry.tree) cx.now.token.kind) }
+        name.now (type_of of.now.tree) cx.now.token.kind) }
 {
     match cx.token.kind {
         TokenKind::Op(Operator::Arrow) => open(stack, Frame::Claiming(name, Some(of)), Mode::Want),
@@ -216,11 +216,11 @@ fn on_result_name_type_in_round<'a>(
     cx: &Current<'a, '_>,
     stack: &mut Stack<'a>,
     name: &'a str,
-    of: Built<TypeText<'a>>,
+    of: &'a Built<TypeText<'a>>,
 ) -> Result<Move<'a>, Stop<'a>>
     requires { IsSpan cx.now.text.now cx.now.token }
     ensures { Moves result (frames stack.new) (on_result_name_type_in_round cx.now.text.now cx.now.token
-        (frames stack.old) name.now (type_of of.entry.tree) cx.now.token.kind) }
+        (frames stack.old) name.now (type_of of.now.tree) cx.now.token.kind) }
 {
     match cx.token.kind {
         TokenKind::Mark(Bracket::CloseRound) => Ok(Move::Go(Mode::AfterLambdaTyped(name, of))),
@@ -232,11 +232,11 @@ fn on_result_name_type_in_round<'a>(
 pub fn on_have_type<'a>(
     cx: &Current<'a, '_>,
     stack: &mut Stack<'a>,
-    of: Built<TypeText<'a>>,
+    of: &'a Built<TypeText<'a>>,
 ) -> Result<Move<'a>, Stop<'a>>
     requires { IsSpan cx.now.text.now cx.now.token }
     ensures { Moves result (frames stack.new) (on_have_type cx.now.text.now cx.now.token (frames stack.old)
-        (type_of of.entry.tree) cx.now.token.kind) }
+        (type_of of.now.tree) cx.now.token.kind) }
 {
     let Some(frame) = stack.pop() else {
         return Err(cx.refuse());
@@ -285,7 +285,7 @@ pub fn on_type_name<'a>(
             Mode::WantType,
         ),
         _ => {
-            let of = type_text(cx.arena, at, name, &[])?;
+            let of = keep(cx.arena, type_text(cx.arena, at, name, &[])?)?;
             on_have_type(cx, stack, of)
         }
     }

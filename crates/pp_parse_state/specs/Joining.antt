@@ -13,7 +13,7 @@ pub record Holed : Type 0 where
   pub holed : Bool
 
 abbrev pub operand_of : Operand → Holed
-operand_of o = record { tree = tree_of o.tree.tree; holed = o.holed }
+operand_of o = record { tree = tree_of o.tree.now.tree; holed = o.holed }
 
 -- the frame is an operator before an operand that binds at least as tight as level p
 abbrev pub binds : ℕ → Frame → Bool

@@ -69,14 +69,14 @@ frame_of (frame.ParamType at w) = plain.param_type at w.now
 frame_of frame.ResultType = plain.result_type
 frame_of frame.ParentType = plain.parent_type
 frame_of (frame.ObjectParent at w) = plain.object_parent at w.now
-frame_of (frame.BodyOf h t c) = plain.body_of (head_of h) (type_of t.tree) (contracts_of c)
+frame_of (frame.BodyOf h t c) = plain.body_of (head_of h) (type_of t.now.tree) (contracts_of c)
 frame_of (frame.HeadBraces c) = plain.head_braces (contracts_of c)
 frame_of frame.Requiring = plain.requiring
 frame_of (frame.Measuring at es) = plain.measuring at (stacked (λ e. tree_of e.tree) es.items [])
 frame_of frame.TupleOrRound = plain.tuple_or_round
 frame_of (frame.InTuple es) = plain.in_tuple (stacked (λ e. tree_of e.tree) es.items [])
-frame_of (frame.PostOf at e a) = plain.post_of at (tree_of e.tree) (around_of a)
-frame_of (frame.Claiming w t) = plain.claiming w.now (option_map (λ u. type_of u.tree) t)
+frame_of (frame.PostOf at e a) = plain.post_of at (tree_of e.now.tree) (around_of a)
+frame_of (frame.Claiming w t) = plain.claiming w.now (option_map (λ u. type_of u.now.tree) t)
 frame_of frame.ClaimingHole = plain.claiming_hole
 frame_of (frame.ResultNameType w) = plain.result_name_type w.now
 frame_of (frame.ResultNameTypeInRound w) = plain.result_name_type_in_round w.now
@@ -89,27 +89,27 @@ frame_of (frame.NameTypes at w ts) = plain.name_types at w.now (stacked (λ t. t
 frame_of (frame.Args at w ts es) =
     plain.args at w.now (type_trees (map (λ t. type_of t.tree) ts.items)) (stacked (λ e. tree_of e.tree) es.items [])
 frame_of (frame.Prefixing at op) = plain.prefixing at op
-frame_of (frame.Left at op e h) = plain.left at op (tree_of e.tree) h
+frame_of (frame.Left at op e h) = plain.left at op (tree_of e.now.tree) h
 frame_of (frame.IfTest at) = plain.if_test at
-frame_of (frame.IfThen at c) = plain.if_then at (tree_of c.tree)
-frame_of (frame.IfRest at c a) = plain.if_rest at (tree_of c.tree) (tree_of a.tree)
-frame_of (frame.CasesOf at e cs) = plain.cases_of at (tree_of e.tree) (stacked (λ c. case_text c.tree) cs.items [])
-frame_of (frame.Guarding p) = plain.guarding (pattern_of p.tree)
-frame_of (frame.Arm p g) = plain.arm (pattern_of p.tree) (option_map (λ e. tree_of e.tree) g)
+frame_of (frame.IfThen at c) = plain.if_then at (tree_of c.now.tree)
+frame_of (frame.IfRest at c a) = plain.if_rest at (tree_of c.now.tree) (tree_of a.now.tree)
+frame_of (frame.CasesOf at e cs) = plain.cases_of at (tree_of e.now.tree) (stacked (λ c. case_text c.tree) cs.items [])
+frame_of (frame.Guarding p) = plain.guarding (pattern_of p.now.tree)
+frame_of (frame.Arm p g) = plain.arm (pattern_of p.now.tree) (option_map (λ e. tree_of e.now.tree) g)
 frame_of frame.Braces = plain.braces
 frame_of (frame.ValType at w) = plain.val_type at w.now
-frame_of (frame.ValValue at w t) = plain.val_value at w.now (option_map (λ u. type_of u.tree) t)
+frame_of (frame.ValValue at w t) = plain.val_value at w.now (option_map (λ u. type_of u.now.tree) t)
 frame_of (frame.AfterVal at w t e) =
-    plain.after_val at w.now (option_map (λ u. type_of u.tree) t) (tree_of e.tree)
+    plain.after_val at w.now (option_map (λ u. type_of u.now.tree) t) (tree_of e.now.tree)
 frame_of (frame.Asserting at) = plain.asserting at
-frame_of (frame.AfterAssert at e) = plain.after_assert at (tree_of e.tree)
+frame_of (frame.AfterAssert at e) = plain.after_assert at (tree_of e.now.tree)
 
 abbrev pub frames : Stack → List plain.Frame
 frames s = stacked frame_of s.items.items []
 
 abbrev pub mode_of : Mode → plain.Mode
 mode_of mode.Want = plain.want
-mode_of (mode.Have e h) = plain.have (tree_of e.tree) h
+mode_of (mode.Have e h) = plain.have (tree_of e.now.tree) h
 mode_of (mode.AfterName at w) = plain.after_name at w.now
 mode_of (mode.AfterNameTypes at w ts) =
     plain.after_name_types at w.now (type_trees (map (λ t. type_of t.tree) ts.items))
@@ -117,27 +117,27 @@ mode_of (mode.ArgsOpen at w ts) = plain.args_open at w.now (type_trees (map (λ 
 mode_of (mode.AfterInt at) = plain.after_int at
 mode_of (mode.AfterIntDot at) = plain.after_int_dot at
 mode_of (mode.AfterMinus at end) = plain.after_minus at end
-mode_of (mode.HaveNegative e) = plain.have_negative (tree_of e.tree)
-mode_of (mode.AfterNegativeDot e) = plain.after_negative_dot (tree_of e.tree)
-mode_of (mode.AfterDot e h) = plain.after_dot (tree_of e.tree) h
+mode_of (mode.HaveNegative e) = plain.have_negative (tree_of e.now.tree)
+mode_of (mode.AfterNegativeDot e) = plain.after_negative_dot (tree_of e.now.tree)
+mode_of (mode.AfterDot e h) = plain.after_dot (tree_of e.now.tree) h
 mode_of (mode.AfterIf at) = plain.after_if at
 mode_of mode.WantThen = plain.want_then
-mode_of (mode.WantElse e) = plain.want_else (tree_of e.tree)
-mode_of (mode.AfterMatch at e) = plain.after_match at (tree_of e.tree)
+mode_of (mode.WantElse e) = plain.want_else (tree_of e.now.tree)
+mode_of (mode.AfterMatch at e) = plain.after_match at (tree_of e.now.tree)
 mode_of mode.WantCase = plain.want_case
-mode_of (mode.HaveMatched e) = plain.have_matched (tree_of e.tree)
-mode_of (mode.AfterMatchedDot e) = plain.after_matched_dot (tree_of e.tree)
+mode_of (mode.HaveMatched e) = plain.have_matched (tree_of e.now.tree)
+mode_of (mode.AfterMatchedDot e) = plain.after_matched_dot (tree_of e.now.tree)
 mode_of mode.WantPattern = plain.want_pattern
 mode_of (mode.AfterPatternName at w) = plain.after_pattern_name at w.now
 mode_of (mode.AfterPatternMinus at end) = plain.after_pattern_minus at end
 mode_of (mode.PatternArgsOpen at w) = plain.pattern_args_open at w.now
-mode_of (mode.HavePattern p) = plain.have_pattern (pattern_of p.tree)
+mode_of (mode.HavePattern p) = plain.have_pattern (pattern_of p.now.tree)
 mode_of mode.WantType = plain.want_type
 mode_of (mode.AfterTypeName at w) = plain.after_type_name at w.now
-mode_of (mode.HaveType t) = plain.have_type (type_of t.tree)
+mode_of (mode.HaveType t) = plain.have_type (type_of t.now.tree)
 mode_of mode.WantStat = plain.want_stat
 mode_of mode.AfterStat = plain.after_stat
-mode_of (mode.AfterLast e) = plain.after_last (tree_of e.tree)
+mode_of (mode.AfterLast e) = plain.after_last (tree_of e.now.tree)
 mode_of (mode.AfterValWord at) = plain.after_val_word at
 mode_of (mode.AfterValName at w) = plain.after_val_name at w.now
 mode_of (mode.AfterAssertWord at) = plain.after_assert_word at
@@ -146,18 +146,18 @@ mode_of (mode.AfterDecreases at) = plain.after_decreases at
 mode_of mode.MeasureOpen = plain.measure_open
 mode_of (mode.AfterTuple es) = plain.after_tuple (stacked (λ e. tree_of e.tree) es.items [])
 mode_of mode.WantBody = plain.want_body
-mode_of (mode.HaveContracted e) = plain.have_contracted (tree_of e.tree)
-mode_of (mode.AfterContractedDot e) = plain.after_contracted_dot (tree_of e.tree)
-mode_of (mode.AfterEnsuring at e) = plain.after_ensuring at (tree_of e.tree)
+mode_of (mode.HaveContracted e) = plain.have_contracted (tree_of e.now.tree)
+mode_of (mode.AfterContractedDot e) = plain.after_contracted_dot (tree_of e.now.tree)
+mode_of (mode.AfterEnsuring at e) = plain.after_ensuring at (tree_of e.now.tree)
 mode_of mode.WantLambdaOrSemi = plain.want_lambda_or_semi
 mode_of mode.WantLambda = plain.want_lambda
 mode_of (mode.AfterLambdaName at w) = plain.after_lambda_name at w.now
 mode_of mode.AfterLambdaRound = plain.after_lambda_round
 mode_of (mode.AfterLambdaRoundName at w) = plain.after_lambda_round_name at w.now
 mode_of (mode.AfterLambdaClosed at w) = plain.after_lambda_closed at w.now
-mode_of (mode.AfterLambdaTyped w t) = plain.after_lambda_typed w.now (type_of t.tree)
-mode_of (mode.AfterClaim w t e) = plain.after_claim w.now (option_map (λ u. type_of u.tree) t) (tree_of e.tree)
-mode_of (mode.AfterBody e p) = plain.after_body (tree_of e.tree) (option_map claim_parts p)
+mode_of (mode.AfterLambdaTyped w t) = plain.after_lambda_typed w.now (type_of t.now.tree)
+mode_of (mode.AfterClaim w t e) = plain.after_claim w.now (option_map (λ u. type_of u.now.tree) t) (tree_of e.now.tree)
+mode_of (mode.AfterBody e p) = plain.after_body (tree_of e.now.tree) (option_map (λ c. claim_parts c.now) p)
 mode_of (mode.WantName k) = plain.want_name (kind_of k)
 mode_of mode.AfterHeadName = plain.after_head_name
 mode_of mode.WantTypeParam = plain.want_type_param
@@ -173,7 +173,7 @@ mode_of (mode.AfterObjectName at w) = plain.after_object_name at w.now
 -- the move, with the frames behind it
 abbrev pub move_of : List plain.Frame → Move → plain.Move
 move_of s (Go m) = plain.go s (mode_of m)
-move_of s (Ends d) = plain.ends (decl_of d.tree)
+move_of s (Ends d) = plain.ends (decl_of d.now.tree)
 
 -- where memory lasts, the automaton stops so
 abbrev pub Stops : Stop → plain.Move → Type 0

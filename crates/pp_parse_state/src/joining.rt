@@ -6,6 +6,7 @@ ghost use Rattle.pp_grammar.specs.Joining.{unwind, seal};
 ghost use Rattle.pp_parse_state.specs.Joining.{binds, join, operand_of, joined, is_statement, join_statement, sealed};
 ghost use Rattle.pp_parse_state.specs.Shown.{frame_of, frames};
 
+use crate::kept::{keep, type_itself};
 use crate::operators::{TIGHTEST, level};
 use crate::{Frame, NoMemory, Stack};
 use bumpalo::Bump;
@@ -14,7 +15,7 @@ use pp_tree::{Built, Expr, build};
 /// An operand, and whether the hole stands in it.
 #[derive(Clone, Copy)]
 pub struct Operand<'a> {
-    pub tree: Built<Expr<'a>>,
+    pub tree: &'a Built<Expr<'a>>,
     pub holed: bool,
 }
 
@@ -40,15 +41,15 @@ fn join<'a>(
 {
     match frame {
         Frame::Prefixing(at, op) => Ok(Operand {
-            tree: build::unary(arena, at, op, operand.tree)?,
+            tree: keep(arena, build::unary(arena, at, op, *operand.tree)?)?,
             holed: operand.holed,
         }),
         Frame::Left(at, op, left, holed) => Ok(Operand {
-            tree: build::binary(arena, at, op, left, operand.tree)?,
+            tree: keep(arena, build::binary(arena, at, op, *left, *operand.tree)?)?,
             holed: holed || operand.holed,
         }),
         Frame::IfRest(at, test, yes) => Ok(Operand {
-            tree: build::choice(arena, at, test, yes, operand.tree)?,
+            tree: keep(arena, build::choice(arena, at, *test, *yes, *operand.tree)?)?,
             holed: operand.holed,
         }),
         _ => Ok(operand),
@@ -60,10 +61,10 @@ pub fn unwind<'a>(
     arena: &'a Bump,
     stack: &mut Stack<'a>,
     tight: u32,
-    tree: Built<Expr<'a>>,
+    tree: &'a Built<Expr<'a>>,
     holed: bool,
 ) -> Result<Operand<'a>, NoMemory>
-    ensures { IfOk result (λ o. unwind tight (frames stack.old) (tree_of tree.entry.tree) holed ≡ joined
+    ensures { IfOk result (λ o. unwind tight (frames stack.old) (tree_of tree.now.tree) holed ≡ joined
         (frames stack.new) (operand_of o)) }
 {
     let mut operand = Operand { tree, holed };
@@ -94,8 +95,10 @@ fn join_statement<'a>(
     ensures { IfOk result (λ e. tree_of e.tree ≡ join_statement (frame_of frame.entry) (tree_of rest.entry.tree)) }
 {
     match frame {
-        Frame::AfterVal(at, name, of, value) => build::val_in(arena, at, name, of, value, rest),
-        Frame::AfterAssert(at, claim) => build::assert_in(arena, at, claim, rest),
+        Frame::AfterVal(at, name, of, value) => {
+            build::val_in(arena, at, name, type_itself(of), *value, rest)
+        }
+        Frame::AfterAssert(at, claim) => build::assert_in(arena, at, *claim, rest),
         _ => Ok(rest),
     }
 }
@@ -104,16 +107,16 @@ fn join_statement<'a>(
 pub fn seal<'a>(
     arena: &'a Bump,
     stack: &mut Stack<'a>,
-    last: Built<Expr<'a>>,
-) -> Result<Built<Expr<'a>>, NoMemory>
-    ensures { IfOk result (λ e. seal (frames stack.old) (tree_of last.entry.tree) ≡ sealed (frames stack.new)
-        (tree_of e.tree)) }
+    last: &'a Built<Expr<'a>>,
+) -> Result<&'a Built<Expr<'a>>, NoMemory>
+    ensures { IfOk result (λ e. seal (frames stack.old) (tree_of last.now.tree) ≡ sealed (frames stack.new)
+        (tree_of e.now.tree)) }
 {
-    let mut sealed = last;
+    let mut sealed = *last;
     while stack.ends_statement() {
         if let Some(frame) = stack.pop() {
             sealed = join_statement(arena, frame, sealed)?;
         }
     }
-    Ok(sealed)
+    keep(arena, sealed)
 }

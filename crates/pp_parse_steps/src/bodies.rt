@@ -45,11 +45,11 @@ pub(crate) fn on_want_body<'a>(
 fn on_contracted_end<'a>(
     cx: &Current<'a, '_>,
     stack: &mut Stack<'a>,
-    tree: Built<Expr<'a>>,
+    tree: &'a Built<Expr<'a>>,
 ) -> Result<Move<'a>, Stop<'a>>
     requires { IsSpan cx.now.text.now cx.now.token }
     ensures { Moves result (frames stack.new) (on_contracted_end cx.now.text.now cx.now.token (frames stack.old)
-        (tree_of tree.entry.tree)) }
+        (tree_of tree.now.tree)) }
 {
     let Some(frame) = stack.pop() else {
         return Err(cx.refuse());
@@ -111,11 +111,11 @@ fn on_contracted_operator<'a>(
 pub(crate) fn on_have_contracted<'a>(
     cx: &Current<'a, '_>,
     stack: &mut Stack<'a>,
-    tree: Built<Expr<'a>>,
+    tree: &'a Built<Expr<'a>>,
 ) -> Result<Move<'a>, Stop<'a>>
     requires { IsSpan cx.now.text.now cx.now.token }
     ensures { Moves result (frames stack.new) (on_have_contracted cx.now.text.now cx.now.token (frames stack.old)
-        (tree_of tree.entry.tree) cx.now.token.kind) }
+        (tree_of tree.now.tree) cx.now.token.kind) }
 {
     match cx.token.kind {
         TokenKind::Mark(Bracket::Dot) => Ok(Move::Go(Mode::AfterContractedDot(tree))),
@@ -133,12 +133,12 @@ pub(crate) fn on_have_contracted<'a>(
 fn on_contracted_name<'a>(
     cx: &Current<'a, '_>,
     stack: &mut Stack<'a>,
-    tree: Built<Expr<'a>>,
+    tree: &'a Built<Expr<'a>>,
     role: Role,
 ) -> Result<Move<'a>, Stop<'a>>
     requires { IsSpan cx.now.text.now cx.now.token }
     ensures { Moves result (frames stack.new) (on_contracted_name cx.now.text.now cx.now.token (frames stack.old)
-        (tree_of tree.entry.tree) (role_of role)) }
+        (tree_of tree.now.tree) (role_of role)) }
 {
     match role {
         Role::Ensuring | Role::Holds => on_post_word(cx, stack, tree, false, role),
@@ -150,11 +150,11 @@ fn on_contracted_name<'a>(
 pub(crate) fn on_contracted_dot<'a>(
     cx: &Current<'a, '_>,
     stack: &mut Stack<'a>,
-    tree: Built<Expr<'a>>,
+    tree: &'a Built<Expr<'a>>,
 ) -> Result<Move<'a>, Stop<'a>>
     requires { IsSpan cx.now.text.now cx.now.token }
     ensures { Moves result (frames stack.new) (on_contracted_dot cx.now.text.now cx.now.token (frames stack.old)
-        (tree_of tree.entry.tree) cx.now.token.kind) }
+        (tree_of tree.now.tree) cx.now.token.kind) }
 {
     match cx.token.kind {
         TokenKind::Name => on_contracted_name(cx, stack, tree, cx.role()),
@@ -166,12 +166,12 @@ pub(crate) fn on_contracted_dot<'a>(
 pub(crate) fn on_after_body<'a>(
     cx: &Current<'a, '_>,
     stack: &mut Stack<'a>,
-    tree: Built<Expr<'a>>,
-    post: Option<Claim<'a>>,
+    tree: &'a Built<Expr<'a>>,
+    post: Option<&'a Claim<'a>>,
 ) -> Result<Move<'a>, Stop<'a>>
     requires { IsSpan cx.now.text.now cx.now.token }
     ensures { Moves result (frames stack.new) (on_after_body cx.now.text.now cx.now.token (frames stack.old)
-        (tree_of tree.entry.tree) (option_map claim_parts post.entry)) }
+        (tree_of tree.now.tree) (option_map (λ p. claim_parts p.now) post.entry)) }
 {
     let Some(frame) = stack.pop() else {
         return Err(cx.refuse());

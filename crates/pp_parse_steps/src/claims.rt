@@ -8,11 +8,10 @@ ghost use Rattle.pp_grammar.specs.StepExprs.{on_claim_brace, on_claim_round, on_
 ghost use Rattle.pp_grammar.specs.StepExprs.{on_required};
 ghost use Rattle.pp_parse_state.specs.Shown.{Moves, frames, stacked};
 
-use pp_parse_parts::contracts::{RES, with_measure, with_requirement};
+use pp_parse_parts::contracts::{RES, claimed, with_measure, with_requirement};
 use pp_parse_parts::opening::{open, refuse_above};
 use pp_parse_state::{Around, Current, Frame, Mode, Move, Stack, Stop};
 use pp_tokens::{Bracket, TokenKind};
-use pp_tree::build::Claim;
 use pp_tree::{Built, Expr, TypeText};
 
 /// The claim of a postcondition in round brackets ends.
@@ -20,12 +19,12 @@ pub(crate) fn on_claim_round<'a>(
     cx: &Current<'a, '_>,
     stack: &mut Stack<'a>,
     name: &'a str,
-    of: Option<Built<TypeText<'a>>>,
-    claim: Built<Expr<'a>>,
+    of: Option<&'a Built<TypeText<'a>>>,
+    claim: &'a Built<Expr<'a>>,
 ) -> Result<Move<'a>, Stop<'a>>
     requires { IsSpan cx.now.text.now cx.now.token }
     ensures { Moves result (frames stack.new) (on_claim_round cx.now.text.now cx.now.token (frames stack.old) name.now
-        (option_map (λ t. type_of t.tree) of.entry) (tree_of claim.entry.tree)) }
+        (option_map (λ t. type_of t.now.tree) of.entry) (tree_of claim.now.tree)) }
 {
     let Some(frame) = stack.pop() else {
         return Err(cx.refuse());
@@ -33,12 +32,7 @@ pub(crate) fn on_claim_round<'a>(
     match frame {
         Frame::PostOf(at, body, around) => match around {
             Around::Parentheses => {
-                let post = Claim {
-                    at,
-                    name,
-                    of,
-                    claim,
-                };
+                let post = claimed(cx, at, name, of, claim)?;
                 Ok(Move::Go(Mode::AfterBody(body, Some(post))))
             }
             Around::Braces => Err(cx.refuse()),
@@ -52,12 +46,12 @@ pub(crate) fn on_claim_brace<'a>(
     cx: &Current<'a, '_>,
     stack: &mut Stack<'a>,
     name: &'a str,
-    of: Option<Built<TypeText<'a>>>,
-    claim: Built<Expr<'a>>,
+    of: Option<&'a Built<TypeText<'a>>>,
+    claim: &'a Built<Expr<'a>>,
 ) -> Result<Move<'a>, Stop<'a>>
     requires { IsSpan cx.now.text.now cx.now.token }
     ensures { Moves result (frames stack.new) (on_claim_brace cx.now.text.now cx.now.token (frames stack.old) name.now
-        (option_map (λ t. type_of t.tree) of.entry) (tree_of claim.entry.tree)) }
+        (option_map (λ t. type_of t.now.tree) of.entry) (tree_of claim.now.tree)) }
 {
     let Some(frame) = stack.pop() else {
         return Err(cx.refuse());
@@ -65,12 +59,7 @@ pub(crate) fn on_claim_brace<'a>(
     match frame {
         Frame::PostOf(at, body, around) => match around {
             Around::Braces => {
-                let post = Claim {
-                    at,
-                    name,
-                    of,
-                    claim,
-                };
+                let post = claimed(cx, at, name, of, claim)?;
                 Ok(Move::Go(Mode::AfterBody(body, Some(post))))
             }
             Around::Parentheses => Err(cx.refuse()),
@@ -84,12 +73,12 @@ pub(crate) fn on_claim_semi<'a>(
     cx: &Current<'a, '_>,
     stack: &mut Stack<'a>,
     name: &'a str,
-    of: Option<Built<TypeText<'a>>>,
-    claim: Built<Expr<'a>>,
+    of: Option<&'a Built<TypeText<'a>>>,
+    claim: &'a Built<Expr<'a>>,
 ) -> Result<Move<'a>, Stop<'a>>
     requires { IsSpan cx.now.text.now cx.now.token }
     ensures { Moves result (frames stack.new) (on_claim_semi cx.now.text.now cx.now.token (frames stack.old) name.now
-        (option_map (λ t. type_of t.tree) of.entry) (tree_of claim.entry.tree)) }
+        (option_map (λ t. type_of t.now.tree) of.entry) (tree_of claim.now.tree)) }
 {
     let Some(frame) = stack.pop() else {
         return Err(cx.refuse());
@@ -110,11 +99,11 @@ pub(crate) fn on_claim_semi<'a>(
 pub(crate) fn on_required<'a>(
     cx: &Current<'a, '_>,
     stack: &mut Stack<'a>,
-    claim: Built<Expr<'a>>,
+    claim: &'a Built<Expr<'a>>,
 ) -> Result<Move<'a>, Stop<'a>>
     requires { IsSpan cx.now.text.now cx.now.token }
     ensures { Moves result (frames stack.new) (on_required cx.now.text.now cx.now.token (frames stack.old)
-        (tree_of claim.entry.tree)) }
+        (tree_of claim.now.tree)) }
 {
     let Some(frame) = stack.pop() else {
         return Err(cx.refuse());
@@ -155,11 +144,11 @@ pub(crate) fn on_measured<'a>(
 pub(crate) fn on_hole_end<'a>(
     cx: &Current<'a, '_>,
     stack: &mut Stack<'a>,
-    tree: Built<Expr<'a>>,
+    tree: &'a Built<Expr<'a>>,
 ) -> Result<Move<'a>, Stop<'a>>
     requires { IsSpan cx.now.text.now cx.now.token }
     ensures { Moves result (frames stack.new) (on_hole_end cx.now.text.now cx.now.token (frames stack.old)
-        (tree_of tree.entry.tree) cx.now.token.kind) }
+        (tree_of tree.now.tree) cx.now.token.kind) }
 {
     let Some(frame) = stack.pop() else {
         return Err(cx.refuse());
@@ -174,11 +163,11 @@ pub(crate) fn on_hole_end<'a>(
 fn on_hole_claim<'a>(
     cx: &Current<'a, '_>,
     stack: &mut Stack<'a>,
-    tree: Built<Expr<'a>>,
+    tree: &'a Built<Expr<'a>>,
 ) -> Result<Move<'a>, Stop<'a>>
     requires { IsSpan cx.now.text.now cx.now.token }
     ensures { Moves result (frames stack.new) (on_hole_end cx.now.text.now cx.now.token
-        (claiming_hole ∷ frames stack.old) (tree_of tree.entry.tree) cx.now.token.kind) }
+        (claiming_hole ∷ frames stack.old) (tree_of tree.now.tree) cx.now.token.kind) }
 {
     match cx.token.kind {
         TokenKind::Mark(Bracket::CloseRound) => on_claim_round(cx, stack, RES, None, tree),

@@ -23,11 +23,11 @@ use pp_tree::{Built, Case, Expr};
 fn on_round_closed<'a>(
     cx: &Current<'a, '_>,
     stack: &mut Stack<'a>,
-    tree: Built<Expr<'a>>,
+    tree: &'a Built<Expr<'a>>,
 ) -> Result<Move<'a>, Stop<'a>>
     requires { IsSpan cx.now.text.now cx.now.token }
     ensures { Moves result (frames stack.new) (on_round_closed cx.now.text.now cx.now.token (frames stack.old)
-        (tree_of tree.entry.tree)) }
+        (tree_of tree.now.tree)) }
 {
     let Some(frame) = stack.pop() else {
         return Err(cx.refuse());
@@ -58,11 +58,11 @@ fn on_round_closed<'a>(
 fn on_comma<'a>(
     cx: &Current<'a, '_>,
     stack: &mut Stack<'a>,
-    tree: Built<Expr<'a>>,
+    tree: &'a Built<Expr<'a>>,
 ) -> Result<Move<'a>, Stop<'a>>
     requires { IsSpan cx.now.text.now cx.now.token }
     ensures { Moves result (frames stack.new) (on_comma cx.now.text.now cx.now.token (frames stack.old)
-        (tree_of tree.entry.tree)) }
+        (tree_of tree.now.tree)) }
 {
     let Some(frame) = stack.pop() else {
         return Err(cx.refuse());
@@ -92,11 +92,11 @@ fn on_comma<'a>(
 pub(crate) fn on_else<'a>(
     cx: &Current<'a, '_>,
     stack: &mut Stack<'a>,
-    tree: Built<Expr<'a>>,
+    tree: &'a Built<Expr<'a>>,
 ) -> Result<Move<'a>, Stop<'a>>
     requires { IsSpan cx.now.text.now cx.now.token }
     ensures { Moves result (frames stack.new) (on_else cx.now.text.now cx.now.token (frames stack.old)
-        (tree_of tree.entry.tree)) }
+        (tree_of tree.now.tree)) }
 {
     let Some(frame) = stack.pop() else {
         return Err(cx.refuse());
@@ -112,11 +112,11 @@ fn on_head_closed<'a>(
     cx: &Current<'a, '_>,
     stack: &mut Stack<'a>,
     contracts: Contracts<'a>,
-    tree: Built<Expr<'a>>,
+    tree: &'a Built<Expr<'a>>,
 ) -> Result<Move<'a>, Stop<'a>>
     requires { IsSpan cx.now.text.now cx.now.token }
     ensures { Moves result (frames stack.new) (on_head_closed cx.now.text.now cx.now.token (frames stack.old)
-        (contracts_of contracts.entry) (contracts_of contracts.entry).first (tree_of tree.entry.tree)) }
+        (contracts_of contracts.entry) (contracts_of contracts.entry).first (tree_of tree.now.tree)) }
 {
     let Some(frame) = stack.pop() else {
         return Err(cx.refuse());
@@ -144,11 +144,11 @@ fn on_head_closed<'a>(
 fn on_match_closed<'a>(
     cx: &Current<'a, '_>,
     stack: &mut Stack<'a>,
-    case: Built<Case<'a>>,
+    case: &'a Built<Case<'a>>,
 ) -> Result<Move<'a>, Stop<'a>>
     requires { IsSpan cx.now.text.now cx.now.token }
     ensures { Moves result (frames stack.new) (on_match_closed cx.now.text.now cx.now.token (frames stack.old)
-        (case_text case.entry.tree)) }
+        (case_text case.now.tree)) }
 {
     let Some(frame) = stack.pop() else {
         return Err(cx.refuse());
@@ -166,11 +166,11 @@ fn on_match_closed<'a>(
 fn on_next_case<'a>(
     cx: &Current<'a, '_>,
     stack: &mut Stack<'a>,
-    case: Built<Case<'a>>,
+    case: &'a Built<Case<'a>>,
 ) -> Result<Move<'a>, Stop<'a>>
     requires { IsSpan cx.now.text.now cx.now.token }
     ensures { Moves result (frames stack.new) (on_next_case cx.now.text.now cx.now.token (frames stack.old)
-        (case_text case.entry.tree)) }
+        (case_text case.now.tree)) }
 {
     let Some(frame) = stack.pop() else {
         return Err(cx.refuse());
@@ -188,11 +188,11 @@ fn on_next_case<'a>(
 fn on_brace_closed<'a>(
     cx: &Current<'a, '_>,
     stack: &mut Stack<'a>,
-    tree: Built<Expr<'a>>,
+    tree: &'a Built<Expr<'a>>,
 ) -> Result<Move<'a>, Stop<'a>>
     requires { IsSpan cx.now.text.now cx.now.token }
     ensures { Moves result (frames stack.new) (on_brace_closed cx.now.text.now cx.now.token (frames stack.old)
-        (tree_of tree.entry.tree)) }
+        (tree_of tree.now.tree)) }
 {
     let Some(frame) = stack.pop() else {
         return Err(cx.refuse());
@@ -200,7 +200,10 @@ fn on_brace_closed<'a>(
     match frame {
         Frame::Braces => Ok(Move::Go(Mode::Have(tree, false))),
         Frame::HeadBraces(contracts) => on_head_closed(cx, stack, contracts, tree),
-        Frame::Arm(pattern, guard) => { on_match_closed(cx, stack, arm_case(pattern, guard, tree)) }
+        Frame::Arm(pattern, guard) => {
+            let case = arm_case(cx, pattern, guard, tree)?;
+            on_match_closed(cx, stack, case)
+        }
         Frame::Claiming(name, of) => on_claim_brace(cx, stack, name, of, tree),
         Frame::BodyOf(head, result, contracts) => {
             def_ends(cx, head, result, contracts, tree, None)
@@ -213,17 +216,20 @@ fn on_brace_closed<'a>(
 fn on_case_ended<'a>(
     cx: &Current<'a, '_>,
     stack: &mut Stack<'a>,
-    tree: Built<Expr<'a>>,
+    tree: &'a Built<Expr<'a>>,
 ) -> Result<Move<'a>, Stop<'a>>
     requires { IsSpan cx.now.text.now cx.now.token }
     ensures { Moves result (frames stack.new) (on_case_ended cx.now.text.now cx.now.token (frames stack.old)
-        (tree_of tree.entry.tree)) }
+        (tree_of tree.now.tree)) }
 {
     let Some(frame) = stack.pop() else {
         return Err(cx.refuse());
     };
     match frame {
-        Frame::Arm(pattern, guard) => on_next_case(cx, stack, arm_case(pattern, guard, tree)),
+        Frame::Arm(pattern, guard) => {
+            let case = arm_case(cx, pattern, guard, tree)?;
+            on_next_case(cx, stack, case)
+        }
         other => Err(refuse_above(cx, other)),
     }
 }
@@ -232,11 +238,11 @@ fn on_case_ended<'a>(
 fn on_semi<'a>(
     cx: &Current<'a, '_>,
     stack: &mut Stack<'a>,
-    tree: Built<Expr<'a>>,
+    tree: &'a Built<Expr<'a>>,
 ) -> Result<Move<'a>, Stop<'a>>
     requires { IsSpan cx.now.text.now cx.now.token }
     ensures { Moves result (frames stack.new) (on_semi cx.now.text.now cx.now.token (frames stack.old)
-        (tree_of tree.entry.tree)) }
+        (tree_of tree.now.tree)) }
 {
     match stack.pop() {
         Some(frame) => on_semi_above(cx, stack, frame, tree),
@@ -249,11 +255,11 @@ fn on_semi_above<'a>(
     cx: &Current<'a, '_>,
     stack: &mut Stack<'a>,
     frame: Frame<'a>,
-    tree: Built<Expr<'a>>,
+    tree: &'a Built<Expr<'a>>,
 ) -> Result<Move<'a>, Stop<'a>>
     requires { IsSpan cx.now.text.now cx.now.token }
     ensures { Moves result (frames stack.new) (on_semi cx.now.text.now cx.now.token
-        (frame_of frame.entry ∷ frames stack.old) (tree_of tree.entry.tree)) }
+        (frame_of frame.entry ∷ frames stack.old) (tree_of tree.now.tree)) }
 {
     match frame {
         Frame::ValValue(at, name, of) => {
@@ -276,11 +282,11 @@ fn on_semi_above<'a>(
 fn on_semicolon<'a>(
     cx: &Current<'a, '_>,
     stack: &mut Stack<'a>,
-    tree: Built<Expr<'a>>,
+    tree: &'a Built<Expr<'a>>,
 ) -> Result<Move<'a>, Stop<'a>>
     requires { IsSpan cx.now.text.now cx.now.token }
     ensures { Moves result (frames stack.new) (on_semicolon cx.now.text.now cx.now.token (frames stack.old)
-        (tree_of tree.entry.tree)) }
+        (tree_of tree.now.tree)) }
 {
     let Some(frame) = stack.pop() else {
         return Err(cx.refuse());
@@ -295,11 +301,11 @@ fn on_semicolon<'a>(
 pub(crate) fn on_sealed_brace<'a>(
     cx: &Current<'a, '_>,
     stack: &mut Stack<'a>,
-    tree: Built<Expr<'a>>,
+    tree: &'a Built<Expr<'a>>,
 ) -> Result<Move<'a>, Stop<'a>>
     requires { IsSpan cx.now.text.now cx.now.token }
     ensures { Moves result (frames stack.new) (on_sealed_brace cx.now.text.now cx.now.token
-        (seal (frames stack.old) (tree_of tree.entry.tree))) }
+        (seal (frames stack.old) (tree_of tree.now.tree))) }
 {
     let sealed = seal(cx.arena, stack, tree)?;
     on_brace_closed(cx, stack, sealed)
@@ -309,11 +315,11 @@ pub(crate) fn on_sealed_brace<'a>(
 pub(crate) fn on_sealed_case<'a>(
     cx: &Current<'a, '_>,
     stack: &mut Stack<'a>,
-    tree: Built<Expr<'a>>,
+    tree: &'a Built<Expr<'a>>,
 ) -> Result<Move<'a>, Stop<'a>>
     requires { IsSpan cx.now.text.now cx.now.token }
     ensures { Moves result (frames stack.new) (on_sealed_case cx.now.text.now cx.now.token
-        (seal (frames stack.old) (tree_of tree.entry.tree))) }
+        (seal (frames stack.old) (tree_of tree.now.tree))) }
 {
     let sealed = seal(cx.arena, stack, tree)?;
     on_case_ended(cx, stack, sealed)
@@ -323,11 +329,11 @@ pub(crate) fn on_sealed_case<'a>(
 fn on_expr_end<'a>(
     cx: &Current<'a, '_>,
     stack: &mut Stack<'a>,
-    tree: Built<Expr<'a>>,
+    tree: &'a Built<Expr<'a>>,
 ) -> Result<Move<'a>, Stop<'a>>
     requires { IsSpan cx.now.text.now cx.now.token }
     ensures { Moves result (frames stack.new) (on_expr_end cx.now.text.now cx.now.token (frames stack.old)
-        (tree_of tree.entry.tree) cx.now.token.kind) }
+        (tree_of tree.now.tree) cx.now.token.kind) }
 {
     match cx.token.kind {
         TokenKind::Mark(Bracket::CloseRound) => on_round_closed(cx, stack, tree),
@@ -345,12 +351,12 @@ fn on_expr_end<'a>(
 pub(crate) fn on_end<'a>(
     cx: &Current<'a, '_>,
     stack: &mut Stack<'a>,
-    tree: Built<Expr<'a>>,
+    tree: &'a Built<Expr<'a>>,
     holed: bool,
 ) -> Result<Move<'a>, Stop<'a>>
     requires { IsSpan cx.now.text.now cx.now.token }
     ensures { Moves result (frames stack.new) (on_end cx.now.text.now cx.now.token (frames stack.old)
-        (tree_of tree.entry.tree) holed cx.now.token.kind) }
+        (tree_of tree.now.tree) holed cx.now.token.kind) }
 {
     if holed {
         return on_hole_end(cx, stack, tree);

@@ -1,8 +1,10 @@
 //! The steps behind an operand.
 
-ghost use Rattle.std.specs.Prelude.{List};
+ghost use Rattle.std.specs.Prelude.{◌≡◌, IfOk, List};
 ghost use Rattle.pp_tokens.specs.Spans.{IsSpan};
+ghost use Rattle.pp_tree.specs.Plain.{field};
 ghost use Rattle.pp_tree.specs.Shown.{tree_of};
+ghost use Rattle.pp_grammar.specs.Words.{word};
 ghost use Rattle.pp_grammar.specs.Frames.{Frame as plain_frame};
 ghost use Rattle.pp_grammar.specs.StepExprs.{on_binary, on_dot, on_dot_name, on_ensuring, on_guard, on_have};
 ghost use Rattle.pp_grammar.specs.StepExprs.{on_have_negative, on_holds, on_match, on_negative_dot};
@@ -15,7 +17,7 @@ use pp_parse_parts::contracts::holding;
 use pp_parse_parts::opening::{open, refuse_above};
 use pp_parse_state::operators::{LOOSEST, binary_of, level};
 use pp_parse_state::words::Role;
-use pp_parse_state::{Current, Frame, Mode, Move, Stack, Stop, unwind};
+use pp_parse_state::{Current, Frame, Mode, Move, NoMemory, Stack, Stop, keep, unwind};
 use pp_tokens::{Bracket, Operator, Reserved, TokenKind};
 use pp_tree::{BinaryOp, Built, Expr, build};
 
@@ -26,12 +28,12 @@ pub(crate) const ANY: u32 = 0;
 fn on_guard<'a>(
     cx: &Current<'a, '_>,
     stack: &mut Stack<'a>,
-    tree: Built<Expr<'a>>,
+    tree: &'a Built<Expr<'a>>,
     holed: bool,
 ) -> Result<Move<'a>, Stop<'a>>
     requires { IsSpan cx.now.text.now cx.now.token }
     ensures { Moves result (frames stack.new) (on_guard cx.now.text.now cx.now.token (frames stack.old)
-        (tree_of tree.entry.tree) holed) }
+        (tree_of tree.now.tree) holed) }
 {
     let Some(frame) = stack.pop() else {
         return Err(cx.refuse());
@@ -51,12 +53,12 @@ fn on_guard<'a>(
 fn on_match<'a>(
     cx: &Current<'a, '_>,
     stack: &mut Stack<'a>,
-    tree: Built<Expr<'a>>,
+    tree: &'a Built<Expr<'a>>,
     holed: bool,
 ) -> Result<Move<'a>, Stop<'a>>
     requires { IsSpan cx.now.text.now cx.now.token }
     ensures { Moves result (frames stack.new) (on_match cx.now.text.now cx.now.token (frames stack.old)
-        (tree_of tree.entry.tree) holed) }
+        (tree_of tree.now.tree) holed) }
 {
     if holed || stack.floor() > 0 {
         return Err(cx.refuse());
@@ -68,12 +70,12 @@ fn on_match<'a>(
 fn on_ensuring<'a>(
     cx: &Current<'a, '_>,
     stack: &mut Stack<'a>,
-    tree: Built<Expr<'a>>,
+    tree: &'a Built<Expr<'a>>,
     holed: bool,
 ) -> Result<Move<'a>, Stop<'a>>
     requires { IsSpan cx.now.text.now cx.now.token }
     ensures { Moves result (frames stack.new) (on_ensuring cx.now.text.now cx.now.token (frames stack.old)
-        (tree_of tree.entry.tree) holed) }
+        (tree_of tree.now.tree) holed) }
 {
     let Some(frame) = stack.pop() else {
         return Err(cx.refuse());
@@ -94,12 +96,12 @@ fn on_ensuring<'a>(
 fn on_holds<'a>(
     cx: &Current<'a, '_>,
     stack: &mut Stack<'a>,
-    tree: Built<Expr<'a>>,
+    tree: &'a Built<Expr<'a>>,
     holed: bool,
 ) -> Result<Move<'a>, Stop<'a>>
     requires { IsSpan cx.now.text.now cx.now.token }
     ensures { Moves result (frames stack.new) (on_holds cx.now.text.now cx.now.token (frames stack.old)
-        (tree_of tree.entry.tree) holed) }
+        (tree_of tree.now.tree) holed) }
 {
     let Some(frame) = stack.pop() else {
         return Err(cx.refuse());
@@ -110,11 +112,8 @@ fn on_holds<'a>(
                 return Err(cx.refuse());
             }
             let body = Frame::BodyOf(head, result, contracts);
-            open(
-                stack,
-                body,
-                Mode::AfterBody(tree, Some(holding(cx.token.from))),
-            )
+            let post = holding(cx, cx.token.from)?;
+            open(stack, body, Mode::AfterBody(tree, Some(post)))
         }
         other => Err(refuse_above(cx, other)),
     }
@@ -124,13 +123,13 @@ fn on_holds<'a>(
 pub(crate) fn on_post_word<'a>(
     cx: &Current<'a, '_>,
     stack: &mut Stack<'a>,
-    tree: Built<Expr<'a>>,
+    tree: &'a Built<Expr<'a>>,
     holed: bool,
     role: Role,
 ) -> Result<Move<'a>, Stop<'a>>
     requires { IsSpan cx.now.text.now cx.now.token }
     ensures { Moves result (frames stack.new) (on_post_word cx.now.text.now cx.now.token (frames stack.old)
-        (tree_of tree.entry.tree) holed (role_of role)) }
+        (tree_of tree.now.tree) holed (role_of role)) }
 {
     match role {
         Role::Ensuring => on_ensuring(cx, stack, tree, holed),
@@ -143,13 +142,13 @@ pub(crate) fn on_post_word<'a>(
 fn on_binary<'a>(
     cx: &Current<'a, '_>,
     stack: &mut Stack<'a>,
-    tree: Built<Expr<'a>>,
+    tree: &'a Built<Expr<'a>>,
     holed: bool,
     op: Option<BinaryOp>,
 ) -> Result<Move<'a>, Stop<'a>>
     requires { IsSpan cx.now.text.now cx.now.token }
     ensures { Moves result (frames stack.new) (on_binary cx.now.text.now cx.now.token (frames stack.old)
-        (tree_of tree.entry.tree) holed op) }
+        (tree_of tree.now.tree) holed op) }
 {
     match op {
         Some(op) => {
@@ -165,12 +164,12 @@ fn on_binary<'a>(
 pub(crate) fn on_operand<'a>(
     cx: &Current<'a, '_>,
     stack: &mut Stack<'a>,
-    tree: Built<Expr<'a>>,
+    tree: &'a Built<Expr<'a>>,
     holed: bool,
 ) -> Result<Move<'a>, Stop<'a>>
     requires { IsSpan cx.now.text.now cx.now.token }
     ensures { Moves result (frames stack.new) (on_operand cx.now.text.now cx.now.token (frames stack.old)
-        (tree_of tree.entry.tree) holed cx.now.token.kind) }
+        (tree_of tree.now.tree) holed cx.now.token.kind) }
 {
     match cx.token.kind {
         TokenKind::Op(Operator::Arrow) => {
@@ -197,12 +196,12 @@ pub(crate) fn on_operand<'a>(
 pub(crate) fn on_have<'a>(
     cx: &Current<'a, '_>,
     stack: &mut Stack<'a>,
-    tree: Built<Expr<'a>>,
+    tree: &'a Built<Expr<'a>>,
     holed: bool,
 ) -> Result<Move<'a>, Stop<'a>>
     requires { IsSpan cx.now.text.now cx.now.token }
     ensures { Moves result (frames stack.new) (on_have cx.now.text.now cx.now.token (frames stack.old)
-        (tree_of tree.entry.tree) holed cx.now.token.kind) }
+        (tree_of tree.now.tree) holed cx.now.token.kind) }
 {
     match cx.token.kind {
         TokenKind::Mark(Bracket::Dot) => Ok(Move::Go(Mode::AfterDot(tree, holed))),
@@ -210,21 +209,34 @@ pub(crate) fn on_have<'a>(
     }
 }
 
+/// The field of the expression with the token's name.
+fn field_of<'a>(
+    cx: &Current<'a, '_>,
+    tree: &'a Built<Expr<'a>>,
+) -> Result<&'a Built<Expr<'a>>, NoMemory>
+    requires { IsSpan cx.now.text.now cx.now.token }
+    ensures { IfOk result (λ e. tree_of e.now.tree ≡ field cx.now.token.from (tree_of tree.now.tree)
+        (word cx.now.text.now cx.now.token)) }
+{
+    let field = build::field(cx.arena, cx.token.from, *tree, cx.word()?)?;
+    keep(cx.arena, field)
+}
+
 /// A name behind a dot: of a field, `ensuring` or `holds`.
 fn on_dot_name<'a>(
     cx: &Current<'a, '_>,
     stack: &mut Stack<'a>,
-    tree: Built<Expr<'a>>,
+    tree: &'a Built<Expr<'a>>,
     holed: bool,
     role: Role,
 ) -> Result<Move<'a>, Stop<'a>>
     requires { IsSpan cx.now.text.now cx.now.token }
     ensures { Moves result (frames stack.new) (on_dot_name cx.now.text.now cx.now.token (frames stack.old)
-        (tree_of tree.entry.tree) holed (role_of role)) }
+        (tree_of tree.now.tree) holed (role_of role)) }
 {
     match role {
         Role::Plain => {
-            let field = build::field(cx.arena, cx.token.from, tree, cx.word()?)?;
+            let field = field_of(cx, tree)?;
             Ok(Move::Go(Mode::Have(field, holed)))
         }
         _ => on_post_word(cx, stack, tree, holed, role),
@@ -235,12 +247,12 @@ fn on_dot_name<'a>(
 pub(crate) fn on_dot<'a>(
     cx: &Current<'a, '_>,
     stack: &mut Stack<'a>,
-    tree: Built<Expr<'a>>,
+    tree: &'a Built<Expr<'a>>,
     holed: bool,
 ) -> Result<Move<'a>, Stop<'a>>
     requires { IsSpan cx.now.text.now cx.now.token }
     ensures { Moves result (frames stack.new) (on_dot cx.now.text.now cx.now.token (frames stack.old)
-        (tree_of tree.entry.tree) holed cx.now.token.kind) }
+        (tree_of tree.now.tree) holed cx.now.token.kind) }
 {
     match cx.token.kind {
         TokenKind::Name => on_dot_name(cx, stack, tree, holed, cx.role()),
@@ -252,11 +264,11 @@ pub(crate) fn on_dot<'a>(
 pub(crate) fn on_have_negative<'a>(
     cx: &Current<'a, '_>,
     stack: &mut Stack<'a>,
-    tree: Built<Expr<'a>>,
+    tree: &'a Built<Expr<'a>>,
 ) -> Result<Move<'a>, Stop<'a>>
     requires { IsSpan cx.now.text.now cx.now.token }
     ensures { Moves result (frames stack.new) (on_have_negative cx.now.text.now cx.now.token (frames stack.old)
-        (tree_of tree.entry.tree) cx.now.token.kind) }
+        (tree_of tree.now.tree) cx.now.token.kind) }
 {
     match cx.token.kind {
         TokenKind::Mark(Bracket::Dot) => Ok(Move::Go(Mode::AfterNegativeDot(tree))),
@@ -267,16 +279,16 @@ pub(crate) fn on_have_negative<'a>(
 /// A name behind a number with a sign and a dot.
 fn on_negative_field<'a>(
     cx: &Current<'a, '_>,
-    tree: Built<Expr<'a>>,
+    tree: &'a Built<Expr<'a>>,
     role: Role,
 ) -> Result<Move<'a>, Stop<'a>>
     requires { IsSpan cx.now.text.now cx.now.token }
     ensures { (s : List plain_frame) → Moves result s (on_negative_field cx.now.text.now cx.now.token s
-        (tree_of tree.entry.tree) (role_of role)) }
+        (tree_of tree.now.tree) (role_of role)) }
 {
     match role {
         Role::Plain => {
-            let field = build::field(cx.arena, cx.token.from, tree, cx.word()?)?;
+            let field = field_of(cx, tree)?;
             Ok(Move::Go(Mode::HaveNegative(field)))
         }
         _ => Err(cx.refuse()),
@@ -286,11 +298,11 @@ fn on_negative_field<'a>(
 /// Behind a number with a sign and a dot.
 pub(crate) fn on_negative_dot<'a>(
     cx: &Current<'a, '_>,
-    tree: Built<Expr<'a>>,
+    tree: &'a Built<Expr<'a>>,
 ) -> Result<Move<'a>, Stop<'a>>
     requires { IsSpan cx.now.text.now cx.now.token }
     ensures { (s : List plain_frame) → Moves result s (on_negative_dot cx.now.text.now cx.now.token s
-        (tree_of tree.entry.tree) cx.now.token.kind) }
+        (tree_of tree.now.tree) cx.now.token.kind) }
 {
     match cx.token.kind {
         TokenKind::Name => on_negative_field(cx, tree, cx.role()),

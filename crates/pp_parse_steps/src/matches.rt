@@ -19,11 +19,11 @@ use pp_tree::{Built, Expr};
 fn on_match_dot<'a>(
     cx: &Current<'a, '_>,
     stack: &mut Stack<'a>,
-    tree: Built<Expr<'a>>,
+    tree: &'a Built<Expr<'a>>,
 ) -> Result<Move<'a>, Stop<'a>>
     requires { IsSpan cx.now.text.now cx.now.token }
     ensures { Moves result (frames stack.new) (on_match_dot cx.now.text.now cx.now.token (frames stack.old)
-        (tree_of tree.entry.tree)) }
+        (tree_of tree.now.tree)) }
 {
     let Some(frame) = stack.pop() else {
         return Err(cx.refuse());
@@ -38,11 +38,11 @@ fn on_match_dot<'a>(
 pub(crate) fn on_have_matched<'a>(
     cx: &Current<'a, '_>,
     stack: &mut Stack<'a>,
-    tree: Built<Expr<'a>>,
+    tree: &'a Built<Expr<'a>>,
 ) -> Result<Move<'a>, Stop<'a>>
     requires { IsSpan cx.now.text.now cx.now.token }
     ensures { Moves result (frames stack.new) (on_have_matched cx.now.text.now cx.now.token (frames stack.old)
-        (tree_of tree.entry.tree) cx.now.token.kind) }
+        (tree_of tree.now.tree) cx.now.token.kind) }
 {
     match cx.token.kind {
         TokenKind::Mark(Bracket::Dot) => on_match_dot(cx, stack, tree),
@@ -58,11 +58,11 @@ pub(crate) fn on_have_matched<'a>(
 pub(crate) fn on_matched_dot<'a>(
     cx: &Current<'a, '_>,
     stack: &mut Stack<'a>,
-    tree: Built<Expr<'a>>,
+    tree: &'a Built<Expr<'a>>,
 ) -> Result<Move<'a>, Stop<'a>>
     requires { IsSpan cx.now.text.now cx.now.token }
     ensures { Moves result (frames stack.new) (on_matched_dot cx.now.text.now cx.now.token (frames stack.old)
-        (tree_of tree.entry.tree) cx.now.token.kind) }
+        (tree_of tree.now.tree) cx.now.token.kind) }
 {
     match cx.token.kind {
         TokenKind::Name => on_post_word(cx, stack, tree, false, cx.role()),
@@ -75,11 +75,11 @@ pub(crate) fn on_match_word<'a>(
     cx: &Current<'a, '_>,
     stack: &mut Stack<'a>,
     at: u32,
-    tree: Built<Expr<'a>>,
+    tree: &'a Built<Expr<'a>>,
 ) -> Result<Move<'a>, Stop<'a>>
     requires { IsSpan cx.now.text.now cx.now.token }
     ensures { Moves result (frames stack.new) (on_match_word cx.now.text.now cx.now.token (frames stack.old) at
-        (tree_of tree.entry.tree) cx.now.token.kind) }
+        (tree_of tree.now.tree) cx.now.token.kind) }
 {
     match cx.token.kind {
         TokenKind::Mark(Bracket::OpenBrace) => open(
@@ -106,11 +106,11 @@ pub(crate) fn on_want_case<'a>(cx: &Current<'a, '_>) -> Result<Move<'a>, Stop<'a
 pub(crate) fn on_want_else<'a>(
     cx: &Current<'a, '_>,
     stack: &mut Stack<'a>,
-    tree: Built<Expr<'a>>,
+    tree: &'a Built<Expr<'a>>,
 ) -> Result<Move<'a>, Stop<'a>>
     requires { IsSpan cx.now.text.now cx.now.token }
     ensures { Moves result (frames stack.new) (on_want_else cx.now.text.now cx.now.token (frames stack.old)
-        (tree_of tree.entry.tree) cx.now.token.kind) }
+        (tree_of tree.now.tree) cx.now.token.kind) }
 {
     match cx.token.kind {
         TokenKind::Word(Reserved::Else) => on_else(cx, stack, tree),

@@ -1,9 +1,9 @@
 //! The steps behind a name in an expression.
 
-ghost use Rattle.std.specs.Prelude.{List, [], ◌∷◌, false, map};
+ghost use Rattle.std.specs.Prelude.{◌≡◌, IfOk, List, [], ◌∷◌, false, map};
 ghost use Rattle.pp_tokens.specs.Spans.{IsSpan};
 ghost use Rattle.pp_tree.specs.Plain.{apply, no_trees};
-ghost use Rattle.pp_tree.specs.Shown.{type_of, type_trees};
+ghost use Rattle.pp_tree.specs.Shown.{tree_of, type_of, type_trees};
 ghost use Rattle.pp_grammar.specs.Frames.{Frame as plain_frame, args};
 ghost use Rattle.pp_grammar.specs.StepExprs.{on_args_open, on_bound, on_have, on_int, on_int_dot, on_name};
 ghost use Rattle.pp_grammar.specs.StepExprs.{on_name_types};
@@ -14,9 +14,9 @@ use crate::infix::on_have;
 use pp_parse_parts::opening::open;
 use pp_parse_parts::operands::on_want;
 use pp_parse_state::words::bound_of;
-use pp_parse_state::{Current, Frame, Mode, Move, Stack, Stop};
+use pp_parse_state::{Current, Frame, Mode, Move, NoMemory, Stack, Stop, keep};
 use pp_tokens::{Bracket, TokenKind};
-use pp_tree::{Built, TypeText, build};
+use pp_tree::{Built, Expr, TypeText, build};
 
 /// Behind a name.
 pub(crate) fn on_name<'a>(
@@ -40,7 +40,10 @@ pub(crate) fn on_name<'a>(
             name,
             Vec::new(cx.alloc),
         ))),
-        _ => on_have(cx, stack, build::name(at, name), false),
+        _ => {
+            let tree = keep(cx.arena, build::name(at, name))?;
+            on_have(cx, stack, tree, false)
+        }
     }
 }
 
@@ -62,6 +65,20 @@ pub(crate) fn on_name_types<'a>(
     }
 }
 
+/// The name with type arguments and no others.
+fn bare<'a>(
+    cx: &Current<'a, '_>,
+    at: u32,
+    name: &'a str,
+    types: Vec<Built<TypeText<'a>>>,
+) -> Result<&'a Built<Expr<'a>>, NoMemory>
+    ensures { IfOk result (λ e. tree_of e.now.tree ≡ apply at name.now
+        (type_trees (map (λ t. type_of t.tree) types.entry.items)) no_trees) }
+{
+    let tree = build::apply(cx.arena, at, name, &types, &[])?;
+    keep(cx.arena, tree)
+}
+
 /// Behind a name with type arguments and no others.
 fn on_bare_types<'a>(
     cx: &Current<'a, '_>,
@@ -75,7 +92,7 @@ fn on_bare_types<'a>(
         (apply at name.now (type_trees (map (λ t. type_of t.tree) types.entry.items)) no_trees) false
         cx.now.token.kind) }
 {
-    let tree = build::apply(cx.arena, at, name, &types, &[])?;
+    let tree = bare(cx, at, name, types)?;
     on_have(cx, stack, tree, false)
 }
 
@@ -93,7 +110,7 @@ pub(crate) fn on_args_open<'a>(
 {
     match cx.token.kind {
         TokenKind::Mark(Bracket::CloseRound) => {
-            let tree = build::apply(cx.arena, at, name, &types, &[])?;
+            let tree = bare(cx, at, name, types)?;
             Ok(Move::Go(Mode::Have(tree, false)))
         }
         _ => on_first_arg(cx, stack, at, name, types),
@@ -134,7 +151,7 @@ fn on_bound<'a>(cx: &Current<'a, '_>, at: u32, value: Option<i32>) -> Result<Mov
     ensures { (s : List plain_frame) → Moves result s (on_bound cx.now.text.now cx.now.token s at value) }
 {
     match value {
-        Some(n) => Ok(Move::Go(Mode::Have(build::int(at, n), false))),
+        Some(n) => Ok(Move::Go(Mode::Have(keep(cx.arena, build::int(at, n))?, false))),
         None => Err(cx.refuse()),
     }
 }

@@ -16,7 +16,7 @@ use pp_parse_parts::contracts::misplaced_name;
 use pp_parse_parts::opening::open;
 use pp_parse_parts::operands::on_want;
 use pp_parse_state::words::{Role, classify};
-use pp_parse_state::{Around, Current, Frame, Mode, Move, Stack, Stop};
+use pp_parse_state::{Around, Current, Frame, Mode, Move, Stack, Stop, keep};
 use pp_tokens::{Bracket, Operator, TokenKind};
 use pp_tree::{Built, Expr, TypeText, build};
 
@@ -25,11 +25,11 @@ pub(crate) fn on_after_ensuring<'a>(
     cx: &Current<'a, '_>,
     stack: &mut Stack<'a>,
     at: u32,
-    tree: Built<Expr<'a>>,
+    tree: &'a Built<Expr<'a>>,
 ) -> Result<Move<'a>, Stop<'a>>
     requires { IsSpan cx.now.text.now cx.now.token }
     ensures { Moves result (frames stack.new) (on_after_ensuring cx.now.text.now cx.now.token (frames stack.old) at
-        (tree_of tree.entry.tree) cx.now.token.kind) }
+        (tree_of tree.now.tree) cx.now.token.kind) }
 {
     match cx.token.kind {
         TokenKind::Mark(Bracket::OpenRound) => open(
@@ -180,7 +180,10 @@ fn on_late_round<'a>(
         name.now (role_of role) cx.now.token.kind) }
 {
     match role {
-        Role::Plain => on_have(cx, stack, build::name(at, name), false),
+        Role::Plain => {
+            let tree = keep(cx.arena, build::name(at, name))?;
+            on_have(cx, stack, tree, false)
+        }
         _ => Err(misplaced_name(at, name, role)),
     }
 }
@@ -210,11 +213,11 @@ pub(crate) fn on_lambda_typed<'a>(
     cx: &Current<'a, '_>,
     stack: &mut Stack<'a>,
     name: &'a str,
-    of: Built<TypeText<'a>>,
+    of: &'a Built<TypeText<'a>>,
 ) -> Result<Move<'a>, Stop<'a>>
     requires { IsSpan cx.now.text.now cx.now.token }
     ensures { Moves result (frames stack.new) (on_lambda_typed cx.now.text.now cx.now.token (frames stack.old)
-        name.now (type_of of.entry.tree) cx.now.token.kind) }
+        name.now (type_of of.now.tree) cx.now.token.kind) }
 {
     match cx.token.kind {
         TokenKind::Op(Operator::Arrow) => open(stack, Frame::Claiming(name, Some(of)), Mode::Want),
@@ -227,12 +230,12 @@ pub(crate) fn on_after_claim<'a>(
     cx: &Current<'a, '_>,
     stack: &mut Stack<'a>,
     name: &'a str,
-    of: Option<Built<TypeText<'a>>>,
-    claim: Built<Expr<'a>>,
+    of: Option<&'a Built<TypeText<'a>>>,
+    claim: &'a Built<Expr<'a>>,
 ) -> Result<Move<'a>, Stop<'a>>
     requires { IsSpan cx.now.text.now cx.now.token }
     ensures { Moves result (frames stack.new) (on_after_claim cx.now.text.now cx.now.token (frames stack.old) name.now
-        (option_map (λ t. type_of t.tree) of.entry) (tree_of claim.entry.tree) cx.now.token.kind) }
+        (option_map (λ t. type_of t.now.tree) of.entry) (tree_of claim.now.tree) cx.now.token.kind) }
 {
     match cx.token.kind {
         TokenKind::Newline | TokenKind::Mark(Bracket::Semicolon) => {

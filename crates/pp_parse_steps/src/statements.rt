@@ -139,11 +139,11 @@ pub(crate) fn on_after_stat<'a>(cx: &Current<'a, '_>) -> Result<Move<'a>, Stop<'
 pub(crate) fn on_after_last<'a>(
     cx: &Current<'a, '_>,
     stack: &mut Stack<'a>,
-    tree: Built<Expr<'a>>,
+    tree: &'a Built<Expr<'a>>,
 ) -> Result<Move<'a>, Stop<'a>>
     requires { IsSpan cx.now.text.now cx.now.token }
     ensures { Moves result (frames stack.new) (on_after_last cx.now.text.now cx.now.token (frames stack.old)
-        (tree_of tree.entry.tree) cx.now.token.kind) }
+        (tree_of tree.now.tree) cx.now.token.kind) }
 {
     match cx.token.kind {
         TokenKind::Newline | TokenKind::Mark(Bracket::Semicolon) => Ok(Move::Go(Mode::AfterLast(

@@ -4,5 +4,5 @@ use Rattle.pp_parse_parts.proofs.lists.with_pattern.Goals as goal
 
 pub returns-clause-whole : goal.returns-clause-whole
 returns-clause-whole c =
-    patterns_pushed (λ p. pattern_of p.tree) c.args.list.items c.push.new.self.items c.args.last
+    patterns_pushed (λ p. pattern_of p.tree) c.args.list.items c.push.new.self.items c.args.last.now
     c.in_ok-push.ensures.items

@@ -6,7 +6,7 @@ use Rattle.pp_parse_state.proofs.joining.unwind.Given as goal
 
 abbrev pub invariant-loop-stack : goal.invariant-loop-stack
 invariant-loop-stack l =
-    unwind l.tight (frames l.stack) (tree_of l.operand.tree.tree) l.operand.holed ≡ unwind l.tight (frames l.fn.stack)
+    unwind l.tight (frames l.stack) (tree_of l.operand.tree.now.tree) l.operand.holed ≡ unwind l.tight (frames l.fn.stack)
     (tree_of l.fn.tree.tree) l.fn.holed
 
 abbrev pub decreases-loop-stack : goal.decreases-loop-stack

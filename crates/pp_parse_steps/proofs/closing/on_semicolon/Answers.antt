@@ -10,7 +10,7 @@ pub returns-in_default-frame : goal.returns-in_default-frame
 returns-in_default-frame c =
     let text = c.args.cx.now.text.now in
     let t = c.args.cx.now.token in
-    let e = tree_of c.args.tree.tree in
+    let e = tree_of c.args.tree.now.tree in
     let below = frames c.pop.new.self in
     let P : Move → Type 0 = λ m. Moves c.on_semi_above.result (frames c.on_semi_above.new.stack) m in
     let same : on_semicolon text t (frames c.args.stack.now) e ≡ on_semi text t (frame_of c.in-Some.frame ∷ below) e =
