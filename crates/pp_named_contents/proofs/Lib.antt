@@ -1,0 +1,12 @@
+pub mod Blocks
+pub mod GuardedNames
+pub mod Guarding
+pub mod Fields
+pub mod Alternatives
+pub mod Turns
+pub mod Going
+pub mod Fresh
+pub mod Blank
+pub mod Knowing
+pub mod Holdable
+pub mod Kept

@@ -1,0 +1,8 @@
+use Rattle.pp_named_contents.specs.Kept.{AreKeptTo, Keeps}
+use Rattle.pp_named_contents.proofs.keep.keep_symbols.Given as goal
+
+abbrev pub invariant-loop-place : goal.invariant-loop-place
+invariant-loop-place l = record {
+  keeps : Keeps l.circuit l.initial.trees l.trees;
+  kept : AreKeptTo l.trees.nodes l.place l.symbols;
+}

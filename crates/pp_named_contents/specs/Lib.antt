@@ -1,0 +1,6 @@
+pub mod Guarded
+pub mod Contents
+pub mod Fitting
+pub mod FreshContents
+pub mod Known
+pub mod Kept

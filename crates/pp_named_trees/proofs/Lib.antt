@@ -1,0 +1,5 @@
+pub mod Lawful
+pub mod Keeping
+pub mod Parts
+pub mod Answering
+pub mod Reading
