@@ -25,6 +25,9 @@ use Rattle.pp_named_trees.specs.Kept.{with_node}
 use Rattle.pp_named_trees.specs.Laws.{expansion_later, name_later, stands_agree}
 use Rattle.pp_named_trees.specs.Meaning.{IsUntouched, NamedFits, NamedMatches, named_sense}
 
+pub agree_back : (n : ℕ) (a b : ℕ → Bool) → AgreeUpTo n a b → AgreeUpTo n b a
+agree_back n a b h = record { agree = λ v low high. sym (h.agree v low high) }
+
 module _ (nodes : List Node) (x : Node) where
   pub kept_more : (t : NamedTree) → IsKept nodes t → IsKept (nodes ++ x ∷ []) t
   kept_more t is = record {
@@ -95,9 +98,6 @@ module _ (types : TypeTable) (d : NamedTrees) (gs hs : List Gate) (k : ℕ) (x :
         record { agree = old.agree; order = old.order };
   }
 
-  agree_back : (a b : ℕ → Bool) → AgreeUpTo (length gs) a b → AgreeUpTo (length gs) b a
-  agree_back a b h = record { agree = λ v low high. sym (h.agree v low high) }
-
   pub Moves_kept : Moves named_sense types d gs (with_node d x) hs k
   Moves_kept = record {
     grows = grows;
@@ -110,7 +110,7 @@ module _ (types : TypeTable) (d : NamedTrees) (gs hs : List Gate) (k : ℕ) (x :
     };
     stands = λ n a b t v node agree. (
       λ s. stands_agree gs a b agree n d.nodes fits.nodes t v node s,
-      λ s. stands_agree gs b a (agree_back a b agree) n d.nodes fits.nodes t v node s,
+      λ s. stands_agree gs b a (agree_back (length gs) a b agree) n d.nodes fits.nodes t v node s,
     );
     back = λ n a good. record {
       gates = Gives_old gs hs k grows a good.gates;

@@ -1,0 +1,4 @@
+pub mod Tests
+pub mod OrderTests
+pub mod Condition
+pub mod Levels
