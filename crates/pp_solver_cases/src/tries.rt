@@ -18,28 +18,32 @@ pub fn answer(alloc: Global, line: &str) -> Result<String> {
     match task {
         "log" => tried_text(alloc, text(alloc, field)?.as_str()),
         "accepts" => checked(alloc, rest, text(alloc, field)?.as_str()),
-        "solve" => kind(alloc, &Case::read(alloc, rest)?),
-        "lemmas" => counted(alloc, &Case::read(alloc, rest)?),
-        "model" => model(alloc, &Case::read(alloc, rest)?),
-        "last" => last(alloc, &Case::read(alloc, rest)?),
         "clause" => lists::clause(alloc, rest),
         "chain" => lists::chain(alloc, rest),
         "holds" => lists::holds(alloc, rest),
         "value" => lists::value(alloc, rest),
         "lit" => lists::literal(alloc, rest),
         "ascending" => lists::ascending(alloc, rest),
-        "copies" => lists::copies(alloc, &Case::read(alloc, rest)?.clauses),
         "ring" => check_steps(alloc, rest),
         "laws" => lists::state_laws(alloc),
         "evidence" => evidence(alloc, Case::read(alloc, rest)?),
-        "learn" => learning::learn(alloc, &Case::read(alloc, rest)?),
-        "refute" => learning::refute(alloc, &Case::read(alloc, rest)?),
         "values" => order(alloc, rest, field, Shown::Values),
         "steps" => order(alloc, rest, field, Shown::Steps),
-        "three" => Ok(format!(in alloc;
-            "{} right",
-            decided_lists(alloc, &Case::read(alloc, rest)?)?
-        )?),
+        other => answer_on(alloc, other, &Case::read(alloc, rest)?),
+    }
+}
+
+/// The answer to a task on a problem.
+fn answer_on(alloc: Global, task: &str, case: &Case) -> Result<String> {
+    match task {
+        "solve" => kind(alloc, case),
+        "lemmas" => counted(alloc, case),
+        "model" => model(alloc, case),
+        "last" => last(alloc, case),
+        "copies" => lists::copies(alloc, &case.clauses),
+        "learn" => learning::learn(alloc, case),
+        "refute" => learning::refute(alloc, case),
+        "three" => Ok(format!(in alloc; "{} right", decided_lists(alloc, case)?)?),
         _ => bail!("no such task"),
     }
 }
