@@ -3,8 +3,8 @@
 //! Under an assignment that gives each gate its value a list stands for the natural number of which its literals are
 //! the binary digits (`nat_of` of `pp_bits`). Each contract says what the answer stands for, how many gates come
 //! after the old ones at most, also where memory ends (`NoMemory`), and that no input comes in. The gates of the last
-//! column are counted by the program `pp_bits_tables`, which makes each call; `pp_wordgate_tables` shows that a
-//! second call on the same operands adds none.
+//! column are counted by the program `pp_circuit_cases`, which makes each call, and shows that a second call on the
+//! same operands adds none.
 //!
 //! | Call | For a of n digits and d of m | Gates at most | Over 32 fresh inputs each |
 //! |---|---|---|---|

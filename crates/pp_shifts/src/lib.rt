@@ -3,7 +3,7 @@
 //! The distance is a list of literals too, so it may be any number. A shift is one stage for each digit of the
 //! distance: stage i moves by 2^i places where that digit is true, which takes at most one gate for each literal, and
 //! none where the digit is constant. (own; the barrel shifter of the textbooks) `sign` is the digit that an
-//! arithmetic shift fills in. The program `pp_bits_tables` makes each call.
+//! arithmetic shift fills in. The program `pp_circuit_cases` makes each call.
 #![tactic(auto)]
 
 mod moves;

@@ -7,7 +7,7 @@
 //! do nothing: their contracts tie the two, at each width, and the check proves them.
 //!
 //! No call takes memory, and none refuses anything but a divisor of 0. How a value is computed may change freely. The
-//! program `pp_word_tables` has their values on a JVM.
+//! program `pp_circuit_cases` has their values on a JVM.
 #![tactic(auto)]
 
 mod bits;

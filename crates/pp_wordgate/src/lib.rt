@@ -4,7 +4,7 @@
 //! complement (`word_of` of `specs/Meaning.antt`), and what a call answers stands for what the operation of the same
 //! name makes of the integers of its words. Each call may add as many gates as its budget allows, and no input; where
 //! it ends in `NoMemory` it may leave some of them, and the old ones stay as they were. The program
-//! `pp_wordgate_tables` shows that constants fold, and that a second call on the same words adds nothing.
+//! `pp_circuit_cases` shows that constants fold, and that a second call on the same words adds nothing.
 //!
 //! | Call | Budget | Gates over fresh inputs |
 //! |---|---|---|
