@@ -34,13 +34,13 @@ struct Sizes {
 /// Prints the sizes of what the words ask for.
 pub fn print_sizes(rt: &HostRuntime, words: &str) -> Result<()> {
     let (path, numbers) = words.split_once(' ').context("a source")?;
-    let sizes = sizes(numbers)?;
+    let sizes = read_sizes(numbers)?;
     let source = fs::read_to_string(rt, path)?;
     print_source(rt, rt.alloc(), source.as_str(), sizes)
 }
 
 /// The sizes that the numbers spell.
-fn sizes(numbers: &str) -> Result<Sizes>
+fn read_sizes(numbers: &str) -> Result<Sizes>
     ensures round { IfOk result (λ sizes. sizes.round ≤ 12) }
     ensures depth { IfOk result (λ sizes. (1 ≤ sizes.depth) × (sizes.depth ≤ 6)) }
 {
