@@ -28,6 +28,8 @@ mod OperatorSorts
 mod Sorting
 pub mod RoundsSorted
 mod SolvedSorted
+mod NeverStuck
 pub mod Existing
 pub mod SortedValues
 pub mod Laws
+pub mod SecondHalf

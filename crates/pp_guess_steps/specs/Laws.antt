@@ -209,3 +209,17 @@ WholeGuessesAnswer =
     → (full : ℕ → CallMeaning) → ((wait : ℕ) → Completes (answered functions mine wait) (full wait))
     → AreWhole ctors functions f check ρ args calls full
     → run_with (own ctors functions (answers_left ρ calls n) check n) f args ≡ Err (Fails check))
+
+-- Values that obey all steps but the open calls, have the sorts of their steps, and for which the check fails and all
+-- that is supposed is true, are those of a run that fails the check, over the answers of the calls that no round
+-- unfolds.
+abbrev pub GuessesAnswer : Type 0
+GuessesAnswer =
+    (p : Program) (i : ℕ) (f : Function) (args : List Value) → IsCalled p i f args → (check : CheckId) (n : ℕ)
+    (field : CtorId → ℕ → Value) (ρ : Values)
+    → (run : HaveGuessSorts p.types (guess_steps p.functions f check n) (param_sorts f.params))
+    → (let g = guess_steps p.functions f check n in
+    let calls = standing 0 g.steps in
+    ((k : ℕ) → k < length g.steps → IsTrue (has_sort p.types.ctors (ρ k) (run.sorts k)))
+    → ObeysRest p.types.ctors (own_world field ρ calls) ρ 0 g.steps → AreValues ρ g.arguments args → IsSupposed ρ g
+    → run_with (own p.types.ctors p.functions (answers_left ρ calls n) check n) f args ≡ Err (Fails check))

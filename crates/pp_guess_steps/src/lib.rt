@@ -4,8 +4,9 @@
 //! nothing: its contract is the law.
 #![tactic(auto)]
 
-ghost use Rattle.pp_guess_steps.specs.Laws.{GuessesAreSorted, GuessesExist, GuessesRead, GuessesSuppose, GuessesTell};
-ghost use Rattle.pp_guess_steps.specs.Laws.{SortedGuessesExist, SupposedAgree, WholeGuessesAnswer};
+ghost use Rattle.pp_guess_steps.specs.Laws.{GuessesAnswer, GuessesAreSorted, GuessesExist, GuessesRead};
+ghost use Rattle.pp_guess_steps.specs.Laws.{GuessesSuppose, GuessesTell, SortedGuessesExist, SupposedAgree};
+ghost use Rattle.pp_guess_steps.specs.Laws.{WholeGuessesAnswer};
 
 /// On all arguments of the parameters' sorts some values obey the steps of a guess run, whatever its open calls are
 /// answered: by a table, by what is true, or not at all. It does nothing: its contract is the law.
@@ -54,4 +55,11 @@ pub fn supposed_agree()
 /// completed answers is neither too deep nor stuck. It does nothing: its contract is the law.
 pub fn whole_guesses_answer()
     ensures { WholeGuessesAnswer }
+{}
+
+/// Values that obey all steps but the open calls and have the sorts of their steps, for which the check fails and all
+/// that is supposed is true, are those of a run that fails the check over the answers of the calls that no round
+/// unfolds. It does nothing: its contract is the law.
+pub fn guesses_answer()
+    ensures { GuessesAnswer }
 {}
