@@ -24,6 +24,9 @@ OwnStop (stop.Inner g c) = ⊥
 OwnStop stop.Deep = ⊥
 OwnStop stop.Stuck = ⊥
 
+pub own_inner : (g : FunctionId) (c : CheckId) → OwnStop (stop.Inner g c) → OwnStop (stop.Fails c)
+own_inner g c h = tt
+
 any_closed : IsClosed AnyStop
 any_closed = record { fails = λ c. tt; stuck = tt }
 

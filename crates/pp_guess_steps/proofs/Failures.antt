@@ -13,7 +13,7 @@ use Rattle.pp_eval.specs.Part.{Part}
 use Rattle.pp_eval.specs.Runs.{run_with}
 use Rattle.pp_eval.proofs.Extends.{same_extends}
 use Rattle.pp_guess_runs.specs.Answers.{Answers}
-use Rattle.pp_guess_runs.specs.Guess.{one_less, own}
+use Rattle.pp_guess_runs.specs.Guess.{called, one_less, own}
 use Rattle.pp_steps.specs.declared.step.Step.{Step}
 use Rattle.pp_steps.specs.Guesses.{guess_steps}
 use Rattle.pp_steps.specs.Meaning.{Obeys, Values}
@@ -24,6 +24,7 @@ use Rattle.pp_guess_steps.proofs.Ties.{ans_keeps}
 use Rattle.pp_guess_steps.specs.OpenCalls.{answered, own_answered, world}
 use Rattle.pp_guess_steps.proofs.OwnFrame.{A, F, base, base_of, fails_is, fails_told, looked_is}
 use Rattle.pp_guess_steps.proofs.Rounds.{Paired, agreement_on, grown_on, less_before, less_than, unfolded_steps}
+use Rattle.pp_guess_steps.proofs.ByValues.{OwnStop, own_inner}
 use Rattle.pp_guess_steps.proofs.RunsKeep.{CallsKeep, Keeps, own_keep, run_keeps}
 
 minus_one : (n : ℕ) → suc n - 1 ≡ n
@@ -42,7 +43,7 @@ failing c = Err (stop.Fails c)
 fails_lasts : (p : Part Outcome) (c : CheckId) → p ≡ failing c → Lasts p
 fails_lasts p c e = subst Lasts (sym e) (record { lasts = λ d. absurd (cc); meant = λ d. absurd (cc) })
 
-kept_fails : (p q : Part Outcome) (c : CheckId) → Keeps p q → p ≡ failing c → q ≡ failing c
+kept_fails : (p q : Part Outcome) (c : CheckId) → Keeps OwnStop own_inner p q → p ≡ failing c → q ≡ failing c
 kept_fails (Ok o) q c h e = cc
 kept_fails (Err (stop.Fails d)) q c h e = h.1 tt ∙ e
 kept_fails (Err (stop.Inner g d)) q c h e = cc
@@ -54,8 +55,9 @@ module _ (ctors : List Ctor) (functions : List Function) (W : Answers) (field : 
   abbrev Own : CallMeaning
   Own = own_answered ctors functions (world functions W field N) c
 
-  own_keeps : CallsKeep (own ctors functions W c N) Own
-  own_keeps frame g pre down args = own_keep ctors functions W c N
+  own_keeps : CallsKeep OwnStop own_inner (own ctors functions W c N) Own
+  own_keeps frame g pre down args = own_keep OwnStop own_inner ctors functions c
+      (called functions W (one_less N)) (called functions W N)
       (answered functions (world functions W field N) 1)
       (answered functions (world functions W field N) 0)
       (ans_keeps ctors functions W field N ρ 1 (one_less N) (pred_is N))
@@ -63,7 +65,7 @@ module _ (ctors : List Ctor) (functions : List Function) (W : Answers) (field : 
 
   module _ (f : Function) (args : List Value) (wrong : run_with (own ctors functions W c N) f args ≡ failing c) where
     fails_too : run_with Own f args ≡ failing c
-    fails_too = kept_fails _ _ c (run_keeps (own ctors functions W c N) Own own_keeps f args) wrong
+    fails_too = kept_fails _ _ c (run_keeps OwnStop own_inner (own ctors functions W c N) Own own_keeps f args) wrong
 
     abbrev pub Obeyed : List Step → Type 0
     Obeyed ss = Obeys ctors (world functions W field N) ρ 0 ss

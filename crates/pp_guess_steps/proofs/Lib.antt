@@ -29,6 +29,7 @@ mod Sorting
 pub mod RoundsSorted
 mod SolvedSorted
 mod NeverStuck
+mod SortedCalls
 pub mod Existing
 pub mod SortedValues
 pub mod Laws

@@ -34,7 +34,7 @@ use Rattle.pp_steps_run.proofs.Lasting.{Lasts, truth_is}
 use Rattle.pp_steps_run.proofs.Pieces.{bit_truth, made_left, made_right}
 use Rattle.pp_steps_run.proofs.Patterns.{are_more}
 use Rattle.pp_guess_steps.proofs.FuelsAgree.{unfolded_body}
-use Rattle.pp_guess_steps.proofs.ByValues.{called_never}
+use Rattle.pp_guess_steps.proofs.ByValues.{OwnStop, own_inner, called_never}
 use Rattle.pp_guess_steps.proofs.RunsKeep.{CallsKeep, Keeps, expr_keeps}
 use Rattle.pp_guess_steps.specs.OpenCalls.{answered, value_of}
 use Rattle.pp_guess_steps.specs.OpenCalls as specs
@@ -44,14 +44,14 @@ pub some_value : (p : Part Value) (v : Value) → value_of p ≡ Some v → p �
 some_value (Ok u) v e = let same : u ≡ v = cc in ap Ok same
 some_value (Err s) v e = cc
 
-keep_some : (p : Part Value) → ((c : CheckId) → p ≡ Err (stop.Fails c) → ⊥) → Keeps p (or_deep (value_of p))
+keep_some : (p : Part Value) → ((c : CheckId) → p ≡ Err (stop.Fails c) → ⊥) → Keeps OwnStop own_inner p (or_deep (value_of p))
 keep_some (Ok v) h = refl
 keep_some (Err (stop.Fails c)) h = absurd (h c refl)
 keep_some (Err (stop.Inner g c)) h = (tt, λ n. absurd n)
 keep_some (Err stop.Deep) h = (tt, λ n. absurd n)
 keep_some (Err stop.Stuck) h = (tt, λ n. absurd n)
 
-kept_ok : {A : Type 0} (p q : Part A) (a : A) → Keeps p q → p ≡ Ok a → q ≡ Ok a
+kept_ok : {A : Type 0} (p q : Part A) (a : A) → Keeps OwnStop own_inner p q → p ≡ Ok a → q ≡ Ok a
 kept_ok (Ok b) q a h e = h ∙ e
 kept_ok (Err s) q a h e = cc
 
@@ -98,9 +98,9 @@ module _ (ctors : List Ctor) (functions : List Function) (W : Answers) (field : 
   any_frame zero frame g pre down args = refl
   any_frame (suc n) frame g pre down args = refl
 
-  pub ans_keeps : (w m : ℕ) → N - w ≡ m → CallsKeep (called functions W m) (Ans w)
+  pub ans_keeps : (w m : ℕ) → N - w ≡ m → CallsKeep OwnStop own_inner (called functions W m) (Ans w)
   ans_keeps w m e frame g pre down args =
-      subst (λ p. Keeps p (or_deep (value_of (called functions W (N - w) None g None None args))))
+      subst (λ p. Keeps OwnStop own_inner p (or_deep (value_of (called functions W (N - w) None g None None args))))
       (sym (any_frame m frame g pre down args ∙ ap (λ n. called functions W n None g None None args) (sym e)))
       (keep_some (called functions W (N - w) None g None None args)
       (λ c. called_never functions W (N - w) None g None None args c))
@@ -187,7 +187,7 @@ module _ (ctors : List Ctor) (functions : List Function) (W : Answers) (field : 
       by true e = refl
       by false e = cc
 
-  holding_on : (w : ℕ) (calls : CallMeaning) → CallsKeep calls (Ans w) → (o : Option (CheckId × Expr)) (k : ℕ)
+  holding_on : (w : ℕ) (calls : CallMeaning) → CallsKeep OwnStop own_inner calls (Ans w) → (o : Option (CheckId × Expr)) (k : ℕ)
       (values : List ℕ) (reach : ℕ) → Made k (holding (asking functions w) o k values reach) → On ρ reach
       → (args : List Value) (v : Value) → AreValues ρ values (args ++ v ∷ []) → (u : Value) ×
       (held calls o args v ≡ Ok u)
@@ -197,7 +197,7 @@ module _ (ctors : List Ctor) (functions : List Function) (W : Answers) (field : 
       let t = held_true calls post args v p.0 p.1 in
       let x = compile None (asking functions w) post.1 k values reach in
       let y = demand false (after k x) x.alive x.out in
-      let is = kept_ok _ _ t.0 (expr_keeps calls (Ans w) keep post.1 None (args ++ v ∷ [])) t.1 in
+      let is = kept_ok _ _ t.0 (expr_keeps OwnStop own_inner calls (Ans w) keep post.1 None (args ++ v ∷ [])) t.1 in
       let told = told_value w post.1 k values reach (made_left ctors world ρ k x y h) (args ++ v ∷ []) on are t.0 is in
       (demand_on ctors world ρ false (after k x) x.alive x.out (made_right ctors world ρ k x y h) told.told.0
       (ap bit told.told.2 ∙ truth_bit t.0 t.2)).0
@@ -263,7 +263,7 @@ module _ (ctors : List Ctor) (functions : List Function) (W : Answers) (field : 
             subst (λ (o : Option Function). unfolded calls (W c.call.callee vs) o c.call.callee vs ≡ Ok u.0) here q in
             let parts = parts_of calls (W c.call.callee vs) f c.call.callee vs u.0 z in
             let keep = ans_keeps (suc c.call.wait) p.0 (less_one N c.call.wait p.0 p.1) in
-            let body = kept_ok _ _ u.0 (expr_keeps calls (Ans (suc c.call.wait)) keep f.body None vs) parts.body in
+            let body = kept_ok _ _ u.0 (expr_keeps OwnStop own_inner calls (Ans (suc c.call.wait)) keep f.body None vs) parts.body in
             let told = told_value (suc c.call.wait) f.body (after k P) c.call.args k
             (made_left ctors world ρ (after k P) X (joined E (joined D (joined Z I))) h1) vs on (values_at c.call.args)
             u.0 body in
