@@ -30,6 +30,7 @@ pub mod RoundsSorted
 mod SolvedSorted
 mod NeverStuck
 mod SortedCalls
+mod OwnTable
 pub mod Existing
 pub mod SortedValues
 pub mod Laws

@@ -73,7 +73,7 @@ module _ (p : Program) where
   U = Unit {0}
 
   -- the function is there, and the arguments have the parameters' sorts
-  abbrev is_known : Option Function → List Value → Bool
+  abbrev pub is_known : Option Function → List Value → Bool
   is_known None args = false
   is_known (Some f) args = have_sorts p.types.ctors args (param_sorts f.params)
 

@@ -24,7 +24,7 @@ use Rattle.pp_eval.specs.Operators.{truth}
 use Rattle.pp_eval.specs.Part.{Part, and_then}
 use Rattle.pp_eval.specs.Runs.{run_with}
 use Rattle.pp_sound.specs.Sound.{IsCalled}
-use Rattle.pp_guess_runs.specs.Answers.{Answering, answers_of}
+use Rattle.pp_guess_runs.specs.Answers.{Answering, Entry, IsTable, answers_of, table}
 use Rattle.pp_guess_runs.specs.Guess.{fails, guess, own}
 use Rattle.pp_steps.specs.declared.step.Step.{Step}
 use Rattle.pp_steps.specs.declared.step.Step.TheVariants as steps
@@ -34,7 +34,7 @@ use Rattle.pp_steps.specs.Meaning.{Does, Missing, Obeys, Values, bit}
 use Rattle.pp_steps.specs.Reads.{AllRead, Below}
 use Rattle.pp_steps_run.specs.Told.{AllOf, AreValues, On}
 use Rattle.pp_guess_steps.specs.OpenCalls.{answered, own_answered, own_calls, world}
-use Rattle.pp_guess_steps.specs.OwnWorld.{answers_left, own_world}
+use Rattle.pp_guess_steps.specs.OwnWorld.{answers_left, own_world, table_of}
 
 -- the values obey the steps of round n of the guess run of f for the check, on these arguments
 pub record IsGuess (ctors : List Ctor) (functions : List Function) (f : Function) (check : CheckId) (n : ℕ)
@@ -210,9 +210,15 @@ WholeGuessesAnswer =
     → AreWhole ctors functions f check ρ args calls full
     → run_with (own ctors functions (answers_left ρ calls n) check n) f args ≡ Err (Fails check))
 
+-- the table is one of the program, and the guess run over it fails the check
+pub record FailsOver (p : Program) (f : Function) (check : CheckId) (args : List Value) (n : ℕ)
+    (entries : List Entry) : Type 0 where
+  pub is_table : IsTable p entries
+  pub fails : guess p.types.ctors p.functions f check args n (table entries) ≡ fails
+
 -- Values that obey all steps but the open calls, have the sorts of their steps, and for which the check fails and all
--- that is supposed is true, are those of a run that fails the check, over the answers of the calls that no round
--- unfolds.
+-- that is supposed is true, are those of a guess run that fails the check, over a table: that of the answers of the
+-- calls that no round unfolds.
 abbrev pub GuessesAnswer : Type 0
 GuessesAnswer =
     (p : Program) (i : ℕ) (f : Function) (args : List Value) → IsCalled p i f args → (check : CheckId) (n : ℕ)
@@ -222,4 +228,4 @@ GuessesAnswer =
     let calls = standing 0 g.steps in
     ((k : ℕ) → k < length g.steps → IsTrue (has_sort p.types.ctors (ρ k) (run.sorts k)))
     → ObeysRest p.types.ctors (own_world field ρ calls) ρ 0 g.steps → AreValues ρ g.arguments args → IsSupposed ρ g
-    → run_with (own p.types.ctors p.functions (answers_left ρ calls n) check n) f args ≡ Err (Fails check))
+    → FailsOver p f check args n (table_of p.functions ρ n calls))

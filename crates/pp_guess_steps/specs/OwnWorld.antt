@@ -1,11 +1,13 @@
 -- The world of values themselves: an open call is answered by the first call like it that is reached and has an answer.
 -- Source: own.
-use Rattle.std.specs.Prelude.{ℕ, nat_eq, nat_le, Bool, ◌&&◌, if◌then◌else◌, List, [], ◌∷◌, map, Option, Some, None}
+use Rattle.std.specs.Prelude.{ℕ, nat_eq, nat_le, Bool, ◌&&◌, if◌then◌else◌, List, [], ◌∷◌, map, Option, Some, None, is_some}
+use Rattle.std.specs.Prelude.{slice_get}
+use Rattle.pp_prog.specs.declared.expr.Function.{Function}
 use Rattle.pp_prog.specs.declared.id.CtorId.{CtorId}
 use Rattle.pp_prog.specs.declared.id.FunctionId.{FunctionId}
 use Rattle.pp_prog.specs.declared.value.Value.{Value}
 use Rattle.pp_eval.specs.Equality.{equal, pass_all}
-use Rattle.pp_guess_runs.specs.Answers.{Answers}
+use Rattle.pp_guess_runs.specs.Answers.{Answers, Entry}
 use Rattle.pp_steps.specs.Guesses.{Standing}
 use Rattle.pp_steps.specs.Meaning.{Missing, Values, bit}
 
@@ -29,3 +31,17 @@ own_world field ρ calls = record {
 -- the answers of the calls that no round up to this one unfolds
 abbrev pub answers_left : Values → List Standing → ℕ → Answers
 answers_left ρ calls n g args = own_answer ρ calls (λ wait. nat_le n wait) g args
+
+-- whether the call is of a function, waits at least so long, is reached and has an answer
+abbrev pub is_entry : List Function → Values → ℕ → Standing → Bool
+is_entry functions ρ n c =
+    is_some (slice_get functions c.call.callee.0) && (nat_le n c.call.wait && (bit (ρ c.call.reach) && bit (ρ c.has)))
+
+abbrev pub entry_of : Values → Standing → Entry
+entry_of ρ c = record { function = c.call.callee; args = map ρ c.call.args; answer = ρ c.result }
+
+-- the table of these calls
+abbrev pub table_of : List Function → Values → ℕ → List Standing → List Entry
+table_of functions ρ n [] = []
+table_of functions ρ n (c ∷ cs) =
+    if is_entry functions ρ n c then entry_of ρ c ∷ table_of functions ρ n cs else table_of functions ρ n cs
