@@ -28,6 +28,7 @@ mod OperatorSorts
 mod Sorting
 pub mod RoundsSorted
 mod SolvedSorted
+pub mod WorldSorts
 mod NeverStuck
 mod SortedCalls
 mod OwnTable

@@ -1,4 +1,5 @@
--- Over completed answers nothing that a guess run evaluates is too deep or stuck, in a program whose functions are sorted.
+-- Over completed answers nothing that a guess run evaluates is too deep or stuck, in a program whose functions are
+-- sorted.
 use Rattle.std.proofs.Common.{◌≡◌, ◌≢◌, ℕ, true, List, [], ◌∷◌, ◌++◌, Option, Some, None, Ok, Err, refl, sym}
 use Rattle.std.proofs.Common.{slice_get, subst}
 use Rattle.pp_prog.specs.declared.expr.Expr.{Expr}

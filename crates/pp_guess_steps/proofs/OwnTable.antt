@@ -1,6 +1,6 @@
 -- The answers of the calls that no round unfolds are a table's, at calls of functions that there are.
-use Rattle.std.proofs.Common.{◌≡◌, ℕ, Bool, true, false, List, [], ◌∷◌, map, Option, Some, None, is_some, slice_get, refl}
-use Rattle.std.proofs.Common.{sym, ap, ◌∙◌, subst, Contains, ◌⊎◌, inl, inr}
+use Rattle.std.proofs.Common.{◌≡◌, ℕ, Bool, true, false, List, [], ◌∷◌, map, Option, Some, is_some, slice_get, refl}
+use Rattle.std.proofs.Common.{sym, ap, ◌∙◌, Contains, inl, inr}
 use Rattle.std.specs.Prelude.{nat_eq, nat_le, ◌&&◌, if◌then◌else◌}
 use Rattle.std.proofs.lemmas.Bool.{and_parts}
 use Rattle.pp_prog.specs.declared.expr.Function.{Function}
@@ -12,7 +12,7 @@ use Rattle.pp_guess_runs.specs.Answers.{Entry, answer_in, is_of}
 use Rattle.pp_steps.specs.Guesses.{Standing}
 use Rattle.pp_steps.specs.Meaning.{Values, bit}
 use Rattle.pp_steps_run.specs.Told.{On}
-use Rattle.pp_guess_steps.specs.OwnWorld.{answers_left, entry_of, is_entry, own_answer, table_of}
+use Rattle.pp_guess_steps.specs.OwnWorld.{answers_left, entry_of, is_entry, table_of}
 use Rattle.pp_guess_steps.proofs.Members.{at_tail, nothing_in}
 use Rattle.pp_guess_steps.proofs.OwnWorld.{same_function}
 
@@ -63,13 +63,16 @@ module _ (functions : List Function) (ρ : Values) (n : ℕ) where
       × EntryOf cs e c
   call_of [] e has = absurd (nothing_in e has)
   call_of (c ∷ cs) e has = by (is_entry functions ρ n c) refl has
-      (λ more. let d = call_of cs e more in (d.0, record {
-        there = at_tail c d.0 cs d.1.there;
-        function = d.1.function;
-        reach = d.1.reach;
-        has = d.1.has;
-        is = d.1.is;
-      }))
+      (λ more. let d = call_of cs e more in (
+        d.0,
+        record {
+          there = at_tail c d.0 cs d.1.there;
+          function = d.1.function;
+          reach = d.1.reach;
+          has = d.1.has;
+          is = d.1.is;
+        },
+      ))
     where
       by : (t : Bool) → is_entry functions ρ n c ≡ t
           → Contains (if t then entry_of ρ c ∷ table_of functions ρ n cs else table_of functions ρ n cs) e

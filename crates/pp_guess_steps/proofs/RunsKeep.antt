@@ -60,7 +60,8 @@ module _ (S : Stop → Type 0) (inner : (g : FunctionId) (c : CheckId) → S (st
   self n = omega arith
 
   module _ (c d : CallMeaning) (keep : CallsKeep c d) where
-    pub expr_keeps : (e : Expr) (frame : Frame) (env : List Value) → Keeps (meaning c e frame env) (meaning d e frame env)
+    pub expr_keeps : (e : Expr) (frame : Frame) (env : List Value)
+        → Keeps (meaning c e frame env) (meaning d e frame env)
     expr_keeps e frame env =
         let h : Follows AnyStop S (meaning c e frame env) (λ m. meaning d e frame env) =
         expr_follows AnyStop S any_closed c (λ m. d) frame frame e
@@ -76,7 +77,8 @@ module _ (S : Stop → Type 0) (inner : (g : FunctionId) (c : CheckId) → S (st
     list_keeps : (es : List Expr) (done : List Value) (args : List Value)
         → Keeps (all_from done (map (meaning c) es) None args) (all_from done (map (meaning d) es) None args)
     list_keeps [] done args = refl
-    list_keeps (e ∷ es) done args = keep_then (meaning c e None args) (meaning d e None args) _ _ (expr_keeps e None args)
+    list_keeps (e ∷ es) done args = keep_then (meaning c e None args) (meaning d e None args) _ _
+        (expr_keeps e None args)
         (λ v. list_keeps es (done ++ v ∷ []) args)
 
     frame_keeps : (es : List Expr) (args : List Value) → Keeps (frame_of c es args) (frame_of d es args)
@@ -100,7 +102,8 @@ module _ (S : Stop → Type 0) (inner : (g : FunctionId) (c : CheckId) → S (st
     started_keeps : (f : Function) (args : List Value) → Keeps (started c f args) (started d f args)
     started_keeps f args = keep_then (frame_of c f.measure args) (frame_of d f.measure args) _ _
         (frame_keeps f.measure args)
-        (λ frame. keep_then (meaning c f.body frame args) (meaning d f.body frame args) _ _ (expr_keeps f.body frame args)
+        (λ frame. keep_then (meaning c f.body frame args) (meaning d f.body frame args) _ _
+        (expr_keeps f.body frame args)
         (λ v. finished_keeps f.post frame args v))
 
     -- a run keeps its end and the failure of an own check

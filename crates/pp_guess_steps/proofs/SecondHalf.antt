@@ -138,10 +138,10 @@ module _ (p : Program) (i : ℕ) (f : Function) (args : List Value) (called : Is
     (n : ℕ) (field : CtorId → ℕ → Value) (ρ : Values)
     (run : HaveGuessSorts p.types (guess_steps p.functions f check n) (param_sorts f.params))
     (sorted : (k : ℕ) → k < length (guess_steps p.functions f check n).steps
-        → IsTrue (has_sort p.types.ctors (ρ k) (run.sorts k)))
+    → IsTrue (has_sort p.types.ctors (ρ k) (run.sorts k)))
     (rest : ObeysRest p.types.ctors
-        (own_world field ρ (standing 0 (guess_steps p.functions f check n).steps)) ρ 0
-        (guess_steps p.functions f check n).steps)
+    (own_world field ρ (standing 0 (guess_steps p.functions f check n).steps)) ρ 0
+    (guess_steps p.functions f check n).steps)
     (are : AreValues ρ (guess_steps p.functions f check n).arguments args)
     (supposed : IsSupposed ρ (guess_steps p.functions f check n)) where
   abbrev All : List Standing

@@ -1,6 +1,6 @@
 -- A guess run depends only on the answers to calls of functions on arguments of the parameters' sorts: in a program
 -- whose functions are sorted no others are made.
-use Rattle.std.proofs.Common.{◌≡◌, ℕ, zero, suc, Bool, true, false, List, [], ◌∷◌, ◌++◌, map, Option, Some, None, Ok, Err}
+use Rattle.std.proofs.Common.{◌≡◌, ℕ, zero, suc, Bool, true, false, List, [], ◌∷◌, ◌++◌, Option, Some, None, Ok, Err}
 use Rattle.std.proofs.Common.{refl, sym, ap, ◌∙◌, subst, slice_get}
 use Rattle.std.specs.Prelude.{if◌then◌else◌}
 use Rattle.pp_prog.specs.declared.expr.Expr.{Expr}
@@ -21,7 +21,7 @@ use Rattle.pp_eval.specs.Operators.{truth}
 use Rattle.pp_eval.specs.Part.{Part, and_then, either, inside}
 use Rattle.pp_eval.specs.Runs.{run_with}
 use Rattle.pp_sound.specs.Sound.{IsCalled}
-use Rattle.pp_sound.proofs.Calls.{condition_fine, whole}
+use Rattle.pp_sound.proofs.Calls.{whole}
 use Rattle.pp_sound.proofs.Exprs.{AreGood, expr_sound}
 use Rattle.pp_sound.proofs.Parts.{IsFine, IsSorted, MayStop}
 use Rattle.pp_sound.proofs.Runs.{run_fine}
@@ -34,7 +34,7 @@ use Rattle.pp_guess_runs.proofs.OwnCalls.{own_calls_good}
 use Rattle.pp_guess_runs.proofs.Sorted.{called_good}
 use Rattle.pp_guess_steps.specs.OpenCalls.{own_calls}
 use Rattle.pp_guess_steps.proofs.FuelsAgree.{AnyStop}
-use Rattle.pp_guess_steps.proofs.RunsKeep.{CallsKeep, Keeps, expr_keeps, own_keep, run_keeps}
+use Rattle.pp_guess_steps.proofs.RunsKeep.{CallsKeep, expr_keeps, own_keep, run_keeps}
 
 -- each stop but a part that has no meaning
 abbrev Meant : Stop → Type 0
@@ -109,7 +109,7 @@ module _ (p : Program) where
 
   module _ (W : Answers) (T : Answering) (answering : IsAnswering p T)
       (same : (g : FunctionId) (args : List Value) → is_known (slice_get p.functions g.0) args ≡ true
-          → W g args ≡ answers_of p.types.ctors p.functions T g args) where
+      → W g args ≡ answers_of p.types.ctors p.functions T g args) where
     abbrev V : Answers
     V = answers_of p.types.ctors p.functions T
 
@@ -126,9 +126,9 @@ module _ (p : Program) where
         ≡ meaning (known (Second n)) e None args)
     expr_same n i alike e args fine = (
       kept_same p i _ _ fine (expr_keeps Meant meant_inner (known (Second n)) (First n)
-      (known_keeps (Second n) (First n) alike) e None args),
+          (known_keeps (Second n) (First n) alike) e None args),
       kept_same p i _ _ fine (expr_keeps Meant meant_inner (known (Second n)) (Second n)
-      (known_keeps (Second n) (Second n) (itself (Second n))) e None args),
+          (known_keeps (Second n) (Second n) (itself (Second n))) e None args),
     )
 
     good : (n i : ℕ) → AreGood p U i (known (Second n))

@@ -44,7 +44,8 @@ pub some_value : (p : Part Value) (v : Value) → value_of p ≡ Some v → p �
 some_value (Ok u) v e = let same : u ≡ v = cc in ap Ok same
 some_value (Err s) v e = cc
 
-keep_some : (p : Part Value) → ((c : CheckId) → p ≡ Err (stop.Fails c) → ⊥) → Keeps OwnStop own_inner p (or_deep (value_of p))
+keep_some : (p : Part Value) → ((c : CheckId) → p ≡ Err (stop.Fails c) → ⊥)
+    → Keeps OwnStop own_inner p (or_deep (value_of p))
 keep_some (Ok v) h = refl
 keep_some (Err (stop.Fails c)) h = absurd (h c refl)
 keep_some (Err (stop.Inner g c)) h = (tt, λ n. absurd n)
@@ -187,7 +188,8 @@ module _ (ctors : List Ctor) (functions : List Function) (W : Answers) (field : 
       by true e = refl
       by false e = cc
 
-  holding_on : (w : ℕ) (calls : CallMeaning) → CallsKeep OwnStop own_inner calls (Ans w) → (o : Option (CheckId × Expr)) (k : ℕ)
+  holding_on : (w : ℕ) (calls : CallMeaning) → CallsKeep OwnStop own_inner calls (Ans w)
+      → (o : Option (CheckId × Expr)) (k : ℕ)
       (values : List ℕ) (reach : ℕ) → Made k (holding (asking functions w) o k values reach) → On ρ reach
       → (args : List Value) (v : Value) → AreValues ρ values (args ++ v ∷ []) → (u : Value) ×
       (held calls o args v ≡ Ok u)
@@ -263,7 +265,8 @@ module _ (ctors : List Ctor) (functions : List Function) (W : Answers) (field : 
             subst (λ (o : Option Function). unfolded calls (W c.call.callee vs) o c.call.callee vs ≡ Ok u.0) here q in
             let parts = parts_of calls (W c.call.callee vs) f c.call.callee vs u.0 z in
             let keep = ans_keeps (suc c.call.wait) p.0 (less_one N c.call.wait p.0 p.1) in
-            let body = kept_ok _ _ u.0 (expr_keeps OwnStop own_inner calls (Ans (suc c.call.wait)) keep f.body None vs) parts.body in
+            let body = kept_ok _ _ u.0 (expr_keeps OwnStop own_inner calls (Ans (suc c.call.wait)) keep f.body None vs)
+            parts.body in
             let told = told_value (suc c.call.wait) f.body (after k P) c.call.args k
             (made_left ctors world ρ (after k P) X (joined E (joined D (joined Z I))) h1) vs on (values_at c.call.args)
             u.0 body in

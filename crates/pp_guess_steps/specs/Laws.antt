@@ -24,7 +24,7 @@ use Rattle.pp_eval.specs.Operators.{truth}
 use Rattle.pp_eval.specs.Part.{Part, and_then}
 use Rattle.pp_eval.specs.Runs.{run_with}
 use Rattle.pp_sound.specs.Sound.{IsCalled}
-use Rattle.pp_guess_runs.specs.Answers.{Answering, Entry, IsTable, answers_of, table}
+use Rattle.pp_guess_runs.specs.Answers.{Answering, Entry, IsAnswering, IsTable, answers_of, table}
 use Rattle.pp_guess_runs.specs.Guess.{fails, guess, own}
 use Rattle.pp_steps.specs.declared.step.Step.{Step}
 use Rattle.pp_steps.specs.declared.step.Step.TheVariants as steps
@@ -86,6 +86,12 @@ AnswersHaveSorts types functions missing =
     → missing.answer wait g (params_of (slice_get functions g.0)) (result_of (slice_get functions g.0)) args ≡ Some v
     → IsTrue (have_sorts types.ctors args (params_of (slice_get functions g.0)))
     → IsTrue (has_sort types.ctors v (result_of (slice_get functions g.0)))
+
+-- those of a guess run have
+abbrev pub GuessesAnswerSorted : Type 0
+GuessesAnswerSorted =
+    (p : Program) (W : Answering) → IsAnswering p W → (field : CtorId → ℕ → Value) (n : ℕ)
+    → AnswersHaveSorts p.types p.functions (world p.functions (answers_of p.types.ctors p.functions W) field n)
 
 -- values that obey the steps and have their sorts
 pub record IsSortedGuess (p : Program) (f : Function) (check : CheckId) (n : ℕ) (missing : Missing) (args : List Value)

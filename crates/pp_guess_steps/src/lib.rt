@@ -4,9 +4,9 @@
 //! nothing: its contract is the law.
 #![tactic(auto)]
 
-ghost use Rattle.pp_guess_steps.specs.Laws.{GuessesAnswer, GuessesAreSorted, GuessesExist, GuessesRead};
-ghost use Rattle.pp_guess_steps.specs.Laws.{GuessesSuppose, GuessesTell, SortedGuessesExist, SupposedAgree};
-ghost use Rattle.pp_guess_steps.specs.Laws.{WholeGuessesAnswer};
+ghost use Rattle.pp_guess_steps.specs.Laws.{GuessesAnswer, GuessesAnswerSorted, GuessesAreSorted};
+ghost use Rattle.pp_guess_steps.specs.Laws.{GuessesExist, GuessesRead, GuessesSuppose, GuessesTell};
+ghost use Rattle.pp_guess_steps.specs.Laws.{SortedGuessesExist, SupposedAgree, WholeGuessesAnswer};
 
 /// On all arguments of the parameters' sorts some values obey the steps of a guess run, whatever its open calls are
 /// answered: by a table, by what is true, or not at all. It does nothing: its contract is the law.
@@ -62,4 +62,10 @@ pub fn whole_guesses_answer()
 /// unfolds. It does nothing: its contract is the law.
 pub fn guesses_answer()
     ensures { GuessesAnswer }
+{}
+
+/// In the world of a guess run answers to calls on arguments of the parameters' sorts have the results' sorts. It does
+/// nothing: its contract is the law.
+pub fn guesses_answer_sorted()
+    ensures { GuessesAnswerSorted }
 {}
