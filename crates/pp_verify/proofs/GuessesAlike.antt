@@ -62,7 +62,8 @@ module _ (c d : CallMeaning) (f : Function) (same : SameAt (function_calls f) c 
 module _ (ctors : List Ctor) (fs : List Function) (W : Answers) (check : CheckId) where
   abbrev AreSame : CallMeaning → CallMeaning → FunctionId → Type 0
   AreSame c d g =
-      (frame : Frame) (pre down : Option CheckId) (args : List Value) → c frame g pre down args ≡ d frame g pre down args
+      (frame : Frame) (pre down : Option CheckId) (args : List Value)
+      → c frame g pre down args ≡ d frame g pre down args
 
   -- where calls do the same at each function of a list
   at_callees : (g : FunctionId) (f : Function) (c d : CallMeaning) → slice_get fs g.0 ≡ Some f
@@ -109,7 +110,8 @@ module _ (ctors : List Ctor) (fs : List Function) (W : Answers) (check : CheckId
   own_same n g nests =
       own_call_same (slice_get fs g.0) g (called fs W n) (called fs W (suc n)) (called fs W (suc n))
       (called fs W (suc (suc n)))
-      (λ f is. at_callees g f (called fs W n) (called fs W (suc n)) is (contract_same n g nests)) (called_same n g nests)
+      (λ f is. at_callees g f (called fs W n) (called fs W (suc n)) is (contract_same n g nests))
+      (called_same n g nests)
 
   -- so the guess run of a function whose call tree is at most n deep is the same in the next round
   run_same_after : (n i : ℕ) (f : Function) → slice_get fs i ≡ Some f → Nests (call_table fs) n i → (args : List Value)

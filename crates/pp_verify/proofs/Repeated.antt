@@ -30,7 +30,8 @@ repeated_are_alike p i n nests c d = record { runs = (later, sooner); guesses = 
 
     guesses : NoGuessFails p i c n → NoGuessFails p i c (suc n)
     guesses none f args called W is fails =
-        none f args called W is (guess_same_after p.types.ctors p.functions n i f called.function nests c args W ∙ fails)
+        none f args called W is
+        (guess_same_after p.types.ctors p.functions n i f called.function nests c args W ∙ fails)
 
     back : NoGuessFails p i c (suc n) → NoGuessFails p i c n
     back none f args called W is fails =

@@ -4,8 +4,8 @@
 //! asked number of gates; it searches for arguments that fail the check (`pp_query`); it ends the check where the
 //! check's function is closed; and else it looks for a proof (`pp_query`). A round whose runs are those of the round
 //! before, since no call was left to unfold there, isn't searched again: it has the same guess runs too
-//! (`repeated_are_alike`). The ends of all checks give the verdicts (`pp_induct`), whose `specs/Reports` says what stands
-//! behind a report.
+//! (`repeated_are_alike`). The ends of all checks give the verdicts (`pp_induct`), whose `specs/Reports` says what
+//! stands behind a report.
 #![tactic(auto)]
 
 mod laws;
