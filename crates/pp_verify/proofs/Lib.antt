@@ -3,3 +3,4 @@ pub mod GuessesAlike
 pub mod Repeated
 pub mod RoundEnds
 pub mod ProofEnds
+mod KnownSizes

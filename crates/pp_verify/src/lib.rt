@@ -11,6 +11,7 @@
 mod laws;
 mod progress;
 mod rounds;
+mod sizes;
 mod verifying;
 
 pub use laws::repeated_are_alike;

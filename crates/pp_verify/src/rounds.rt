@@ -1,22 +1,24 @@
 //! The rounds of a check.
 
-ghost use Rattle.std.specs.Prelude.{◌≡◌, IfOk};
+ghost use Rattle.std.specs.Prelude.{◌≡◌, IfOk, OnOk};
 ghost use Rattle.pp_checks.specs.Plan.{IsPlanOf};
 ghost use Rattle.pp_induct.specs.Reports.{AreLimits, IsBegun, IsEnd, IsSearchedTo};
 ghost use Rattle.pp_sound.specs.Sound.{IsCheckOf};
 ghost use Rattle.pp_verify.specs.Rounds.{HasCome, StepGives, TellsRepeated};
 ghost use Rattle.pp_verify.specs.Rounds as spec;
+ghost use Rattle.pp_verify.specs.Sizes.{AreSizes};
 
 use crate::NoMemory;
 use crate::progress::{Progress, Step};
+use crate::sizes::{Sizes, size_of};
 use pp_checks::Plan;
-use pp_estimate::estimate;
 use pp_induct::{CheckEnd, Limits, Why};
 use pp_prog::{CheckId, FunctionId, Program};
 use pp_query::{Found, Proof, prove, search};
 use std::alloc::Global;
 
-/// Works on a check of the function in rounds 0, 1 and so on, until a round ends it.
+/// Works on a check of the function in rounds 0, 1 and so on, until a round ends it. What is worked out of the sizes of
+/// the function's rounds serves its other checks too.
 pub(crate) fn end_of_check(
     alloc: Global,
     program: &Program,
@@ -24,11 +26,14 @@ pub(crate) fn end_of_check(
     function: FunctionId,
     check: CheckId,
     limits: Limits,
+    sizes: &mut Sizes,
 ) -> Result<CheckEnd, NoMemory>
     requires plan { IsPlanOf plan.now program.now }
     requires check { IsCheckOf program.now function.0 check.0 }
     requires limits { AreLimits limits }
-    ensures { IfOk result (λ end. IsEnd program.now limits function.0 check end) }
+    requires sizes { AreSizes program.now function.0 limits.depth sizes.old }
+    ensures end { IfOk result (λ end. IsEnd program.now limits function.0 check end) }
+    ensures sizes { OnOk result (AreSizes program.now function.0 limits.depth sizes.new) }
 {
     let mut progress = Progress {
         function,
@@ -36,7 +41,7 @@ pub(crate) fn end_of_check(
         round: 0,
     };
     loop {
-        match step(alloc, program, plan, limits, progress)? {
+        match step(alloc, program, plan, limits, progress, sizes)? {
             Step::Ended(end) => return Ok(end),
             Step::Next(next) => progress = next,
         }
@@ -51,14 +56,31 @@ fn step(
     plan: &Plan,
     limits: Limits,
     progress: Progress,
+    sizes: &mut Sizes,
 ) -> Result<Step, NoMemory>
     requires plan { IsPlanOf plan.now program.now }
     requires limits { AreLimits limits }
     requires come { HasCome program.now limits progress }
-    ensures { IfOk result (λ step. StepGives program.now limits progress step) }
+    requires sizes { AreSizes program.now progress.function.0 limits.depth sizes.old }
+    ensures step { IfOk result (λ step. StepGives program.now limits progress step) }
+    ensures sizes { OnOk result (AreSizes program.now progress.function.0 limits.depth sizes.new) }
 {
     let round = progress.round;
-    let size = estimate(alloc, program, plan, progress.check, round, limits.depth)?;
+    let Progress {
+        function,
+        check,
+        ..
+    } = progress;
+    let size = size_of(
+        alloc,
+        program,
+        plan,
+        function,
+        check,
+        round,
+        limits.depth,
+        sizes,
+    )?;
     if size > limits.gates {
         return Ok(Step::Ended(open_before(round, Why::Size)));
     }

@@ -10,7 +10,7 @@ use crate::rounds::end_of_check;
 use pp_checks::Plan;
 use pp_induct::{Ends, Limits, Report, conclude};
 use pp_list::Items;
-use pp_prog::{CheckId, Program};
+use pp_prog::{CheckId, FunctionId, Program};
 use std::alloc::Global;
 
 /// Works on each check within the limits, and gives each function its verdict. A function that is valid is good: every
@@ -46,9 +46,16 @@ fn ends_of_checks(
 {
     let checks = program.checks();
     let mut ends = Items::new(alloc);
+    let mut owner = FunctionId(0);
+    let mut sizes = Items::new(alloc);
     for c in 0..checks.len() {
         let function = checks[c].function;
-        ends.push(end_of_check(alloc, program, plan, function, CheckId(c as u32), limits)?)?;
+        if function != owner {
+            sizes = Items::new(alloc);
+        }
+        owner = function;
+        let check = CheckId(c as u32);
+        ends.push(end_of_check(alloc, program, plan, function, check, limits, &mut sizes)?)?;
     }
     Ok(ends)
 }

@@ -4,8 +4,8 @@ use Rattle.pp_verify.proofs.ProofEnds.{after_gives}
 use Rattle.pp_verify.proofs.RoundEnds.{repeated_is_searched}
 use Rattle.pp_verify.proofs.rounds.step.Goals as goal
 
-pub returns-then-is_repeated : goal.returns-then-is_repeated
-returns-then-is_repeated c =
+pub returns-then-is_repeated-clause-step : goal.returns-then-is_repeated-clause-step
+returns-then-is_repeated-clause-step c =
     let progress = c.args.progress in
     let within = owner_within c.args.program.now progress.function.0 progress.check.0 c.requires.come.own in
     rw c.after.ensures
@@ -13,6 +13,6 @@ returns-then-is_repeated c =
     (repeated_is_searched progress.round c.requires.come.before
     (record {
       round = c.requires.come.round;
-      size = subst (λ (n : ℕ). n ≤ c.args.limits.gates) c.in_ok-size.ensures c.if-size-limits.false;
+      size = subst (λ (n : ℕ). n ≤ c.args.limits.gates) c.in_ok-size.ensures.size c.if-size-limits.false;
     })
     (c.is_repeated.ensures c.args.program.now c.requires.plan within c.if-is_repeated.true)))

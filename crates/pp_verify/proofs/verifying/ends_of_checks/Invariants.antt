@@ -1,5 +1,9 @@
+use Rattle.pp_verify.specs.Sizes.{AreSizes}
 use Rattle.pp_verify.proofs.Ends.{AreEndsTo}
 use Rattle.pp_verify.proofs.verifying.ends_of_checks.Given as goal
 
 abbrev pub invariant-loop-c : goal.invariant-loop-c
-invariant-loop-c l = AreEndsTo l.program l.limits l.c l.ends
+invariant-loop-c l = record {
+  ends : AreEndsTo l.program l.limits l.c l.ends;
+  sizes : AreSizes l.program l.owner.0 l.limits.depth l.sizes;
+}
