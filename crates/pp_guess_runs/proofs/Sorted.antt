@@ -131,7 +131,8 @@ module _ (p : Program) (W : Answering) (answering : IsAnswering p W) where
 
   pub own_good : (c : CheckId) (n i : ℕ) → AreGood p U i (own p.types.ctors p.functions answer c n)
   own_good c n i = record {
-    part = (own_calls_good p U (calls_of (one_less n)) (calls_of n) (called_good (one_less n)) (called_good n) c i).part;
+    part = (own_calls_good p U (calls_of (one_less n)) (calls_of n) (called_good (one_less n)) (called_good n) c
+        i).part;
   }
 
   -- ---- the value of a guess run

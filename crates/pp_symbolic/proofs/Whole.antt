@@ -113,7 +113,8 @@ module _ {D T : Type 0} (m : Sense D T) (law : Lawful m) (laws : StepLaws) (p : 
             let many = length (param_sorts f.params) in
             let folds = follows_folded p.types.ctors nothing_open (param_sorts f.params) (behind p f c round) asked
             steps_of_run ρ (steps_split p f c round) (laws.read p.functions f c round) obeys in
-            follows_more p.types.ctors nothing_open many asked name name steps_of_run (all_folded steps_of_run).steps new
+            follows_more p.types.ctors nothing_open many asked name name steps_of_run
+            (all_folded steps_of_run).steps new
             ρ folds
             (follows_pruned p.types.ctors nothing_open many name (all_folded steps_of_run).steps new folds.values
             pruned_run folds.obeys)
