@@ -16,8 +16,8 @@ use std::alloc::Global;
 /// The estimates of the first rounds of a function, as many as were asked for.
 pub(crate) type Sizes = Items<u64>;
 
-/// The estimate of a round of a check of the function. It isn't worked out again where it is known. The only error is
-/// want of memory, which leaves known what was.
+/// The estimate of a round of a check of the function, which isn't worked out again where it is known. The only error is
+/// want of memory.
 pub(crate) fn size_of(
     alloc: Global,
     program: &Program,
