@@ -32,18 +32,14 @@ use Rattle.pp_named_trees.specs.declared.arena.Node.{Node}
 use Rattle.pp_named_trees.specs.Arena.{AlternativeFits, FieldFits, FieldsFit, IsBlank}
 use Rattle.pp_named_trees.specs.Holding.{AlternativeHolds, SymbolHolds, SymbolsHold}
 use Rattle.pp_named_trees.specs.Meaning.{NamedFits, named_sense}
-
-abbrev pub lowered : ℕ → Symbol NamedTree → Symbol NamedTree
-lowered h (symbol.Word w) = symbol.Word w
-lowered h (symbol.Bit l) = symbol.Bit l
-lowered h (symbol.Tree t) = symbol.Tree (record t { height = h })
+use Rattle.pp_named_trees.specs.Parts.{lowered}
 
 word_zero : (a : ℕ → Bool) (w : List Literal) → nat_of a w ≡ 0 → word_of w32 a w ≡ pos 0
 unfolding word_of
 word_zero a w e = ap (λ (n : ℕ). cast_signed w32 n) e
 
-module _ (gs : List Gate) (nodes : List Node) (e : NamedTrees) (a : ℕ → Bool) (n : Naming) where
-  field_there : (ss : List Sort) (xs : List (Symbol NamedTree)) (p : ℕ) (s : Sort) → FieldsFit gs nodes ss xs
+module _ (gs : List Gate) (nodes : List Node) where
+  pub field_there : (ss : List Sort) (xs : List (Symbol NamedTree)) (p : ℕ) (s : Sort) → FieldsFit gs nodes ss xs
       → slice_get ss p ≡ Some s → (q : Symbol NamedTree) × (slice_get xs p ≡ Some q) × FieldFits gs nodes s q
   field_there [] xs p s fits at = cc
   field_there (r ∷ ss) (x ∷ xs) zero s fits at =
@@ -51,6 +47,7 @@ module _ (gs : List Gate) (nodes : List Node) (e : NamedTrees) (a : ℕ → Bool
   field_there (r ∷ ss) (x ∷ xs) (suc p) s fits at = field_there ss xs p s fits.1 at
   field_there (r ∷ ss) [] p s fits at = absurd fits
 
+module _ (gs : List Gate) (nodes : List Node) (e : NamedTrees) (a : ℕ → Bool) (n : Naming) where
   held_there : (xs : List (Symbol NamedTree)) (vs : List Value) (p : ℕ) (q : Symbol NamedTree) (u : Value)
       → SymbolsHold a n xs vs → slice_get xs p ≡ Some q → slice_get vs p ≡ Some u → SymbolHolds a n q u
   held_there [] vs p q u are at to = cc

@@ -1,5 +1,5 @@
--- Symbols of literals of a circuit, whether or not their trees are kept. (own)
-use Rattle.std.specs.Prelude.{◌≡◌, List, [], ◌∷◌}
+-- Symbols of literals of a circuit, whether or not their trees are kept, and symbols at another height. (own)
+use Rattle.std.specs.Prelude.{◌≡◌, ℕ, List, [], ◌∷◌}
 use Rattle.pp_prog.specs.declared.sort.Sort.{Sort}
 use Rattle.pp_prog.specs.declared.sort.Sort.TheVariants as sort
 use Rattle.pp_gate.specs.declared.gate.Gate.{Gate}
@@ -22,3 +22,9 @@ module _ (gs : List Gate) where
   PartsFit [] [] = Unit {0}
   PartsFit (s ∷ ss) (x ∷ xs) = PartFits s x × PartsFit ss xs
   PartsFit _ _ = ⊥
+
+-- the symbol with this height, if it is a tree
+abbrev pub lowered : ℕ → Symbol NamedTree → Symbol NamedTree
+lowered h (symbol.Word w) = symbol.Word w
+lowered h (symbol.Bit l) = symbol.Bit l
+lowered h (symbol.Tree t) = symbol.Tree (record t { height = h })

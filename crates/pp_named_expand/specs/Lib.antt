@@ -1,0 +1,5 @@
+pub mod Entered
+pub mod Touched
+pub mod Prepared
+pub mod Looking
+pub mod Reads
