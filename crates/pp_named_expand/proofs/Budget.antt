@@ -33,6 +33,7 @@ use Rattle.pp_named_instances.specs.Levels.{ctor_level_gates, level_gates}
 use Rattle.pp_named_instances.specs.OrderTests.{before_gates, fields_before_gates}
 use Rattle.pp_named_instances.specs.Tests.{agreement_gates, agreements_gates, all_same_gates}
 use Rattle.pp_named_instances.specs.Tests.{contents_same_gates, same_gates}
+use Rattle.pp_named_expand.specs.Constructed.{known_gates}
 use Rattle.pp_named_expand.specs.Entered.{enter_gates}
 use Rattle.pp_named_expand.specs.Prepared.{prepare_gates}
 
@@ -169,10 +170,11 @@ looks_most y (z ∷ zs) most le =
 
 -- ---- the whole look
 
-pub look_room : (types : TypeTable) (gs : List Gate) (d e : NamedTrees) (y : Expansion)
+entry_most : (types : TypeTable) (gs : List Gate) (d e : NamedTrees) (y : Expansion)
     → ContentsFit gs types y.of y.alternatives → 1 ≤ length (ctors_of types y.of) → e.expansions ≡ d.expansions
-    → prepare_gates types y.of + enter_gates e y ≤ look_gates types (looked d.expansions) 0 y.of
-look_room types gs d e y fits some same =
+    → total ctor_level_gates (ctors_of types y.of) + fields_gates (ctors_of types y.of) + enter_gates e y + 158
+    + 8 * length (ctors_of types y.of) ≤ look_gates types (looked d.expansions) 0 y.of
+entry_most types gs d e y fits some same =
     let ks = ctors_of types y.of in
     let len : length y.alternatives ≡ length ks = fits.many ∙ sym (block_length types y.of fits.datatype fits.at) in
     let pairs = pairs_of types gs y.of y.alternatives fits in
@@ -183,6 +185,11 @@ look_room types gs d e y fits some same =
     let looks = looks_most y d.expansions (64 + 4 * flat types y.of) each in
     let t = ap (λ n. n * (64 + 4 * flat types y.of)) (times_reverse y.of (map data_of_look d.expansions)) in
     let s = ap (agreements_gates y) same in omega arith
+
+pub look_room : (types : TypeTable) (gs : List Gate) (d e : NamedTrees) (y : Expansion)
+    → ContentsFit gs types y.of y.alternatives → 1 ≤ length (ctors_of types y.of) → e.expansions ≡ d.expansions
+    → prepare_gates types y.of + enter_gates e y ≤ look_gates types (looked d.expansions) 0 y.of
+look_room types gs d e y fits some same = let all = entry_most types gs d e y fits some same in omega arith
 
 -- what comes in before the tree is entered is within it, too
 sort_most : (s : Sort) → level_gates s + part_gates s ≤ 8 * width s
@@ -201,4 +208,15 @@ blocks_most (k ∷ ks) = let one = sorts_most k.fields in let rest = blocks_most
 pub prepare_most : (types : TypeTable) (of : DataId) (looks : List DataId)
     → prepare_gates types of ≤ look_gates types looks 0 of
 prepare_most types of looks =
+    let one = blocks_most (ctors_of types of) in let f = flat_is types of in omega arith
+
+-- so is a new tree with a known constructor
+pub known_room : (types : TypeTable) (gs : List Gate) (d e : NamedTrees) (y : Expansion)
+    → ContentsFit gs types y.of y.alternatives → 1 ≤ length (ctors_of types y.of) → e.expansions ≡ d.expansions
+    → known_gates types y.of + enter_gates e y ≤ look_gates types (looked d.expansions) 0 y.of
+known_room types gs d e y fits some same = let all = entry_most types gs d e y fits some same in omega arith
+
+pub known_most : (types : TypeTable) (of : DataId) (looks : List DataId)
+    → known_gates types of ≤ look_gates types looks 0 of
+known_most types of looks =
     let one = blocks_most (ctors_of types of) in let f = flat_is types of in omega arith

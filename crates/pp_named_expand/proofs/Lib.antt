@@ -6,3 +6,5 @@ pub mod Preparing
 pub mod Budget
 pub mod Looks
 pub mod ReadTrees
+pub mod Constructing
+pub mod Constructs

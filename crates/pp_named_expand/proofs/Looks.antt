@@ -60,7 +60,7 @@ not_found ys t p is le x =
     let w = slice_get_within ys x.number x.expansion x.at in
     is.before x.number x.expansion (omega arith) x.at (ap (λ (d : DataId). d.0) x.of) x.name
 
-looked_pushed : (ys : List Expansion) (y : Expansion) → looked (ys ++ y ∷ []) ≡ y.of ∷ looked ys
+pub looked_pushed : (ys : List Expansion) (y : Expansion) → looked (ys ++ y ∷ []) ≡ y.of ∷ looked ys
 looked_pushed ys y =
     ap reverse (map-append data_of_look ys (y ∷ [])) ∙ reverse-append (map data_of_look ys) (y.of ∷ [])
 
@@ -79,7 +79,7 @@ sort_at gs (s ∷ ss) (x ∷ xs) zero t fits at =
 sort_at gs (s ∷ ss) (x ∷ xs) (suc p) t fits at = sort_at gs ss xs p t fits.1 at
 sort_at gs [] (x ∷ xs) p t fits at = absurd fits
 
-have_levels : (types : TypeTable) (gs : List Gate) (e : NamedTrees) (of : DataId) (name : List Literal)
+pub have_levels : (types : TypeTable) (gs : List Gate) (e : NamedTrees) (of : DataId) (name : List Literal)
     (xs : List Alternative) → ContentsFit gs types of xs → DataHasLevels types e.groups e.levels of
     → HaveLevels e.groups e.levels (record { of = of; name = name; alternatives = xs })
 have_levels types gs e of name xs fits levels = record {

@@ -3,3 +3,4 @@ pub mod Touched
 pub mod Prepared
 pub mod Looking
 pub mod Reads
+pub mod Constructed

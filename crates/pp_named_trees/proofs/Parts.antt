@@ -63,24 +63,24 @@ module _ (gs : List Gate) (a b : ℕ → Bool) (agree : AgreeUpTo (length gs) a 
   parts_agree ss (x ∷ xs) [] fits are = absurd are
 
 -- kept trees have names of the circuit
-module _ (gs : List Gate) (nodes : List Node) (named : (i : ℕ) (x : Node) → slice_get nodes i ≡ Some x → IsName gs x.name)
-  where
-    pub kept_named : (t : NamedTree) → IsKept nodes t → IsName gs t.name
-    kept_named t is = subst (λ l. IsName gs l) is.name (named is.number is.node is.at)
+module _ (gs : List Gate) (nodes : List Node)
+    (named : (i : ℕ) (x : Node) → slice_get nodes i ≡ Some x → IsName gs x.name) where
+  pub kept_named : (t : NamedTree) → IsKept nodes t → IsName gs t.name
+  kept_named t is = subst (λ l. IsName gs l) is.name (named is.number is.node is.at)
 
-    pub part_of_field : (s : Sort) (x : Symbol NamedTree) → FieldFits gs nodes s x → PartFits gs s x
-    part_of_field sort.Int (symbol.Word w) fits = record { len = fits.0; of = fits.1 }
-    part_of_field sort.Bool (symbol.Bit l) fits = fits
-    part_of_field (sort.Tree of) (symbol.Tree t) fits = (kept_named t fits.0, fits.1)
-    part_of_field sort.Int (symbol.Bit l) fits = absurd fits
-    part_of_field sort.Int (symbol.Tree t) fits = absurd fits
-    part_of_field sort.Bool (symbol.Word w) fits = absurd fits
-    part_of_field sort.Bool (symbol.Tree t) fits = absurd fits
-    part_of_field (sort.Tree of) (symbol.Word w) fits = absurd fits
-    part_of_field (sort.Tree of) (symbol.Bit l) fits = absurd fits
+  pub part_of_field : (s : Sort) (x : Symbol NamedTree) → FieldFits gs nodes s x → PartFits gs s x
+  part_of_field sort.Int (symbol.Word w) fits = record { len = fits.0; of = fits.1 }
+  part_of_field sort.Bool (symbol.Bit l) fits = fits
+  part_of_field (sort.Tree of) (symbol.Tree t) fits = (kept_named t fits.0, fits.1)
+  part_of_field sort.Int (symbol.Bit l) fits = absurd fits
+  part_of_field sort.Int (symbol.Tree t) fits = absurd fits
+  part_of_field sort.Bool (symbol.Word w) fits = absurd fits
+  part_of_field sort.Bool (symbol.Tree t) fits = absurd fits
+  part_of_field (sort.Tree of) (symbol.Word w) fits = absurd fits
+  part_of_field (sort.Tree of) (symbol.Bit l) fits = absurd fits
 
-    pub parts_of_fields : (ss : List Sort) (xs : List (Symbol NamedTree)) → FieldsFit gs nodes ss xs → PartsFit gs ss xs
-    parts_of_fields [] [] fits = tt
-    parts_of_fields (s ∷ ss) (x ∷ xs) fits = (part_of_field s x fits.0, parts_of_fields ss xs fits.1)
-    parts_of_fields [] (x ∷ xs) fits = absurd fits
-    parts_of_fields (s ∷ ss) [] fits = absurd fits
+  pub parts_of_fields : (ss : List Sort) (xs : List (Symbol NamedTree)) → FieldsFit gs nodes ss xs → PartsFit gs ss xs
+  parts_of_fields [] [] fits = tt
+  parts_of_fields (s ∷ ss) (x ∷ xs) fits = (part_of_field s x fits.0, parts_of_fields ss xs fits.1)
+  parts_of_fields [] (x ∷ xs) fits = absurd fits
+  parts_of_fields (s ∷ ss) [] fits = absurd fits

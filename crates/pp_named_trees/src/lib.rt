@@ -3,8 +3,8 @@
 //!
 //! A naming gives values their numbers; under an assignment a tree stands for the value that has the number of its
 //! name. `specs/Meaning` says which circuits fit such trees and that this is a domain, `specs/Laws` that the laws of a
-//! domain hold, and `specs/Instances` what its condition says: trees of a datatype have one name exactly where they have
-//! one content, and a tree comes after its fields. Here are the calls that look at names alone.
+//! domain hold, and `specs/Instances` what its condition says: trees of a datatype have one name exactly where they
+//! have one content, and a tree comes after its fields. Here are the calls that look at names alone.
 #![tactic(auto)]
 
 pub mod arena;
