@@ -4,3 +4,5 @@ pub mod Joining
 pub mod Arms
 pub mod Running
 pub mod Matching
+pub mod Adding
+pub mod Guessing

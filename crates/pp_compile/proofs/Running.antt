@@ -9,14 +9,16 @@ use Rattle.pp_prog.specs.Sorts.{param_sorts}
 use Rattle.pp_steps.specs.declared.step.Step.{Step}
 use Rattle.pp_steps.specs.declared.step.Step.TheVariants as steps
 use Rattle.pp_steps.specs.Compile.{Site, compile}
-use Rattle.pp_steps.specs.Frames.{Frame, allowing, any_of, arguments, finishing, inlined, measuring, run_steps, running}
+use Rattle.pp_steps.specs.Frames.{Frame, allowing, any_of, arguments, finishing, measuring, running}
 use Rattle.pp_steps.specs.Frames.{starting}
+use Rattle.pp_steps.specs.Guesses.{GuessSteps}
 use Rattle.pp_steps.specs.Piece.{after, bind}
 use Rattle.pp_compile.specs.declared.work.Ends.{Ends}
 use Rattle.pp_compile.specs.declared.work.Framed.{Framed}
 use Rattle.pp_compile.specs.declared.work.Lists.{Lists}
 use Rattle.pp_compile.specs.declared.work.Work.{Work}
-use Rattle.pp_compile.specs.Written.{AreMade, IsFramed, IsMade, IsRunOf, IsWritten}
+use Rattle.pp_compile.specs.Guessed.{guess_of, whole_run}
+use Rattle.pp_compile.specs.Written.{AreMade, IsFramed, IsMade, IsWritten}
 use Rattle.pp_compile.proofs.Joining.{bind_frame, bind_made, end_is}
 
 pub start_made : (calls : Frame
@@ -62,19 +64,33 @@ any_same (x ∷ y ∷ ks) k a b =
       ap (λ (l : List Step). k + length l) h.0,
     )
 
-pub compile_made : (functions : List Function) (f : Function) (check : CheckId)
-    (fuel : ℕ) {w0 w1 w2 w3 w4 : Work} {args : Lists} {e : Ends} {given fl : List ℕ} {found : ℕ} {ps : List Param}
+-- what a guess run is
+abbrev guess : List Step → List ℕ → ℕ → ℕ → List ℕ → GuessSteps
+guess s a f t u = record { steps = s; arguments = a; fails = f; true_one = t; supposed = u }
+
+guess_same : {s s1 : List Step} {a a1 u u1 : List ℕ} {f f1 t t1 : ℕ}
+    → s ≡ s1 → a ≡ a1 → f ≡ f1 → t ≡ t1 → u ≡ u1 → guess s a f t u ≡ guess s1 a1 f1 t1 u1
+guess_same e1 e2 e3 e4 e5 = cc
+
+-- the run of which the answer is made, with the number that is true
+pub whole_made : (calls : Frame → Site) (f : Function) (check : CheckId) {w0 w1 w2 w3 w4 : Work} {args : Lists}
+    {e : Ends} {given fl none : List ℕ} {found : ℕ} {ps : List Param}
     → w0.steps ≡ [] → w0.fails ≡ [] → ps ≡ f.params → AreMade w0 w1 (arguments (param_sorts ps)) args
-    → IsMade w1 w2 (running (inlined functions fuel (Some check)) (Some check) f
-    (length w1.steps) args.out args.alive) e → given ≡ args.out
+    → IsMade w1 w2 (running calls (Some check) f (length w1.steps) args.out args.alive) e → given ≡ args.out
     → w3.steps ≡ w2.steps → fl ≡ w2.fails
-    → IsWritten w3 w4 (any_of fl (length w3.steps) 0) → found ≡ (any_of fl (length w3.steps) 0).out
-    → IsRunOf (run_steps functions f check fuel) (record { steps = w4.steps; arguments = given; fails = found })
-compile_made functions f check fuel {w0 = w0} {w1 = w1} {w2 = w2} {w3 = w3} {w4 = w4} {args = args} {e = e}
-    {given = given} {fl = fl} {found = found} {ps = ps} z0 y0 hp ha0 hr g h3 hf hw hn =
+    → IsWritten w3 w4 (any_of fl (length w3.steps) 0) → found ≡ (any_of fl (length w3.steps) 0).out → none ≡ []
+    → guess_of (record {
+      steps = w4.steps;
+      arguments = given;
+      fails = found;
+      true_one = args.alive;
+      supposed = none;
+    }) ≡ whole_run calls check f
+whole_made calls f check {w0 = w0} {w1 = w1} {w2 = w2} {w3 = w3} {w4 = w4} {args = args} {e = e}
+    {given = given} {fl = fl} {none = none} {found = found} {ps = ps} z0 y0 hp ha0 hr g h3 hf hw hn hs =
     let A = arguments (param_sorts f.params) in
     let ha = subst (λ (l : List Param). AreMade w0 w1 (arguments (param_sorts l)) args) hp ha0 in
-    let run = λ (i : ℕ) (as' : List ℕ) (a : ℕ). running (inlined functions fuel (Some check)) (Some check) f i as' a in
+    let run = λ (i : ℕ) (as' : List ℕ) (a : ℕ). running calls (Some check) f i as' a in
     let e1 : length w1.steps ≡ after 0 A = end_is w0 w1 A ha.written ∙ ap (λ (l : List Step). after (length l) A) z0 in
     let R = run (after 0 A) A.out A.alive in
     let r1 = subst (λ i. IsMade w1 w2 (run i args.out args.alive) e) e1 hr in
@@ -89,10 +105,11 @@ compile_made functions f check fuel {w0 = w0} {w1 = w1} {w2 = w2} {w3 = w3} {w4 
     let F = any_of R.fails k A.alive in
     let same = any_same R.fails k 0 A.alive in
     let to = ap (λ i. (any_of fl i 0).steps) e2 ∙ ap (λ (l : List ℕ). (any_of l k 0).steps) f2 ∙ same.0 in
-    record {
-      steps = hw.steps ∙ ap (λ (l : List Step). l ++ (any_of fl (length w3.steps) 0).steps) s2 ∙ ap
-          (λ (l : List Step). (A.steps ++ R.steps) ++ l) to
-          ∙ append_assoc A.steps R.steps F.steps;
-      arguments = g ∙ ha.out;
-      fails = hn ∙ ap (λ i. (any_of fl i 0).out) e2 ∙ ap (λ (l : List ℕ). (any_of l k 0).out) f2 ∙ same.1;
-    }
+    let steps : w4.steps ≡ A.steps ++ (R.steps ++ F.steps) =
+    hw.steps ∙ ap (λ (l : List Step). l ++ (any_of fl (length w3.steps) 0).steps) s2 ∙ ap
+    (λ (l : List Step). (A.steps ++ R.steps) ++ l) to ∙ append_assoc A.steps R.steps F.steps in
+    let arguments : given ≡ A.out = g ∙ ha.out in
+    let fails : found ≡ F.out = hn ∙ ap (λ i. (any_of fl i 0).out) e2 ∙ ap (λ (l : List ℕ). (any_of l k 0).out) f2
+    ∙ same.1 in
+    let true_one : args.alive ≡ A.alive = ha.alive in
+    guess_same steps arguments fails true_one hs

@@ -2,11 +2,19 @@
 use Rattle.std.proofs.Common.{◌≡◌, ℕ, zero, suc, ◌+◌, ◌-◌, ◌*◌, ◌<◌, ◌≤◌, List, [], ◌∷◌, Some, arith, ap}
 use Rattle.std.specs.Prelude.{slice_get}
 use Rattle.pp_prog.specs.declared.expr.Function.{Function}
+use Rattle.pp_compile.specs.declared.calls.CallKind.{CallKind}
+use Rattle.pp_compile.specs.declared.calls.CallKind.TheVariants.{Followed, Left, Own}
 use Rattle.pp_eval.proofs.Width.{function_size, reach}
 
 -- more than twice the longest list of cases
 abbrev pub wide : ℕ
 wide = 8589934592
+
+-- how deep calls may still be nested
+abbrev pub depth_of : CallKind → ℕ
+depth_of (Followed fuel) = fuel
+depth_of (Left wait) = 0
+depth_of Own = 1
 
 -- what one unit of fuel counts for
 abbrev pub span : List Function → ℕ

@@ -1,27 +1,37 @@
-//! The steps of calls that are followed.
+//! The steps of calls: of those that are followed, of those that are left open, and of those from the own frame.
 
-ghost use Rattle.std.specs.Prelude.{◌≡◌, ◌∷◌, [], ℕ, suc, IfOk, List, Option, Some, None, length, slice_get};
+ghost use Rattle.std.specs.Prelude.{◌≡◌, ◌∷◌, [], ℕ, suc, IfOk, List, Option, Some, None, length};
 ghost use Rattle.pp_steps.specs.Piece.{plain};
 ghost use Rattle.pp_steps.specs.declared.step.Step.TheVariants as steps;
-ghost use Rattle.pp_steps.specs.Frames as spec;
-ghost use Rattle.pp_steps.specs.Frames.{admitting, descending, entering, falling, inlined, lower, measuring, shaped};
-ghost use Rattle.pp_steps.specs.Frames.{stopped};
+ghost use Rattle.pp_steps.specs.Frames.{admitting, descending, entering, falling, lower, measuring, shaped};
+ghost use Rattle.pp_steps.specs.Guesses.{comparing, own_call};
+ghost use Rattle.pp_compile.specs.Sites.{site_of};
 ghost use Rattle.pp_compile.specs.Written.{IsFramed, IsMade};
 
 use crate::NoMemory;
 use crate::emit::{demand, emit, one, stop};
 use crate::exprs::{asks, value_of, values_of};
+use crate::open_calls::{leave, result_at};
 use crate::work::{Ends, Framed, Work};
 use pp_list::at;
 use pp_prog::{BinaryOp, CheckId, Expr, Function, FunctionId, Sort};
 use pp_steps::{Numbers, Step};
 use std::alloc::Global;
 
-/// What calls are made of: the program's functions, and how deep calls may still be nested.
+/// How calls are compiled. They are followed, and may still be nested so deep; they are left open, and wait for so many
+/// rounds; or they come from the own frame of a guess run.
+#[derive(Clone, Copy)]
+pub(crate) enum CallKind {
+    Followed(u32),
+    Left(u32),
+    Own,
+}
+
+/// What calls are made of: the program's functions, and how calls are compiled.
 #[derive(Clone, Copy)]
 pub(crate) struct Calls<'a> {
     pub functions: &'a [Function],
-    pub fuel: u32,
+    pub kind: CallKind,
 }
 
 /// The steps of a call, from a frame with these measure values, at a site with these checks.
@@ -39,23 +49,29 @@ pub(crate) fn call(
     work: &mut Work,
 ) -> Result<Ends, NoMemory>
     ensures { IfOk result (λ r. IsMade work.old work.new
-        (inlined calls.entry.functions.now calls.entry.fuel asked frame.now
+        (site_of calls.entry.functions.now calls.entry.kind asked frame.now
         (length work.old.steps) reach callee pre measure args) r) }
 {
-    if calls.fuel == 0 {
-        return stop(work, result_at(calls.functions, callee));
-    }
-    match at(calls.functions, callee.0 as usize) {
-        None => stop(work, Sort::Bool),
-        Some(f) => {
-            let inner = Calls {
-                functions: calls.functions,
-                fuel: calls.fuel - 1,
-            };
-            enter(
-                alloc, inner, asked, frame, reach, f, pre, measure, args, work,
-            )
-        }
+    let functions = calls.functions;
+    match calls.kind {
+        CallKind::Followed(0) => stop(work, result_at(functions, callee)),
+        CallKind::Followed(fuel) => match at(functions, callee.0 as usize) {
+            None => stop(work, Sort::Bool),
+            Some(f) => {
+                let kind = CallKind::Followed(fuel - 1);
+                let inner = Calls { functions, kind };
+                enter(
+                    alloc, inner, asked, frame, reach, f, pre, measure, args, work,
+                )
+            }
+        },
+        CallKind::Left(wait) => leave(alloc, functions, wait, reach, callee, args, work),
+        CallKind::Own => match at(functions, callee.0 as usize) {
+            None => stop(work, Sort::Bool),
+            Some(f) => enter_own(
+                alloc, functions, asked, frame, reach, callee, f, pre, measure, args, work,
+            ),
+        },
     }
 }
 
@@ -74,7 +90,7 @@ fn enter(
     work: &mut Work,
 ) -> Result<Ends, NoMemory>
     ensures { IfOk result (λ r. IsMade work.old work.new
-        (entering (inlined calls.entry.functions.now calls.entry.fuel None) asked frame.now (Some f.now)
+        (entering (site_of calls.entry.functions.now calls.entry.kind None) asked frame.now (Some f.now)
         (length work.old.steps) reach pre measure args) r) }
 {
     let mut env = args;
@@ -101,6 +117,73 @@ fn enter(
     )
 }
 
+// A call of f from the own frame of a guess run: its precondition, its measure list where it is looked at, and the call,
+// which is left open.
+#[cycle(compile)]
+fn enter_own(
+    alloc: Global,
+    functions: &[Function],
+    asked: Option<CheckId>,
+    frame: &Option<Numbers>,
+    reach: u32,
+    callee: FunctionId,
+    f: &Function,
+    pre: Option<CheckId>,
+    measure: Option<CheckId>,
+    args: Numbers,
+    work: &mut Work,
+) -> Result<Ends, NoMemory>
+    ensures { IfOk result (λ r. IsMade work.old work.new
+        (own_call functions.now asked frame.now (Some f.now)
+        (length work.old.steps) reach callee pre measure args) r) }
+{
+    let kind = CallKind::Left(1);
+    let calls = Calls { functions, kind };
+    let mut env = args;
+    let allowed = admit(alloc, calls, asked, &mut env, reach, &f.pre, pre, work)?;
+    let entered = compare(
+        alloc,
+        calls,
+        asked,
+        frame,
+        &mut env,
+        allowed.alive,
+        f.measure.as_slice(),
+        measure,
+        work,
+    )?;
+    leave(alloc, functions, 0, entered.alive, callee, env, work)
+}
+
+// The measure list of a called function, which is looked at where the site's measure check is the asked one.
+#[cycle(compile)]
+fn compare(
+    alloc: Global,
+    calls: Calls<'_>,
+    asked: Option<CheckId>,
+    frame: &Option<Numbers>,
+    args: &mut Numbers,
+    reach: u32,
+    measure: &[Expr],
+    check: Option<CheckId>,
+    work: &mut Work,
+) -> Result<Ends, NoMemory>
+    ensures made { IfOk result (λ r. IsMade work.old work.new
+        (comparing asked (site_of calls.entry.functions.now calls.entry.kind None None) frame.now measure.now check
+        (length work.old.steps) args.old reach) r) }
+    ensures kept { IfOk result (λ _. args.new ≡ args.old) }
+{
+    if asks(asked, check) {
+        let new = frame_of(alloc, calls, None, args, reach, measure, work)?;
+        descend(work, asked, check, frame, &new.frame, new.alive)
+    } else {
+        Ok(Ends {
+            out: reach,
+            alive: reach,
+        })
+    }
+}
+
 // The precondition of a called function.
 #[cycle(compile)]
 fn admit(
@@ -114,7 +197,7 @@ fn admit(
     work: &mut Work,
 ) -> Result<Ends, NoMemory>
     ensures made { IfOk result (λ r. IsMade work.old work.new
-        (admitting asked (inlined calls.entry.functions.now calls.entry.fuel None None) pre.now check
+        (admitting asked (site_of calls.entry.functions.now calls.entry.kind None None) pre.now check
         (length work.old.steps) args.old reach) r) }
     ensures kept { IfOk result (λ _. args.new ≡ args.old) }
 {
@@ -142,7 +225,7 @@ pub(crate) fn frame_of(
     work: &mut Work,
 ) -> Result<Framed, NoMemory>
     ensures made { IfOk result (λ r. IsFramed work.old work.new
-        (measuring asked (inlined calls.entry.functions.now calls.entry.fuel asked None) measure.now
+        (measuring asked (site_of calls.entry.functions.now calls.entry.kind asked None) measure.now
         (length work.old.steps) args.old reach) r) }
     ensures kept { IfOk result (λ _. args.new ≡ args.old) }
 {
@@ -231,15 +314,5 @@ fn shape(work: &mut Work, new: &[u32], old: &[u32], test: u32, alive: u32) -> Re
             shape(work, xs, ys, both, alive)
         }
         _ => one(work, Step::Bool(false), alive),
-    }
-}
-
-// The sort of a function's result; that of one that isn't there doesn't matter.
-fn result_at(functions: &[Function], f: FunctionId) -> Sort
-    ensures { result ≡ spec.result_of (slice_get functions.now f.0) }
-{
-    match at(functions, f.0 as usize) {
-        None => Sort::Bool,
-        Some(f) => f.result,
     }
 }

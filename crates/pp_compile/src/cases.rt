@@ -4,7 +4,7 @@ ghost use Rattle.std.specs.Prelude.{◌≡◌, ◌<◌, ◌^◌, ℕ, IfOk, List
 ghost use Rattle.std.specs.Option.{option_map};
 ghost use Rattle.pp_steps.specs.Compile as spec;
 ghost use Rattle.pp_steps.specs.Compile.{arm, compile, deciding};
-ghost use Rattle.pp_steps.specs.Frames.{inlined};
+ghost use Rattle.pp_compile.specs.Sites.{site_of};
 ghost use Rattle.pp_compile.specs.Written.{IsCased, IsDecided, IsTried, no_case};
 
 use crate::NoMemory;
@@ -35,7 +35,7 @@ pub(crate) fn case_of(
     requires { length cases.now < 2 ^ 32 }
     ensures made { IfOk result (λ r. IsCased work.old work.new
         (spec.cases asked (map (arm asked
-        (inlined calls.entry.functions.now calls.entry.fuel asked frame.now)) cases.now) check value
+        (site_of calls.entry.functions.now calls.entry.kind asked frame.now)) cases.now) check value
         (length work.old.steps) env.old reach) r) }
     ensures kept { IfOk result (λ _. env.new ≡ env.old) }
 {
@@ -78,7 +78,7 @@ fn attempt(
     work: &mut Work,
 ) -> Result<Tried, NoMemory>
     ensures made { IfOk result (λ r. IsTried work.old work.new
-        (arm asked (inlined calls.entry.functions.now calls.entry.fuel asked frame.now) case.now) value
+        (arm asked (site_of calls.entry.functions.now calls.entry.kind asked frame.now) case.now) value
         (length work.old.steps) env.old reach r) }
     ensures kept { IfOk result (λ _. env.new ≡ env.old) }
 {
@@ -127,7 +127,7 @@ fn decide(
 ) -> Result<Goes, NoMemory>
     ensures made { IfOk result (λ r. IsDecided work.old work.new
         (deciding (option_map (compile asked
-        (inlined calls.entry.functions.now calls.entry.fuel asked frame.now)) guard.now)
+        (site_of calls.entry.functions.now calls.entry.kind asked frame.now)) guard.now)
         (length work.old.steps) env.old reach fits) r) }
     ensures kept { IfOk result (λ _. env.new ≡ env.old) }
 {

@@ -2,8 +2,8 @@
 
 ghost use Rattle.std.specs.Prelude.{◌≡◌, ℕ, IfOk, List, length, map, slice_index_or};
 ghost use Rattle.pp_steps.specs.Compile.{all, compile, number_or};
-ghost use Rattle.pp_steps.specs.Frames.{inlined};
 ghost use Rattle.pp_steps.specs.Piece as piece;
+ghost use Rattle.pp_compile.specs.Sites.{site_of};
 ghost use Rattle.pp_compile.specs.Written.{AreMade, IsMade};
 
 use crate::NoMemory;
@@ -40,7 +40,7 @@ pub(crate) fn value_of(
     work: &mut Work,
 ) -> Result<Ends, NoMemory>
     ensures made { IfOk result (λ r. IsMade work.old work.new
-        (compile asked (inlined calls.entry.functions.now calls.entry.fuel asked frame.now) e.now
+        (compile asked (site_of calls.entry.functions.now calls.entry.kind asked frame.now) e.now
         (length work.old.steps) env.old reach) r) }
     ensures kept { IfOk result (λ _. env.new ≡ env.old) }
 {
@@ -172,7 +172,7 @@ pub(crate) fn values_of(
     work: &mut Work,
 ) -> Result<Lists, NoMemory>
     ensures made { IfOk result (λ r. AreMade work.old work.new
-        (all (map (compile asked (inlined calls.entry.functions.now calls.entry.fuel asked frame.now)) exprs.now)
+        (all (map (compile asked (site_of calls.entry.functions.now calls.entry.kind asked frame.now)) exprs.now)
         (length work.old.steps) env.old reach) r) }
     ensures kept { IfOk result (λ _. env.new ≡ env.old) }
 {

@@ -4,7 +4,11 @@
 //! there are is changed in `pp_steps`, and here only with it.
 //!
 //! - `run`: the run of a function: its arguments, precondition, measure, body and postcondition.
-//! - `calls`: calls that are followed: precondition, measure, whether it goes down, body.
+//! - `guess`: the guess run of a function, round after round.
+//! - `agree`: the agreement of open calls of one function.
+//! - `standing`: the open calls of a list of steps.
+//! - `calls`: calls that are followed: precondition, measure, whether it goes down, body; and calls from the own frame.
+//! - `open_calls`: calls that are left open.
 //! - `exprs`: expressions, an arm for each form.
 //! - `operators`: operators with two operands, those that can fail or skip one among them, and two branches.
 //! - `cases`: the cases of a match, one after another.
@@ -13,15 +17,20 @@
 //! - `work`: the steps so far, and what a piece leaves.
 #![tactic(auto)]
 
+mod agree;
 mod calls;
 mod cases;
 mod emit;
 mod exprs;
+mod guess;
+mod open_calls;
 mod operators;
 mod patterns;
 mod run;
+mod standing;
 mod work;
 
+pub use guess::{compile_guess, grown};
 pub use run::compile_run;
 pub use std::alloc::AllocError as NoMemory;
-pub use work::Run;
+pub use work::{Guess, Run};

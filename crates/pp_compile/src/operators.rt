@@ -2,7 +2,7 @@
 
 ghost use Rattle.std.specs.Prelude.{◌≡◌, ℕ, IfOk, List, length};
 ghost use Rattle.pp_steps.specs.Compile.{binary, branches, compile, operating, quotient};
-ghost use Rattle.pp_steps.specs.Frames.{inlined};
+ghost use Rattle.pp_compile.specs.Sites.{site_of};
 ghost use Rattle.pp_compile.specs.Written.{IsMade, conjunction, disjunction, strict};
 
 use crate::NoMemory;
@@ -31,8 +31,8 @@ pub(crate) fn binary_of(
 ) -> Result<Ends, NoMemory>
     ensures made { IfOk result (λ r. IsMade work.old work.new
         (binary asked op (compile asked
-        (inlined calls.entry.functions.now calls.entry.fuel asked frame.now) a.now)
-        (compile asked (inlined calls.entry.functions.now calls.entry.fuel asked frame.now) b.now) check
+        (site_of calls.entry.functions.now calls.entry.kind asked frame.now) a.now)
+        (compile asked (site_of calls.entry.functions.now calls.entry.kind asked frame.now) b.now) check
         (length work.old.steps) env.old reach) r) }
     ensures kept { IfOk result (λ _. env.new ≡ env.old) }
 {
@@ -59,8 +59,8 @@ fn both_of(
     work: &mut Work,
 ) -> Result<Ends, NoMemory>
     ensures made { IfOk result (λ r. IsMade work.old work.new
-        (conjunction (compile asked (inlined calls.entry.functions.now calls.entry.fuel asked frame.now) a.now)
-        (compile asked (inlined calls.entry.functions.now calls.entry.fuel asked frame.now) b.now)
+        (conjunction (compile asked (site_of calls.entry.functions.now calls.entry.kind asked frame.now) a.now)
+        (compile asked (site_of calls.entry.functions.now calls.entry.kind asked frame.now) b.now)
         (length work.old.steps) env.old reach) r) }
     ensures kept { IfOk result (λ _. env.new ≡ env.old) }
 {
@@ -84,8 +84,8 @@ fn either_of(
     work: &mut Work,
 ) -> Result<Ends, NoMemory>
     ensures made { IfOk result (λ r. IsMade work.old work.new
-        (disjunction (compile asked (inlined calls.entry.functions.now calls.entry.fuel asked frame.now) a.now)
-        (compile asked (inlined calls.entry.functions.now calls.entry.fuel asked frame.now) b.now)
+        (disjunction (compile asked (site_of calls.entry.functions.now calls.entry.kind asked frame.now) a.now)
+        (compile asked (site_of calls.entry.functions.now calls.entry.kind asked frame.now) b.now)
         (length work.old.steps) env.old reach) r) }
     ensures kept { IfOk result (λ _. env.new ≡ env.old) }
 {
@@ -112,8 +112,8 @@ fn strict_of(
 ) -> Result<Ends, NoMemory>
     ensures made { IfOk result (λ r. IsMade work.old work.new
         (strict asked op (compile asked
-        (inlined calls.entry.functions.now calls.entry.fuel asked frame.now) a.now)
-        (compile asked (inlined calls.entry.functions.now calls.entry.fuel asked frame.now) b.now) check
+        (site_of calls.entry.functions.now calls.entry.kind asked frame.now) a.now)
+        (compile asked (site_of calls.entry.functions.now calls.entry.kind asked frame.now) b.now) check
         (length work.old.steps) env.old reach) r) }
     ensures kept { IfOk result (λ _. env.new ≡ env.old) }
 {
@@ -137,8 +137,8 @@ pub(crate) fn branches_of(
     work: &mut Work,
 ) -> Result<Ends, NoMemory>
     ensures made { IfOk result (λ r. IsMade work.old work.new
-        (branches (compile asked (inlined calls.entry.functions.now calls.entry.fuel asked frame.now) a.now)
-        (compile asked (inlined calls.entry.functions.now calls.entry.fuel asked frame.now) b.now)
+        (branches (compile asked (site_of calls.entry.functions.now calls.entry.kind asked frame.now) a.now)
+        (compile asked (site_of calls.entry.functions.now calls.entry.kind asked frame.now) b.now)
         (length work.old.steps) env.old taken missed) r) }
     ensures kept { IfOk result (λ _. env.new ≡ env.old) }
 {

@@ -1,16 +1,18 @@
 //! The steps of a run.
 
-ghost use Rattle.std.specs.Prelude.{◌≡◌, ℕ, IfOk, List, [], ◌++◌, length};
+ghost use Rattle.std.specs.Prelude.{◌≡◌, ℕ, IfOk, List, [], ◌++◌, Some, length};
 ghost use Rattle.pp_prog.specs.Sorts.{param_sorts};
 ghost use Rattle.pp_steps.specs.Compile.{compile};
-ghost use Rattle.pp_steps.specs.Frames.{allowing, any_of, arguments, finishing, inlined, run_steps, running, starting};
+ghost use Rattle.pp_steps.specs.Frames.{allowing, any_of, arguments, finishing, run_steps, running, starting};
+ghost use Rattle.pp_compile.specs.Guessed.{guess_of, whole_run};
+ghost use Rattle.pp_compile.specs.Sites.{site_of};
 ghost use Rattle.pp_compile.specs.Written.{AreMade, IsMade, IsRunOf, IsWritten};
 
 use crate::NoMemory;
-use crate::calls::{Calls, frame_of};
+use crate::calls::{CallKind, Calls, frame_of};
 use crate::emit::{demand, emit};
 use crate::exprs::{asks, value_of};
-use crate::work::{Ends, Lists, Run, Work};
+use crate::work::{Ends, Guess, Lists, Run, Work};
 use pp_list::Items;
 use pp_prog::{CheckId, Expr, Function, Param};
 use pp_steps::{Numbers, Step};
@@ -27,12 +29,30 @@ pub fn compile_run(
 ) -> Result<Run, NoMemory>
     ensures { IfOk result (λ r. IsRunOf (run_steps functions.now f.now check fuel) r) }
 {
+    let kind = CallKind::Followed(fuel);
+    let run = whole_run(alloc, Calls { functions, kind }, f, check)?;
+    Ok(Run {
+        steps: run.steps,
+        arguments: run.arguments,
+        fails: run.fails,
+    })
+}
+
+/// The steps of a run whose calls are compiled so, and nothing is supposed.
+pub(crate) fn whole_run(
+    alloc: Global,
+    calls: Calls<'_>,
+    f: &Function,
+    check: CheckId,
+) -> Result<Guess, NoMemory>
+    ensures { IfOk result (λ r. guess_of r ≡
+        whole_run (site_of calls.entry.functions.now calls.entry.kind (Some check)) check f.now) }
+{
     let mut work = Work {
         steps: Items::new(alloc),
         fails: Items::new(alloc),
     };
     let mut args = open(alloc, f.params.as_slice(), &mut work)?;
-    let calls = Calls { functions, fuel };
     run(
         alloc,
         calls,
@@ -48,10 +68,12 @@ pub fn compile_run(
         fails: Items::new(alloc),
     };
     let found = any_of(&mut rest, fails.as_slice())?;
-    Ok(Run {
+    Ok(Guess {
         steps: rest.steps,
         arguments: args.out,
         fails: found,
+        true_one: args.alive,
+        supposed: Items::new(alloc),
     })
 }
 
@@ -80,7 +102,7 @@ fn run(
     work: &mut Work,
 ) -> Result<Ends, NoMemory>
     ensures made { IfOk result (λ r. IsMade work.old work.new
-        (running (inlined calls.entry.functions.now calls.entry.fuel asked) asked f.now
+        (running (site_of calls.entry.functions.now calls.entry.kind asked) asked f.now
         (length work.old.steps) args.old reach) r) }
     ensures kept { IfOk result (λ _. args.new ≡ args.old) }
 {
@@ -99,7 +121,7 @@ fn allow(
     work: &mut Work,
 ) -> Result<Ends, NoMemory>
     ensures made { IfOk result (λ r. IsMade work.old work.new
-        (allowing asked (inlined calls.entry.functions.now calls.entry.fuel asked None) pre.now
+        (allowing asked (site_of calls.entry.functions.now calls.entry.kind asked None) pre.now
         (length work.old.steps) args.old reach) r) }
     ensures kept { IfOk result (λ _. args.new ≡ args.old) }
 {
@@ -126,7 +148,7 @@ fn start(
     work: &mut Work,
 ) -> Result<Ends, NoMemory>
     ensures made { IfOk result (λ r. IsMade work.old work.new
-        (starting (inlined calls.entry.functions.now calls.entry.fuel asked) asked f.now
+        (starting (site_of calls.entry.functions.now calls.entry.kind asked) asked f.now
         (length work.old.steps) args.old reach) r) }
     ensures kept { IfOk result (λ _. args.new ≡ args.old) }
 {
@@ -154,7 +176,7 @@ fn finish(
     work: &mut Work,
 ) -> Result<Ends, NoMemory>
     ensures made { IfOk result (λ r. IsMade work.old work.new
-        (finishing asked (inlined calls.entry.functions.now calls.entry.fuel asked frame.now) post.now
+        (finishing asked (site_of calls.entry.functions.now calls.entry.kind asked frame.now) post.now
         (length work.old.steps) values.old reach) r) }
     ensures kept { IfOk result (λ _. values.new ≡ values.old) }
 {

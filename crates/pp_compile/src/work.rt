@@ -38,6 +38,17 @@ pub struct Run {
     pub fails: u32,
 }
 
+/// The steps of a guess run, the numbers of its arguments, the number that tells whether the asked check fails, a number
+/// that is true, and the numbers that are supposed to be true.
+#[derive(Drop)]
+pub struct Guess {
+    pub steps: Steps,
+    pub arguments: Numbers,
+    pub fails: u32,
+    pub true_one: u32,
+    pub supposed: Numbers,
+}
+
 /// The number of an outcome that there may be, and the number that tells whether there is one.
 #[derive(Clone, Copy)]
 pub(crate) struct Branch {
