@@ -1,26 +1,29 @@
 -- The steps of a guess run, as they are written.
 use Rattle.std.proofs.Common.{◌≡◌, ◌∙◌, ℕ, zero, suc, nat_eq, nat_lt, Bool, true, false, if◌then◌else◌, List, []}
-use Rattle.std.proofs.Common.{◌∷◌, ◌++◌, length, Some, None, refl, ap, subst, arith}
+use Rattle.std.proofs.Common.{◌∷◌, ◌++◌, ◌+◌, length, length-append, append_assoc, append-nil, Some, None, refl, sym, ap, subst}
+use Rattle.std.proofs.Common.{arith}
 use Rattle.pp_prog.specs.declared.expr.BinaryOp.TheVariants.{Equal}
 use Rattle.pp_prog.specs.declared.expr.Function.{Function}
 use Rattle.pp_steps.specs.declared.step.Step.{Step}
 use Rattle.pp_steps.specs.declared.step.Step.TheVariants as steps
 use Rattle.pp_steps.specs.Compile.{compile, one}
-use Rattle.pp_steps.specs.Guesses.{GuessSteps, Standing, all_unfolded, asking, agreeing, answering_alike, calls_before, calls_from, equal_all}
-use Rattle.pp_steps.specs.Guesses.{equal_answers, grown, holding, implying, standing, unfolded_of, with_agreement}
-use Rattle.pp_steps.specs.Piece.{bind, demand, plain}
+use Rattle.pp_steps.specs.Guesses.{GuessSteps, Standing, agreeing, agreeing_with, all_unfolded, answering_alike}
+use Rattle.pp_steps.specs.Guesses.{asking, calls_before, calls_from, equal_all, equal_answers, grown, holding, implying, standing}
+use Rattle.pp_steps.specs.Guesses.{unfolded_of, with_agreement}
+use Rattle.pp_steps.specs.Piece.{Piece, after, bind, demand, plain}
 use Rattle.pp_compile.specs.declared.work.Ends.{Ends}
 use Rattle.pp_compile.specs.declared.work.Work.{Work}
 use Rattle.pp_compile.specs.Guessed.{IsAdded}
 use Rattle.pp_compile.specs.Written.{IsMade, IsWritten}
 use Rattle.pp_compile.proofs.Adding.{added_join, bind_added}
-use Rattle.pp_compile.proofs.Joining.{bind_made, bind_number}
+use Rattle.pp_compile.proofs.Joining.{bind_made, bind_number, end_is, written_join}
 
 -- ---- calls that stand
 
 -- the calls in front of a number, of a first step and of the others
 pub before_splits : (n k : ℕ) (s : Step) (ss : List Step)
-    → calls_before n (standing k (s ∷ ss)) ≡ calls_before n (standing k (s ∷ [])) ++ calls_before n (standing (suc k) ss)
+    → calls_before n (standing k (s ∷ ss))
+    ≡ calls_before n (standing k (s ∷ [])) ++ calls_before n (standing (suc k) ss)
 before_splits n k (steps.HasAnswer c) ss =
     here (nat_lt k n) (record { call = c; has = k; result = suc k }) (calls_before n (standing (suc k) ss))
   where
@@ -156,6 +159,74 @@ agree_made c d true_one o {m1 = m1} {m2 = m2} {m3 = m3} {n = n} {p = p} {q = q} 
     near hn
     (added_join m2 m3 n p q r (answering_alike (nat_eq c.call.wait d.call.wait) (length m2.steps) c d near.out)
     (λ j. equal_answers j c d near.out) same.out ha he))
+
+-- the pieces of two lists, one after another
+record AreWith (k : ℕ) (c : Standing) (xs ys : List Standing) (true_one : ℕ) : Type 0 where
+  steps : (agreeing_with k c (xs ++ ys) true_one).steps ≡ (agreeing_with k c xs true_one).steps
+      ++ (agreeing_with (after k (agreeing_with k c xs true_one)) c ys true_one).steps
+  fails : (agreeing_with k c (xs ++ ys) true_one).fails ≡ (agreeing_with k c xs true_one).fails
+      ++ (agreeing_with (after k (agreeing_with k c xs true_one)) c ys true_one).fails
+  out : (agreeing_with k c (xs ++ ys) true_one).out ≡ (agreeing_with k c xs true_one).out
+      ++ (agreeing_with (after k (agreeing_with k c xs true_one)) c ys true_one).out
+
+none_more : (k : ℕ) → k ≡ k + 0
+none_more k = omega arith
+
+-- the number after a piece, another, and nothing more
+after_two : (k : ℕ) (xs ys : List Step) → (k + length xs) + length ys ≡ k + length (xs ++ (ys ++ []))
+after_two k xs ys = omega (arith, length-append xs (ys ++ []), ap length (append-nil ys))
+
+-- a piece between two others, with nothing behind the second
+between : {A : Type 0} (f z x y : List A) → z ≡ x ++ y → f ++ (z ++ []) ≡ (f ++ (x ++ [])) ++ y
+between f z x y e =
+    ap (λ l. f ++ l) (append-nil z ∙ e) ∙ sym (append_assoc f x y)
+    ∙ ap (λ l. (f ++ l) ++ y) (sym (append-nil x))
+
+with_append : (k : ℕ) (c : Standing) (xs ys : List Standing) (true_one : ℕ) → AreWith k c xs ys true_one
+with_append k c [] ys true_one =
+    let e = none_more k in
+    record {
+      steps = ap (λ i. (agreeing_with i c ys true_one).steps) e;
+      fails = ap (λ i. (agreeing_with i c ys true_one).fails) e;
+      out = ap (λ i. (agreeing_with i c ys true_one).out) e;
+    }
+with_append k c (d ∷ xs) ys true_one =
+    let F : Piece (List ℕ) = if nat_eq c.call.callee.0 d.call.callee.0 then agreeing k c d true_one
+    else plain [] [] true_one in
+    let n = after k F in
+    let X = agreeing_with n c xs true_one in
+    let h = with_append n c xs ys true_one in
+    let Z = agreeing_with n c (xs ++ ys) true_one in
+    let e : after n X ≡ k + length (F.steps ++ (X.steps ++ [])) = after_two k F.steps X.steps in
+    let Y = λ (i : ℕ). agreeing_with i c ys true_one in
+    record {
+      steps = between F.steps Z.steps X.steps (Y (after n X)).steps h.steps
+          ∙ ap (λ i. (F.steps ++ (X.steps ++ [])) ++ (Y i).steps) e;
+      fails = between F.fails Z.fails X.fails (Y (after n X)).fails h.fails
+          ∙ ap (λ i. (F.fails ++ (X.fails ++ [])) ++ (Y i).fails) e;
+      out = ap (λ (l : List ℕ). F.out ++ l) h.out ∙ sym (append_assoc F.out X.out (Y (after n X)).out)
+          ∙ ap (λ i. (F.out ++ X.out) ++ (Y i).out) e;
+    }
+
+pub with_both : (c : Standing) (xs ys : List Standing) (true_one : ℕ) (o m n : Work) (p q r : List ℕ)
+    → IsAdded o m p q (agreeing_with (length o.steps) c xs true_one)
+    → IsAdded m n q r (agreeing_with (length m.steps) c ys true_one)
+    → IsAdded o n p r (agreeing_with (length o.steps) c (xs ++ ys) true_one)
+with_both c xs ys true_one o m n p q r h g =
+    let k = length o.steps in
+    let X = agreeing_with k c xs true_one in
+    let g1 = subst (λ i. IsAdded m n q r (agreeing_with i c ys true_one)) (end_is o m X h.written) g in
+    let Y = agreeing_with (after k X) c ys true_one in
+    let a = with_append k c xs ys true_one in
+    let w = written_join o m n X Y h.written g1.written in
+    record {
+      written = record {
+        steps = w.steps ∙ sym (ap (λ (l : List Step). o.steps ++ l) a.steps);
+        fails = w.fails ∙ sym (ap (λ (l : List ℕ). o.fails ++ l) a.fails);
+      };
+      added = g1.added ∙ ap (λ (l : List ℕ). l ++ Y.out) h.added ∙ append_assoc p X.out Y.out
+          ∙ sym (ap (λ (l : List ℕ). p ++ l) a.out);
+    }
 
 -- ---- rounds
 

@@ -1,6 +1,6 @@
 //! The agreement of open calls: two calls of one function with equal arguments have one answer.
 
-ghost use Rattle.std.specs.Prelude.{◌≡◌, ◌∷◌, [], IfOk, if◌then◌else◌, length, map, nat_eq, suc};
+ghost use Rattle.std.specs.Prelude.{◌≡◌, ◌∷◌, ◌++◌, [], IfOk, if◌then◌else◌, length, map, nat_eq, suc};
 ghost use Rattle.pp_steps.specs.declared.step.Step.TheVariants as steps;
 ghost use Rattle.pp_steps.specs.Guesses.{agreeing, agreeing_with, all_agreeing, answering_alike, equal_all};
 ghost use Rattle.pp_steps.specs.Guesses.{equal_answers, implying};
@@ -10,12 +10,10 @@ ghost use Rattle.pp_compile.specs.Written.{IsMade};
 
 use crate::NoMemory;
 use crate::emit::{emit, one};
-use crate::standing::{StandingCall, same_standing};
+use crate::standing::StandingCall;
 use crate::work::{Ends, Work};
-use pp_list::Items;
 use pp_prog::BinaryOp;
 use pp_steps::{Numbers, Step};
-use std::alloc::Global;
 
 /// Where the first number is true, so is the second.
 pub(crate) fn imply(work: &mut Work, a: u32, b: u32) -> Result<Ends, NoMemory>
@@ -157,23 +155,36 @@ fn agree_with(
     Ok(())
 }
 
-/// Each new call with the old ones and with the new ones before it.
-pub(crate) fn agree_all(
-    alloc: Global,
+// The call with each of these, and then with each of those.
+fn agree_with_both(
     work: &mut Work,
     supposed: &mut Numbers,
-    before: Items<StandingCall>,
+    c: &StandingCall,
+    before: &[StandingCall],
+    earlier: &[StandingCall],
+    true_one: u32,
+) -> Result<(), NoMemory>
+    ensures { IfOk result (λ _. IsAdded work.old work.new supposed.old supposed.new
+        (agreeing_with (length work.old.steps) (stands c.now) (map stands before.now ++ map stands earlier.now)
+        true_one)) }
+{
+    agree_with(work, supposed, c, before, true_one)?;
+    agree_with(work, supposed, c, earlier, true_one)
+}
+
+/// Each new call with the old ones and with the new ones before it.
+pub(crate) fn agree_all(
+    work: &mut Work,
+    supposed: &mut Numbers,
+    before: &[StandingCall],
     new: &[StandingCall],
     true_one: u32,
 ) -> Result<(), NoMemory>
     ensures { IfOk result (λ _. IsAdded work.old work.new supposed.old supposed.new
-        (all_agreeing (length work.old.steps) (map stands before) (map stands new.now) true_one)) }
+        (all_agreeing (length work.old.steps) (map stands before.now) (map stands new.now) true_one)) }
 {
-    let mut earlier = before;
-    for c in new {
-        agree_with(work, supposed, c, earlier.as_slice(), true_one)?;
-        let same = same_standing(alloc, c)?;
-        earlier.push(same)?;
+    for i in 0..new.len() {
+        agree_with_both(work, supposed, &new[i], before, &new[..i], true_one)?;
     }
     Ok(())
 }

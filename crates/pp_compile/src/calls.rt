@@ -117,8 +117,8 @@ fn enter(
     )
 }
 
-// A call of f from the own frame of a guess run: its precondition, its measure list where it is looked at, and the call,
-// which is left open.
+// A call of f from the own frame of a guess run: its precondition, its measure list where it is looked at, and the
+// call, which is left open.
 #[cycle(compile)]
 fn enter_own(
     alloc: Global,

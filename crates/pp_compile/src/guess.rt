@@ -115,10 +115,9 @@ fn agreed(alloc: Global, from: usize, guess: Guess) -> Result<Guess, NoMemory>
         fails: Items::new(alloc),
     };
     agree_all(
-        alloc,
         &mut work,
         &mut supposed,
-        calls.before,
+        calls.before.as_slice(),
         calls.from.as_slice(),
         true_one,
     )?;

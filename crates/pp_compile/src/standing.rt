@@ -79,18 +79,7 @@ fn collect(
     }
 }
 
-/// The same call.
-pub(crate) fn same_standing(alloc: Global, c: &StandingCall) -> Result<StandingCall, NoMemory>
-    ensures { IfOk result (λ r. r ≡ c.now) }
-{
-    let call = copied(alloc, &c.call)?;
-    Ok(StandingCall {
-        call,
-        has: c.has,
-        result: c.result,
-    })
-}
-
+// The same call.
 fn copied(alloc: Global, call: &OpenCall) -> Result<OpenCall, NoMemory>
     ensures { IfOk result (λ c. c ≡ call.now) }
 {
