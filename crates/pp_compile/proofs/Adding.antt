@@ -1,5 +1,5 @@
 -- Pieces that were written one after another, whose outcomes are added to the numbers that stand.
-use Rattle.std.proofs.Common.{◌≡◌, ℕ, List, [], ◌++◌, length, refl, sym, ap, ◌∙◌, subst}
+use Rattle.std.proofs.Common.{◌≡◌, ℕ, List, [], ◌++◌, length, sym, ap, ◌∙◌, subst}
 use Rattle.std.proofs.Common.{append_assoc, append-nil}
 use Rattle.pp_steps.specs.declared.step.Step.{Step}
 use Rattle.pp_steps.specs.Piece.{Piece, after, bind, plain}
@@ -18,35 +18,6 @@ pub record IsAheadAdded (o n : Work) (p q : List ℕ) (whole rest : Piece (List 
 -- a piece, and then the rest, whose outcomes come behind the first ones
 abbrev pub both_added : ℕ → Piece (List ℕ) → (ℕ → Piece (List ℕ)) → ℕ → Piece (List ℕ)
 both_added k x go z = bind k x (λ n first _. bind n (go n) (λ m rest _. plain [] (first ++ rest) z))
-
-pub ahead_turn : (o m n : Work) (p q r : List ℕ) (whole x : Piece (List ℕ)) (go : ℕ → Piece (List ℕ)) (z : ℕ)
-    → IsAheadAdded o m p q whole (both_added (length m.steps) x go z) → IsAdded m n q r x
-    → IsAheadAdded o n p r whole (go (length n.steps))
-ahead_turn o m n p q r whole x go z h a =
-    let e : length n.steps ≡ after (length m.steps) x = end_is m n x a.written in
-    let Y = go (after (length m.steps) x) in
-    let there : IsAheadAdded o n p r whole Y = record {
-      steps = h.steps ∙ ap (λ (l : List Step). m.steps ++ (x.steps ++ l)) (append-nil Y.steps)
-          ∙ sym (append_assoc m.steps x.steps Y.steps)
-          ∙ sym (ap (λ (l : List Step). l ++ Y.steps) a.written.steps);
-      fails = h.fails ∙ ap (λ (l : List ℕ). m.fails ++ (x.fails ++ l)) (append-nil Y.fails)
-          ∙ sym (append_assoc m.fails x.fails Y.fails) ∙ sym (ap (λ (l : List ℕ). l ++ Y.fails) a.written.fails);
-      out = h.out ∙ sym (append_assoc q x.out Y.out) ∙ sym (ap (λ (l : List ℕ). l ++ Y.out) a.added);
-    } in
-    subst (λ i. IsAheadAdded o n p r whole (go i)) (sym e) there
-
-pub ahead_start : (o : Work) (p : List ℕ) (x : Piece (List ℕ)) → IsAheadAdded o o p p x x
-ahead_start o p x = record { steps = refl; fails = refl; out = refl }
-
-pub ahead_end : (o n : Work) (p q : List ℕ) (whole : Piece (List ℕ)) (z : ℕ)
-    → IsAheadAdded o n p q whole (plain [] [] z) → IsAdded o n p q whole
-ahead_end o n p q whole z h = record {
-  written = record {
-    steps = sym (h.steps ∙ append-nil n.steps);
-    fails = sym (h.fails ∙ append-nil n.fails);
-  };
-  added = sym (h.out ∙ append-nil q);
-}
 
 pub added_join : (o m n : Work) (p q r : List ℕ) (x : Piece (List ℕ)) (go : ℕ → Piece (List ℕ)) (z : ℕ)
     → IsAdded o m p q x → IsAdded m n q r (go (length m.steps))

@@ -8,7 +8,7 @@ use Rattle.pp_steps.specs.declared.step.Step.{Step}
 use Rattle.pp_steps.specs.declared.step.Step.TheVariants as steps
 use Rattle.pp_steps.specs.Compile.{compile, one}
 use Rattle.pp_steps.specs.Guesses.{GuessSteps, Standing, agreeing, agreeing_with, all_unfolded, answering_alike}
-use Rattle.pp_steps.specs.Guesses.{asking, calls_before, calls_from, equal_all, equal_answers, grown, holding, implying, standing}
+use Rattle.pp_steps.specs.Guesses.{asking, calls_from, equal_all, equal_answers, grown, holding, implying, standing}
 use Rattle.pp_steps.specs.Guesses.{unfolded_of, with_agreement}
 use Rattle.pp_steps.specs.Piece.{Piece, after, bind, demand, plain}
 use Rattle.pp_compile.specs.declared.work.Ends.{Ends}
@@ -19,58 +19,6 @@ use Rattle.pp_compile.proofs.Adding.{added_join, bind_added}
 use Rattle.pp_compile.proofs.Joining.{bind_made, bind_number, end_is, written_join}
 
 -- ---- calls that stand
-
--- the calls in front of a number, of a first step and of the others
-pub before_splits : (n k : ℕ) (s : Step) (ss : List Step)
-    → calls_before n (standing k (s ∷ ss))
-    ≡ calls_before n (standing k (s ∷ [])) ++ calls_before n (standing (suc k) ss)
-before_splits n k (steps.HasAnswer c) ss =
-    here (nat_lt k n) (record { call = c; has = k; result = suc k }) (calls_before n (standing (suc k) ss))
-  where
-    here : (b : Bool) (c : Standing) (cs : List Standing)
-        → (if b then c ∷ cs else cs) ≡ (if b then c ∷ [] else []) ++ cs
-    here true c cs = refl
-    here false c cs = refl
-before_splits n k (steps.Open _) ss = refl
-before_splits n k (steps.Int _) ss = refl
-before_splits n k (steps.Bool _) ss = refl
-before_splits n k (steps.Not _) ss = refl
-before_splits n k (steps.Both _ _) ss = refl
-before_splits n k (steps.Choose _ _ _) ss = refl
-before_splits n k (steps.Unary _ _) ss = refl
-before_splits n k (steps.Binary _ _ _) ss = refl
-before_splits n k (steps.Construct _ _) ss = refl
-before_splits n k (steps.IsCtor _ _ _) ss = refl
-before_splits n k (steps.CtorField _ _ _) ss = refl
-before_splits n k (steps.Field _ _) ss = refl
-before_splits n k (steps.IsAlike _ _) ss = refl
-before_splits n k (steps.GoesDown _ _) ss = refl
-before_splits n k (steps.Answer _) ss = refl
-
-pub from_splits : (n k : ℕ) (s : Step) (ss : List Step)
-    → calls_from n (standing k (s ∷ ss)) ≡ calls_from n (standing k (s ∷ [])) ++ calls_from n (standing (suc k) ss)
-from_splits n k (steps.HasAnswer c) ss =
-    here (nat_lt k n) (record { call = c; has = k; result = suc k }) (calls_from n (standing (suc k) ss))
-  where
-    here : (b : Bool) (c : Standing) (cs : List Standing)
-        → (if b then cs else c ∷ cs) ≡ (if b then [] else c ∷ []) ++ cs
-    here true c cs = refl
-    here false c cs = refl
-from_splits n k (steps.Open _) ss = refl
-from_splits n k (steps.Int _) ss = refl
-from_splits n k (steps.Bool _) ss = refl
-from_splits n k (steps.Not _) ss = refl
-from_splits n k (steps.Both _ _) ss = refl
-from_splits n k (steps.Choose _ _ _) ss = refl
-from_splits n k (steps.Unary _ _) ss = refl
-from_splits n k (steps.Binary _ _ _) ss = refl
-from_splits n k (steps.Construct _ _) ss = refl
-from_splits n k (steps.IsCtor _ _ _) ss = refl
-from_splits n k (steps.CtorField _ _ _) ss = refl
-from_splits n k (steps.Field _ _) ss = refl
-from_splits n k (steps.IsAlike _ _) ss = refl
-from_splits n k (steps.GoesDown _ _) ss = refl
-from_splits n k (steps.Answer _) ss = refl
 
 none_before : (k : ℕ) → nat_lt k 0 ≡ false
 none_before zero = grind arith

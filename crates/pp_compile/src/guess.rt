@@ -39,8 +39,9 @@ pub fn compile_guess(
     Ok(guess)
 }
 
-/// The next round after this one, which has to be less than 2^32 - 1: its calls that wait for so many rounds are
-/// unfolded. The only error is want of memory, which is also more than 2^32 - 1 steps; then nothing is left.
+/// The steps of one round more: behind those that stand, what holds of the calls that wait for `round` rounds, and the
+/// agreement of the new calls. `round` is less than 2^32 - 1, and the number of rounds so far where these are the steps
+/// of a guess run. The only error is want of memory, which is also more than 2^32 - 1 steps; then no steps are left.
 pub fn grown(
     alloc: Global,
     functions: &[Function],

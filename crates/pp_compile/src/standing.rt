@@ -33,7 +33,7 @@ pub(crate) fn calls_at(
     ensures before { IfOk result (λ r. map stands r.before ≡ calls_before from (standing 0 steps.now)) }
     ensures from { IfOk result (λ r. map stands r.from ≡ calls_from from (standing 0 steps.now)) }
 {
-    if steps.len() >= u32::MAX as usize {
+    if steps.len() > u32::MAX as usize {
         return Err(NoMemory);
     }
     let mut calls = StandingCalls {
