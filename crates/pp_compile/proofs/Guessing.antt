@@ -1,6 +1,7 @@
 -- The steps of a guess run, as they are written.
 use Rattle.std.proofs.Common.{◌≡◌, ◌∙◌, ℕ, zero, suc, nat_eq, nat_lt, Bool, true, false, if◌then◌else◌, List, []}
-use Rattle.std.proofs.Common.{◌∷◌, ◌++◌, ◌+◌, length, length-append, append_assoc, append-nil, Some, None, refl, sym, ap, subst}
+use Rattle.std.proofs.Common.{◌∷◌, ◌++◌, ◌+◌, length, length-append, append_assoc, append-nil, Some, None, refl}
+use Rattle.std.proofs.Common.{sym, ap, subst}
 use Rattle.std.proofs.Common.{arith}
 use Rattle.pp_prog.specs.declared.expr.BinaryOp.TheVariants.{Equal}
 use Rattle.pp_prog.specs.declared.expr.Function.{Function}

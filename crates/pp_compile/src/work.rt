@@ -38,8 +38,8 @@ pub struct Run {
     pub fails: u32,
 }
 
-/// The steps of a guess run, the numbers of its arguments, the number that tells whether the asked check fails, one that
-/// is true, and those that are supposed to be true.
+/// The steps of a guess run, the numbers of its arguments, the number that tells whether the asked check fails, one
+/// that is true, and those that are supposed to be true.
 #[derive(Drop)]
 pub struct Guess {
     pub steps: Steps,
