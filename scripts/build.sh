@@ -80,6 +80,8 @@ stop_lanes() {
 
 rm -rf "$lanes"
 mkdir -p "$lanes/done" "$lanes/taken"
+# The program is as old as the sources that it was made from, whatever is edited meanwhile.
+: > "$lanes/begun"
 crates_below > "$lanes/order"
 set -m
 trap stop_lanes INT TERM
@@ -96,5 +98,5 @@ if ! grep -q '^logic=proved\|^rt: nothing has changed' "$lanes/log" || [ ! -x "$
     cat "$lanes/log" >&2
     exit 1
 fi
-touch "$program"
+touch -r "$lanes/begun" "$program"
 rm -rf "$lanes"

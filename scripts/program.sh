@@ -23,10 +23,11 @@ crates_below() {
         }' "$root/crates.txt"
 }
 
-# sources_newer_than FILE: whether a source is newer than this file
+# sources_newer_than FILE: whether a source is newer than this file, or a folder of sources, as it is when one was removed
 sources_newer_than() {
-    [ -n "$(find "$root/crates.txt" "$root/crates" -path '*/out' -prune -o -newer "$1" \
-        \( -name '*.rt' -o -name '*.antt' -o -name crates.txt \) -print -quit)" ]
+    [ "$root/HANDLES" -nt "$1" ] || [ "$root/crates.txt" -nt "$1" ] ||
+        [ -n "$(find "$root/crates" -mindepth 2 \( -name out -o -name must-fail -o -name data \) -prune -o -newer "$1" \
+            \( -name '*.rt' -o -name '*.antt' -o -type d \) -print -quit)" ]
 }
 
 # sum_of_sources KIT: the sum of all that the program is made from: the toolchain's line, HANDLES, crates.txt, and each

@@ -33,7 +33,8 @@ pub fn sorted_guesses_exist()
 {}
 
 /// In values that obey the steps of a guess run the number of `fails` is true exactly where the run over the answers
-/// of its open calls fails the check. It does nothing: its contract is the law.
+/// of its open calls fails the check, for answers with which, completed in any way, that run is neither too deep nor
+/// stuck. It does nothing: its contract is the law.
 pub fn guesses_tell()
     ensures { GuessesTell }
 {}
@@ -45,7 +46,8 @@ pub fn guesses_suppose()
 {}
 
 /// Where all that is supposed is true, each two calls of one function that are reached with equal arguments have equal
-/// answers. It does nothing: its contract is the law.
+/// answers where both have one; and where they wait equally long, both have one or none has. It does nothing: its
+/// contract is the law.
 pub fn supposed_agree()
     ensures { SupposedAgree }
 {}
