@@ -10,6 +10,7 @@ pub mod Fields
 pub mod TreeSteps
 pub mod Reading
 pub mod OperatorSteps
+pub mod WordSteps
 pub mod UnknownSymbols
 pub mod ManyUnknown
 pub mod Progress

@@ -1,6 +1,6 @@
 -- How far the loop over the steps has come.
 use Rattle.std.proofs.Common.{true, false, ◌≡◌, ℕ, suc, ◌+◌, ◌-◌, ◌<◌, ◌≤◌, Bool, List, [], ◌∷◌, ◌++◌, length, drop, get_or, take}
-use Rattle.std.proofs.Common.{Some, slice_get, sym, ap, ◌∙◌, subst, arith, length-append, inl, inr, ◌⊎◌}
+use Rattle.std.proofs.Common.{Some, slice_get, refl, sym, ap, ◌∙◌, subst, arith, length-append, inl, inr, ◌⊎◌}
 use Rattle.std.proofs.lemmas.List.{take_all, take-append-le}
 use Rattle.std.proofs.lemmas.Bool.{cases_lt}
 use Rattle.std.proofs.lemmas.Option.{same_Some, slice_get_within}
@@ -31,6 +31,7 @@ use Rattle.pp_build.specs.Built.{CanBuild, IsBuilt}
 use Rattle.pp_build.specs.Followed.{AllStand, CanFollow, CanFollowAll, Compares, GoesAll}
 use Rattle.pp_build.specs.Performed.{CanPerform, IsPerformed, Leaves, Performs}
 use Rattle.pp_build.specs.Registers.{AreRegisters, IsKnown}
+use Rattle.pp_build.specs.Words.{AreWords, KeepsDomain}
 use Rattle.pp_build.proofs.Kept.{agree_self, AreRegisters_later, AreRegisters_push, IsKnown_earlier, IsKnown_later}
 use Rattle.pp_build.proofs.StepLists.{all_tell, at_dropped, dropped_at, high_at, reads_at, sorted_at}
 use Rattle.pp_build.proofs.StepLists.{tells_map}
@@ -49,6 +50,7 @@ module _ {D T : Type 0} (m : Sense D T) (types : TypeTable) (d : D) (gs : List G
       pub moves : Moves m types d gs e hs spent
       pub few : spent + all_step_gates m types σ η (m.looks e) (m.compares e) (length rs) (drop (length rs) steps)
           ≤ most
+      pub words : AreWords σ (length steps) → e ≡ d
       pub longer : length qs ≤ length rs
       pub front : take (length qs) rs ≡ qs
       pub registers : AreRegisters m e hs σ η rs
@@ -69,6 +71,7 @@ module _ {D T : Type 0} (m : Sense D T) (types : TypeTable) (d : D) (gs : List G
     spent = 0;
     moves = Moves_none m types law d gs fits;
     few = let f = can.few in omega arith;
+    words = λ are. refl;
     longer = omega arith;
     front = take_all (length qs) qs (omega arith);
     registers = can.registers;
@@ -112,16 +115,26 @@ module _ {D T : Type 0} (m : Sense D T) (types : TypeTable) (d : D) (gs : List G
         (step_gates m types can.sorts can.heights (m.looks e) (m.compares e) (length rs) s) most built.moves
         (leaves (can_perform most can built)) (omega arith)
 
+    -- on words it leaves the domain that there was before all steps
+    pub building_kept : (f : D) → Building e hs rs → KeepsDomain m types e hs rs s f → (most : ℕ)
+        → (can : CanBuild m types d gs steps qs most) → AreWords can.sorts (length steps) → f ≡ d
+    unfolding can_perform
+    building_kept f building keeps most can are =
+        let built = building most can in
+        keeps (can_perform most can built) (λ k below. are k (omega (arith, many, lt))) ∙ built.words are
+
     -- with its register
     pub building_turn : (f : D) (is : List Gate) (r : Symbol T) (ts : List (Symbol T)) → Building e hs rs
-        → Leaves m types e hs rs s f is → Performs m types e hs rs s f is r → ts ≡ rs ++ r ∷ [] → Building f is ts
+        → Leaves m types e hs rs s f is → KeepsDomain m types e hs rs s f → Performs m types e hs rs s f is r
+        → ts ≡ rs ++ r ∷ [] → Building f is ts
     unfolding can_perform
-    building_turn f is r ts building leaves performs push most can =
+    building_turn f is r ts building leaves keeps performs push most can =
         subst (BuiltTo can.sorts can.heights most f is) (sym push) (record {
           spent = built.spent + here;
           moves = Moves_more m types d e f gs hs is built.spent here (built.spent + here) built.moves moves
               (omega arith);
           few = (let few = built.few in let all = gates_here in omega (arith, gates_next, gates_left));
+          words = λ are. building_kept f building keeps most can are;
           longer = (let l = built.longer in omega (arith, next));
           front = take-append-le (length qs) rs (r ∷ []) built.longer ∙ built.front;
           registers = AreRegisters_push m types f is can.sorts can.heights rs r
@@ -252,6 +265,10 @@ module _ {D T : Type 0} (m : Sense D T) (types : TypeTable) (d : D) (gs : List G
       let built = building most can in
       let few = built.few in
       Moves_weaker m types d e gs hs built.spent most built.moves (omega arith)
+
+  pub building_words : (e : D) (hs : List Gate) (rs : List (Symbol T)) → Building e hs rs → (most : ℕ)
+      → (can : CanBuild m types d gs steps qs most) → AreWords can.sorts (length steps) → e ≡ d
+  building_words e hs rs building most can = (building most can).words
 
   pub building_end : (e : D) (hs : List Gate) (rs : List (Symbol T)) → length rs ≡ length steps → Building e hs rs
       → (most : ℕ) (can : CanBuild m types d gs steps qs most)

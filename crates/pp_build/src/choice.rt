@@ -3,6 +3,7 @@
 ghost use Rattle.std.specs.Prelude.{◌≡◌, true, IfOk};
 ghost use Rattle.pp_steps.specs.declared.step.Step.TheVariants as steps;
 ghost use Rattle.pp_build.specs.Performed.{CanPerform, Leaves, Performs};
+ghost use Rattle.pp_build.specs.Words.{KeepsDomain};
 
 use crate::NoMemory;
 use crate::registers::{literal, register};
@@ -24,6 +25,8 @@ pub(crate) fn choose<D: Domain>(
     requires can { CanPerform D.sense table.now domain.old circuit.old registers.now (steps.Choose choice left right) }
     ensures moves { Leaves D.sense table.now domain.old circuit.old registers.now (steps.Choose choice left right)
         domain.new circuit.new }
+    ensures words { KeepsDomain D.sense table.now domain.old circuit.old registers.now (steps.Choose choice left right)
+        domain.new }
     ensures performs { IfOk result (λ r. Performs D.sense table.now domain.old circuit.old registers.now
         (steps.Choose choice left right) domain.new circuit.new r) }
 {

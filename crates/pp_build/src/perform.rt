@@ -1,9 +1,10 @@
 //! Steps that are performed, one after another.
 
-ghost use Rattle.std.specs.Prelude.{◌≡◌, ℕ, true, IfOk, OnOk};
+ghost use Rattle.std.specs.Prelude.{◌≡◌, ℕ, true, length, IfOk, OnOk};
 ghost use Rattle.pp_domain.specs.Moves.{Moves};
 ghost use Rattle.pp_build.specs.Built.{CanBuild, IsBuilt};
 ghost use Rattle.pp_build.specs.Performed.{CanPerform, Leaves, Performs};
+ghost use Rattle.pp_build.specs.Words.{AreWords, KeepsDomain};
 
 use crate::NoMemory;
 use crate::choice::choose;
@@ -16,7 +17,8 @@ use pp_prog::{Sort, TypeTable};
 use pp_steps::Step;
 use std::alloc::Global;
 
-/// Performs the steps behind those that have registers, and adds theirs. The only error is want of memory.
+/// Performs the steps behind those that have registers, and adds theirs. The only error is want of memory. Where no
+/// step is of a datatype, the domain stays as it was.
 pub fn build<D: Domain>(
     alloc: Global,
     domain: &mut D,
@@ -31,6 +33,9 @@ pub fn build<D: Domain>(
     requires can { (most : ℕ) × CanBuild D.sense table.now domain.old circuit.old steps.now registers.old most }
     ensures moves { (most : ℕ) → CanBuild D.sense table.now domain.old circuit.old steps.now registers.old most
         → Moves D.sense table.now domain.old circuit.old domain.new circuit.new most }
+    ensures words { (most : ℕ)
+        → (can : CanBuild D.sense table.now domain.old circuit.old steps.now registers.old most)
+        → AreWords can.sorts (length steps.now) → domain.new ≡ domain.old }
     ensures built { OnOk result ((most : ℕ)
         → (can : CanBuild D.sense table.now domain.old circuit.old steps.now registers.old most)
         → IsBuilt D.sense table.now domain.old circuit.old steps.now registers.old can.sorts can.heights
@@ -65,6 +70,7 @@ fn perform<D: Domain>(
     requires fits { D.sense.Fits table.now domain.old circuit.old }
     requires can { CanPerform D.sense table.now domain.old circuit.old registers.now step.now }
     ensures moves { Leaves D.sense table.now domain.old circuit.old registers.now step.now domain.new circuit.new }
+    ensures words { KeepsDomain D.sense table.now domain.old circuit.old registers.now step.now domain.new }
     ensures performs { IfOk result (λ r. Performs D.sense table.now domain.old circuit.old registers.now step.now
         domain.new circuit.new r) }
 {

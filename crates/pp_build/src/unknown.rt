@@ -2,6 +2,7 @@
 
 ghost use Rattle.std.specs.Prelude.{◌≡◌, ◌+◌, ◌^◌, ◌≤◌, true, length, map, sum, IfOk, IsTrue};
 ghost use Rattle.std.specs.List.{list_all};
+ghost use Rattle.pp_prog.specs.Cone.{is_word};
 ghost use Rattle.pp_prog.specs.Sorts.{param_sorts};
 ghost use Rattle.pp_prog.specs.Table.{is_sort};
 ghost use Rattle.pp_domain.specs.Moves.{Moves};
@@ -54,6 +55,7 @@ pub(crate) fn unknown_symbol<D: Domain>(
     requires room { length circuit.old + opened_gates D.sense table.now height sort ≤ 2 ^ 30 }
     ensures moves { Moves D.sense table.now domain.old circuit.old domain.new circuit.new
         (opened_gates D.sense table.now height sort) }
+    ensures words { IsTrue (is_word sort) → domain.new ≡ domain.old }
     ensures answer { IfOk result (λ r. IsUnknownSymbol D.sense table.now domain.old circuit.old domain.new
         circuit.new sort height r) }
 {

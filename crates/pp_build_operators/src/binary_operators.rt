@@ -8,6 +8,7 @@ ghost use Rattle.pp_gate.specs.Growth.{AddsGates};
 ghost use Rattle.pp_word.specs.Word.{word_div, word_rem};
 ghost use Rattle.pp_wordgate.specs.Meaning.{StandsForWord, word_of};
 ghost use Rattle.pp_domain.specs.Moves.{Moves};
+ghost use Rattle.pp_domain.specs.Symbols.{IsWordSymbol};
 ghost use Rattle.pp_eval.specs.Operators.{on_numbers, on_truths};
 ghost use Rattle.pp_build_operators.specs.Budget as budget;
 ghost use Rattle.pp_build_operators.specs.Budget.{is_equality, number_gates, operator_gates};
@@ -19,7 +20,8 @@ use pp_domain::{Domain, Symbol};
 use pp_gate::{Circuit, Word};
 use pp_prog::{BinaryOp, TypeTable};
 
-/// What the operator makes of the two symbols. A quotient by 0 is 0, and a remainder the dividend.
+/// What the operator makes of the two symbols. A quotient by 0 is 0, and a remainder the dividend. Words and literals
+/// leave the domain as it was.
 pub fn binary<D: Domain>(
     domain: &mut D,
     circuit: &mut Circuit,
@@ -33,6 +35,7 @@ pub fn binary<D: Domain>(
     requires room { length circuit.old + operator_gates D.sense table.now op domain.old left.now right.now ≤ 2 ^ 30 }
     ensures moves { Moves D.sense table.now domain.old circuit.old domain.new circuit.new
         (operator_gates D.sense table.now op domain.old left.now right.now) }
+    ensures words { IsWordSymbol left.now → domain.new ≡ domain.old }
     ensures answer { IfOk result (λ r. IsBinary D.sense table.now op domain.old circuit.old domain.new circuit.new
         left.now right.now r) }
 {

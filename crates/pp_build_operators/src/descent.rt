@@ -7,6 +7,7 @@ ghost use Rattle.pp_gate.specs.Growth.{AddsGates};
 ghost use Rattle.pp_wordgate.specs.Meaning.{word_of};
 ghost use Rattle.pp_domain.specs.AnySort.{AreOfOneSort};
 ghost use Rattle.pp_domain.specs.Moves.{Moves};
+ghost use Rattle.pp_domain.specs.Symbols.{IsWordSymbol};
 ghost use Rattle.pp_build_operators.specs.Budget.{goes_down_gates};
 ghost use Rattle.pp_build_operators.specs.Operated.{IsDescent};
 
@@ -16,7 +17,7 @@ use pp_gate::{Circuit, Word};
 use pp_prog::TypeTable;
 
 /// Whether a component of a measure goes down from the old symbol to the new one, of one sort. Of trees of a domain
-/// that isn't exact it is a literal that can stand for either.
+/// that isn't exact it is a literal that can stand for either. Words and literals leave the domain as it was.
 pub fn goes_down<D: Domain>(
     domain: &mut D,
     circuit: &mut Circuit,
@@ -31,6 +32,7 @@ pub fn goes_down<D: Domain>(
     requires room { length circuit.old + goes_down_gates D.sense table.now domain.old new.now old.now ≤ 2 ^ 30 }
     ensures moves { Moves D.sense table.now domain.old circuit.old domain.new circuit.new
         (goes_down_gates D.sense table.now domain.old new.now old.now) }
+    ensures words { IsWordSymbol new.now → domain.new ≡ domain.old }
     ensures answer { IfOk result (λ r. IsDescent D.sense table.now domain.old circuit.old domain.new circuit.new
         new.now old.now r) }
 {

@@ -17,7 +17,7 @@ use pp_domain::{Domain, Symbol};
 use pp_gate::{Circuit, Word};
 use pp_prog::{TypeTable, UnaryOp};
 
-/// What the operator makes of the symbol.
+/// What the operator makes of the symbol. The domain stays as it was.
 pub fn unary<D: Domain>(
     domain: &mut D,
     circuit: &mut Circuit,
@@ -29,6 +29,7 @@ pub fn unary<D: Domain>(
     requires sorted { CanApply D.sense op domain.old circuit.old x.now }
     requires room { length circuit.old + unary_gates op ≤ 2 ^ 30 }
     ensures moves { Moves D.sense table.now domain.old circuit.old domain.new circuit.new (unary_gates op) }
+    ensures same { domain.new ≡ domain.old }
     ensures answer { IfOk result (λ r. IsUnary D.sense table.now op domain.old circuit.old domain.new circuit.new
         x.now r) }
 {

@@ -14,6 +14,11 @@ use Rattle.pp_domain.specs.declared.symbol.Symbol.TheVariants as symbol
 use Rattle.pp_domain.specs.Naming.{Naming}
 use Rattle.pp_domain.specs.Sense.{Sense}
 
+-- the symbol is a word or a literal, and no tree
+abbrev pub IsWordSymbol : {T : Type 0} → Symbol T → Type 0
+IsWordSymbol (symbol.Tree t) = ⊥
+IsWordSymbol x = Unit {0}
+
 module _ {D T : Type 0} (m : Sense D T) where
   -- the symbol is of the domain and the circuit, and of this sort
   abbrev pub IsSymbol : D → List Gate → Sort → Symbol T → Type 0

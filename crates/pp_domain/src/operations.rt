@@ -3,6 +3,7 @@
 ghost use Rattle.std.specs.Prelude.{◌≡◌, ◌+◌, ◌^◌, ◌≤◌, true, length, IfOk};
 ghost use Rattle.pp_gate.specs.Circuit.{IsOf};
 ghost use Rattle.pp_domain.specs.Moves.{Moves, Steady, SameLooks};
+ghost use Rattle.pp_domain.specs.Symbols.{IsWordSymbol};
 ghost use Rattle.pp_domain.specs.AnySort.{choose_gates, compare_gates, AreOfOneSort, IsChoice, IsSame};
 
 use crate::domain::Domain;
@@ -11,7 +12,8 @@ use pp_clause::{Lit, NoMemory};
 use pp_gate::Circuit;
 use pp_prog::TypeTable;
 
-/// The left symbol where the choice is true, and else the right one. They are of one sort.
+/// The left symbol where the choice is true, and else the right one. They are of one sort. Words and literals leave
+/// the domain as it was.
 pub fn choose<D: Domain>(
     domain: &mut D,
     circuit: &mut Circuit,
@@ -28,6 +30,7 @@ pub fn choose<D: Domain>(
         (choose_gates D.sense table.now domain.old left.now right.now) }
     ensures steady { D.sense.exact ≡ true → Steady D.sense domain.old circuit.old domain.new circuit.new }
     ensures looks { SameLooks D.sense domain.old domain.new }
+    ensures words { IsWordSymbol left.now → domain.new ≡ domain.old }
     ensures answer { IfOk result (λ r. IsChoice D.sense table.now domain.old circuit.old domain.new circuit.new
         choice left.now right.now r) }
 {
@@ -48,7 +51,7 @@ pub fn choose<D: Domain>(
     }
 }
 
-/// Whether the two symbols, of one sort, stand for one value.
+/// Whether the two symbols, of one sort, stand for one value. Words and literals leave the domain as it was.
 pub fn equal<D: Domain>(
     domain: &mut D,
     circuit: &mut Circuit,
@@ -63,6 +66,7 @@ pub fn equal<D: Domain>(
         (compare_gates D.sense table.now domain.old left.now right.now) }
     ensures steady { D.sense.exact ≡ true → Steady D.sense domain.old circuit.old domain.new circuit.new }
     ensures looks { SameLooks D.sense domain.old domain.new }
+    ensures words { IsWordSymbol left.now → domain.new ≡ domain.old }
     ensures answer { IfOk result (λ l. IsSame D.sense table.now domain.old circuit.old domain.new circuit.new
         left.now right.now l) }
 {

@@ -1,6 +1,6 @@
 use Rattle.std.proofs.Common.{arith}
-use Rattle.pp_build.proofs.Progress.{building_end, building_left, building_moves, building_start, building_turn}
-use Rattle.pp_build.proofs.Progress.{can_perform, pushed_length}
+use Rattle.pp_build.proofs.Progress.{building_end, building_kept, building_left, building_moves, building_start}
+use Rattle.pp_build.proofs.Progress.{building_turn, building_words, can_perform, pushed_length}
 use Rattle.pp_build.proofs.perform.build.Goals as goal
 
 pub loop-number-init : goal.loop-number-init
@@ -12,7 +12,7 @@ loop-number-preserved g c = (
   pushed_length _ _ _ _ c.loop-number.invariant.0 c.in_ok-push.ensures.ok,
   building_turn _ _ _ _ _ _ _ _ _ _ _ c.loop-number.invariant.0 c.loop-number-test.true
       c.index-steps-number.is _ _ _ _ c.loop-number.invariant.1 c.in_ok-symbol.ensures.moves
-      c.in_ok-symbol.ensures.performs c.in_ok-push.ensures.ok,
+      c.in_ok-symbol.ensures.words c.in_ok-symbol.ensures.performs c.in_ok-push.ensures.ok,
 )
 
 pub perform-requires-clause-fits : goal.perform-requires-clause-fits
@@ -45,3 +45,16 @@ returns-clause-built g c =
     let last = c.loop-number.auto.number-end in
     let many = c.loop-number.invariant.0 in
     building_end _ _ _ _ _ _ _ _ _ (omega arith) c.loop-number.invariant.1
+
+pub returns-in_err-symbol-clause-words : goal.returns-in_err-symbol-clause-words
+returns-in_err-symbol-clause-words g c =
+    building_kept _ _ _ _ _ _ _ _ _ _ _ c.loop-number.invariant.0 c.loop-number-test.true c.index-steps-number.is
+    _ c.loop-number.invariant.1 c.in_err-symbol.ensures.words
+
+pub returns-in_err-push-clause-words : goal.returns-in_err-push-clause-words
+returns-in_err-push-clause-words g c =
+    building_kept _ _ _ _ _ _ _ _ _ _ _ c.loop-number.invariant.0 c.loop-number-test.true c.index-steps-number.is
+    _ c.loop-number.invariant.1 c.in_ok-symbol.ensures.words
+
+pub returns-clause-words : goal.returns-clause-words
+returns-clause-words g c = building_words _ _ _ _ _ _ _ _ _ c.loop-number.invariant.1

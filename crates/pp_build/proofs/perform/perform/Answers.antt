@@ -8,6 +8,9 @@ use Rattle.pp_build.proofs.OperatorSteps.{unknown_performed}
 use Rattle.pp_build.proofs.Performing.{leaves_by, room_for}
 use Rattle.pp_build.proofs.TruthSteps.{alike_performed, bool_performed, both_left, both_performed, both_right}
 use Rattle.pp_build.proofs.TruthSteps.{int_performed, not_performed}
+use Rattle.pp_build.proofs.WordSteps.{answer_keeps_domain, binary_keeps_domain, construct_is_no_word}
+use Rattle.pp_build.proofs.WordSteps.{ctor_field_meets_a_tree, descent_keeps_domain, only_field_meets_a_tree}
+use Rattle.pp_build.proofs.WordSteps.{open_keeps_domain, test_meets_a_tree}
 use Rattle.pp_eval.proofs.Ranges.{int_fits}
 use Rattle.pp_build.proofs.perform.perform.Goals as goal
 
@@ -183,3 +186,67 @@ pub returns-in_ok-down-in-GoesDown-clause-performs : goal.returns-in_ok-down-in-
 returns-in_ok-down-in-GoesDown-clause-performs g c = rw c.in-GoesDown.is
     (descent_performed _ _ _ _ _ _ _ _ _ c.register-new.ensures c.register-old.ensures _ _ _
     c.in_ok-down-in-GoesDown.ensures.answer)
+
+pub returns-in_err-symbol-in-Open-clause-words : goal.returns-in_err-symbol-in-Open-clause-words
+returns-in_err-symbol-in-Open-clause-words g c = rw c.in-Open.is
+    (open_keeps_domain _ _ _ _ _ _ _ c.in_err-symbol-in-Open.ensures.words)
+
+pub returns-in_ok-symbol-in-Open-clause-words : goal.returns-in_ok-symbol-in-Open-clause-words
+returns-in_ok-symbol-in-Open-clause-words g c = rw c.in-Open.is
+    (open_keeps_domain _ _ _ _ _ _ _ c.in_ok-symbol-in-Open.ensures.words)
+
+pub returns-in_err-answer-in-Answer-clause-words : goal.returns-in_err-answer-in-Answer-clause-words
+returns-in_err-answer-in-Answer-clause-words g c = rw c.in-Answer.is
+    (answer_keeps_domain _ _ _ _ _ _ _ c.in_err-answer-in-Answer.ensures.words)
+
+pub returns-in_ok-answer-in-Answer-clause-words : goal.returns-in_ok-answer-in-Answer-clause-words
+returns-in_ok-answer-in-Answer-clause-words g c = rw c.in-Answer.is
+    (answer_keeps_domain _ _ _ _ _ _ _ c.in_ok-answer-in-Answer.ensures.words)
+
+pub returns-in_err-chosen-in-Choose-clause-words : goal.returns-in_err-chosen-in-Choose-clause-words
+returns-in_err-chosen-in-Choose-clause-words g c = rw c.in-Choose.is c.in_err-chosen-in-Choose.ensures.words
+
+pub returns-in_ok-chosen-in-Choose-clause-words : goal.returns-in_ok-chosen-in-Choose-clause-words
+returns-in_ok-chosen-in-Choose-clause-words g c = rw c.in-Choose.is c.in_ok-chosen-in-Choose.ensures.words
+
+pub returns-in_err-made-in-Binary-clause-words : goal.returns-in_err-made-in-Binary-clause-words
+returns-in_err-made-in-Binary-clause-words g c = rw c.in-Binary.is
+    (binary_keeps_domain _ _ _ _ _ _ _ _ _ _ c.register-left.ensures c.in_err-made-in-Binary.ensures.words)
+
+pub returns-in_ok-made-in-Binary-clause-words : goal.returns-in_ok-made-in-Binary-clause-words
+returns-in_ok-made-in-Binary-clause-words g c = rw c.in-Binary.is
+    (binary_keeps_domain _ _ _ _ _ _ _ _ _ _ c.register-left.ensures c.in_ok-made-in-Binary.ensures.words)
+
+pub returns-in_err-tree-in-Construct-clause-words : goal.returns-in_err-tree-in-Construct-clause-words
+returns-in_err-tree-in-Construct-clause-words g c = rw c.in-Construct.is (construct_is_no_word _ _ _ _ _ _ _ _)
+
+pub returns-in_ok-tree-in-Construct-clause-words : goal.returns-in_ok-tree-in-Construct-clause-words
+returns-in_ok-tree-in-Construct-clause-words g c = rw c.in-Construct.is (construct_is_no_word _ _ _ _ _ _ _ _)
+
+pub returns-in_err-has-in-IsCtor-clause-words : goal.returns-in_err-has-in-IsCtor-clause-words
+returns-in_err-has-in-IsCtor-clause-words g c = rw c.in-IsCtor.is (test_meets_a_tree _ _ _ _ _ _ _ _ _)
+
+pub returns-in_ok-has-in-IsCtor-clause-words : goal.returns-in_ok-has-in-IsCtor-clause-words
+returns-in_ok-has-in-IsCtor-clause-words g c = rw c.in-IsCtor.is (test_meets_a_tree _ _ _ _ _ _ _ _ _)
+
+pub returns-in_err-field-in-CtorField-clause-words : goal.returns-in_err-field-in-CtorField-clause-words
+returns-in_err-field-in-CtorField-clause-words g c = rw c.in-CtorField.is
+    (ctor_field_meets_a_tree _ _ _ _ _ _ _ _ _)
+
+pub returns-in_ok-field-in-CtorField-clause-words : goal.returns-in_ok-field-in-CtorField-clause-words
+returns-in_ok-field-in-CtorField-clause-words g c = rw c.in-CtorField.is
+    (ctor_field_meets_a_tree _ _ _ _ _ _ _ _ _)
+
+pub returns-in_err-field-in-Field-clause-words : goal.returns-in_err-field-in-Field-clause-words
+returns-in_err-field-in-Field-clause-words g c = rw c.in-Field.is (only_field_meets_a_tree _ _ _ _ _ _ _ _)
+
+pub returns-in_ok-field-in-Field-clause-words : goal.returns-in_ok-field-in-Field-clause-words
+returns-in_ok-field-in-Field-clause-words g c = rw c.in-Field.is (only_field_meets_a_tree _ _ _ _ _ _ _ _)
+
+pub returns-in_err-down-in-GoesDown-clause-words : goal.returns-in_err-down-in-GoesDown-clause-words
+returns-in_err-down-in-GoesDown-clause-words g c = rw c.in-GoesDown.is
+    (descent_keeps_domain _ _ _ _ _ _ _ _ _ c.register-new.ensures c.in_err-down-in-GoesDown.ensures.words)
+
+pub returns-in_ok-down-in-GoesDown-clause-words : goal.returns-in_ok-down-in-GoesDown-clause-words
+returns-in_ok-down-in-GoesDown-clause-words g c = rw c.in-GoesDown.is
+    (descent_keeps_domain _ _ _ _ _ _ _ _ _ c.register-new.ensures c.in_ok-down-in-GoesDown.ensures.words)
