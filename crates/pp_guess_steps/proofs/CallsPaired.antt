@@ -1,21 +1,16 @@
 -- Calls are paired in the steps of a guess run, so the first half of its laws holds without this hypothesis.
-use Rattle.std.proofs.Common.{ℕ, suc, ◌+◌, List, [], ◌∷◌, ◌++◌, length, map}
-use Rattle.std.proofs.Common.{Some, refl, sym, subst}
-use Rattle.pp_prog.specs.declared.expr.BinaryOp.TheVariants.{Equal}
+use Rattle.std.proofs.Common.{ℕ, List, [], ◌∷◌, ◌++◌, length}
+use Rattle.std.proofs.Common.{Some, refl}
 use Rattle.pp_prog.specs.declared.expr.Function.{Function}
 use Rattle.pp_prog.specs.declared.expr.Pattern.{Pattern}
-use Rattle.pp_prog.specs.declared.expr.Pattern.TheFolds.{fold-roll-Pattern, ind-Pattern, map-Pattern}
-use Rattle.pp_prog.specs.declared.expr.Pattern.TheOpen as pattern
-use Rattle.pp_prog.specs.declared.expr.Pattern.TheViews.{roll-Pattern}
 use Rattle.pp_prog.specs.declared.id.CheckId.{CheckId}
-use Rattle.pp_prog.specs.declared.id.CtorId.{CtorId}
 use Rattle.pp_steps.specs.declared.step.Step.{Step}
 use Rattle.pp_steps.specs.declared.step.Step.TheVariants as steps
 use Rattle.pp_steps.specs.Guesses.{all_unfolded, guess_steps, standing}
-use Rattle.pp_steps.specs.Patterns.{Matching, fit_fields, fitting, fitting_step}
+use Rattle.pp_steps.specs.Patterns.{fitting}
 use Rattle.pp_steps.specs.Piece.{after}
-use Rattle.pp_guess_steps.proofs.ClosedExprs.{IsSimple}
-use Rattle.pp_guess_steps.proofs.ClosedRounds.{base_closed, guess_closed, unfolding_closed}
+use Rattle.pp_guess_steps.proofs.ClosedAlways.{IsSimple, base_closed, guess_closed, unfolding_closed}
+use Rattle.pp_guess_steps.proofs.ClosedPatterns.{IsPatternStep, pattern_closed}
 use Rattle.pp_prog.specs.Sorts.{param_sorts}
 use Rattle.pp_steps.specs.Frames.{any_of, arguments, running}
 use Rattle.pp_steps.specs.Guesses.{guessing}
@@ -29,43 +24,26 @@ IsNoCall s = Unit {0}
 
 module _ (P : List Step → Type 0) (join : (xs ys : List Step) → P xs → P ys → P (xs ++ ys)) (none : P [])
     (quiet : (s : Step) → IsNoCall s → P (s ∷ [])) where
-  abbrev Fits : Pattern → Type 0
-  Fits p = (k t : ℕ) → P (fitting p k t).steps
+  pattern_quiet : (s : Step) → IsPatternStep s → P (s ∷ [])
+  pattern_quiet (steps.Int n) h = quiet (steps.Int n) tt
+  pattern_quiet (steps.Bool b) h = quiet (steps.Bool b) tt
+  pattern_quiet (steps.Binary op a b) h = quiet (steps.Binary op a b) tt
+  pattern_quiet (steps.IsCtor c n a) h = quiet (steps.IsCtor c n a) tt
+  pattern_quiet (steps.CtorField c i a) h = quiet (steps.CtorField c i a) tt
+  pattern_quiet (steps.Open s) h = absurd h
+  pattern_quiet (steps.Not a) h = absurd h
+  pattern_quiet (steps.Both a b) h = absurd h
+  pattern_quiet (steps.Choose c a b) h = absurd h
+  pattern_quiet (steps.Unary op a) h = absurd h
+  pattern_quiet (steps.Construct c fields) h = absurd h
+  pattern_quiet (steps.Field a i) h = absurd h
+  pattern_quiet (steps.IsAlike a b) h = absurd h
+  pattern_quiet (steps.GoesDown a b) h = absurd h
+  pattern_quiet (steps.HasAnswer c) h = absurd h
+  pattern_quiet (steps.Answer c) h = absurd h
 
-  abbrev E : Type 0
-  E = (p : Pattern) × Fits p
-
-  abbrev inner_of : List E → List Matching
-  inner_of ps = map fitting (map (λ y. y.0) ps)
-
-  fields_fit : (c : CtorId) (ps : List E) (j k t : ℕ) → P (fit_fields c j (inner_of ps) k t).steps
-  fields_fit c [] j k t = none
-  fields_fit c (p ∷ ps) j k t =
-      let x = fitting p.0 (suc k) k in
-      join (steps.CtorField c j t ∷ []) _ (quiet (steps.CtorField c j t) tt)
-      (join x.steps _ (p.1 (suc k) k) (fields_fit c ps (suc j) (suc k + length x.steps) t))
-
-  abbrev under : pattern.Pattern-F E → pattern.Pattern-F Pattern
-  under y = map-Pattern E Pattern (λ z. z.0) y
-
-  level : (y : pattern.Pattern-F E) (k t : ℕ)
-      → P (fitting_step (map-Pattern Pattern Matching fitting (under y)) k t).steps
-  level pattern.Any k t = none
-  level (pattern.Bind inner) k t = inner.1 k t
-  level (pattern.Int n) k t =
-      join (steps.Int n ∷ []) _ (quiet (steps.Int n) tt) (quiet (steps.Binary Equal k t) tt)
-  level (pattern.Bool b) k t =
-      join (steps.Bool b ∷ []) _ (quiet (steps.Bool b) tt) (quiet (steps.Binary Equal k t) tt)
-  level (pattern.Ctor c ps) k t =
-      join (steps.IsCtor c (length (inner_of ps)) t ∷ []) _ (quiet (steps.IsCtor c (length (inner_of ps)) t) tt)
-      (fields_fit c ps 0 (suc k) t)
-
-  at_level : (y : pattern.Pattern-F E) → Fits (roll-Pattern (under y))
-  at_level y = subst (λ (f : Matching). (k t : ℕ) → P (f k t).steps)
-      (sym (fold-roll-Pattern Matching fitting_step (under y))) (level y)
-
-  pub pattern_fits : (p : Pattern) → Fits p
-  pattern_fits = ind-Pattern Fits (λ x y is. subst (λ z. Fits (roll-Pattern z)) is (at_level y))
+  pub pattern_fits : (p : Pattern) (k t : ℕ) → P (fitting p k t).steps
+  pattern_fits = pattern_closed P join none pattern_quiet
 
 paired_join : (xs ys : List Step) → Paired xs → Paired ys → Paired (xs ++ ys)
 paired_join [] ys p q = q

@@ -1,5 +1,5 @@
--- Closed predicates: what joins, and is true of simple steps, of patterns' steps and of a call's, is true of an
--- expression's steps.
+-- Closed predicates: what joins, and is true of simple steps, of patterns' steps and of a call's, is true of the steps
+-- of an expression that satisfies a condition.
 use Rattle.std.proofs.Common.{ℕ, suc, ◌+◌, Bool, true, false, List, [], ◌∷◌, ◌++◌, map}
 use Rattle.std.proofs.Common.{Option, Some, None, sym, subst}
 use Rattle.std.specs.Prelude.{pos}
@@ -20,17 +20,22 @@ use Rattle.pp_steps.specs.Compile.{compile, compile_step, deciding, operating, q
 use Rattle.pp_steps.specs.Compile.{unless, when}
 use Rattle.pp_steps.specs.Patterns.{fitting}
 use Rattle.pp_steps.specs.Piece.{Piece, after, asks, choice, demand, pick_step, plain}
+use Rattle.pp_steps_run.specs.Told.{AllOf}
+use Rattle.pp_guess_steps.proofs.Conditions.{CaseHolds, Conditions, PartsHold}
 
--- neither a call nor a field of a pattern's constructor
-abbrev pub IsSimple : Step → Type 0
-IsSimple (steps.HasAnswer c) = ⊥
-IsSimple (steps.Answer c) = ⊥
-IsSimple (steps.CtorField c i a) = ⊥
-IsSimple s = Unit {0}
+-- neither a call nor a field of a pattern's constructor; a tree's constructor, and an open sort, satisfy the condition
+abbrev pub IsSimpleOf : Conditions → Step → Type 0
+IsSimpleOf q (steps.HasAnswer c) = ⊥
+IsSimpleOf q (steps.Answer c) = ⊥
+IsSimpleOf q (steps.CtorField c i a) = ⊥
+IsSimpleOf q (steps.Construct c fields) = q.Makes c
+IsSimpleOf q (steps.Open s) = q.Opens s
+IsSimpleOf q s = Unit {0}
 
-module _ (P : List Step → Type 0) (join : (xs ys : List Step) → P xs → P ys → P (xs ++ ys)) (none : P [])
-    (simple : (s : Step) → IsSimple s → P (s ∷ [])) (pats : (p : Pattern) (k t : ℕ) → P (fitting p k t).steps) where
-  more : (s : Step) (ss : List Step) → IsSimple s → P ss → P (s ∷ ss)
+module _ (q : Conditions) (P : List Step → Type 0) (join : (xs ys : List Step) → P xs → P ys → P (xs ++ ys))
+    (none : P []) (simple : (s : Step) → IsSimpleOf q s → P (s ∷ []))
+    (pats : (p : Pattern) (k t : ℕ) → P (fitting p k t).steps) where
+  more : (s : Step) (ss : List Step) → IsSimpleOf q s → P ss → P (s ∷ ss)
   more s ss i h = join (s ∷ []) ss (simple s i) h
 
   -- the steps of what an expression is
@@ -38,7 +43,7 @@ module _ (P : List Step → Type 0) (join : (xs ys : List Step) → P xs → P y
   Closed m = (k : ℕ) (env : List ℕ) (reach : ℕ) → P (m k env reach).steps
 
   abbrev pub ClosedSite : Site → Type 0
-  ClosedSite site = (k reach : ℕ) (g : FunctionId) (pre down : Option CheckId) (args : List ℕ)
+  ClosedSite site = (k reach : ℕ) (g : FunctionId) (pre down : Option CheckId) (args : List ℕ) → q.Meets g
       → P (site k reach g pre down args).steps
 
   abbrev pub AllClosed : List Compiling → Type 0
@@ -158,10 +163,10 @@ module _ (P : List Step → Type 0) (join : (xs ys : List Step) → P xs → P y
 
   module _ (asked : Option CheckId) (site : Site) (its : ClosedSite site) where
     abbrev C : Expr → Type 0
-    C e = Closed (compile asked site e)
+    C e = q.Holds e → Closed (compile asked site e)
 
     abbrev Q : Case → Type 0
-    Q c = ArmClosed (arm asked site c)
+    Q c = q.Suits c → ArmClosed (arm asked site c)
 
     abbrev E : Type 0
     E = (e : Expr) × C e
@@ -169,80 +174,91 @@ module _ (P : List Step → Type 0) (join : (xs ys : List Step) → P xs → P y
     abbrev K : Type 0
     K = (c : Case) × Q c
 
-    parts_closed : (ys : List E) → AllClosed (map (compile asked site) (map (λ z. z.0) ys))
-    parts_closed [] = tt
-    parts_closed (y ∷ ys) = (y.1, parts_closed ys)
+    parts_closed : (ys : List E) → AllOf q.Holds (map (λ z. z.0) ys)
+        → AllClosed (map (compile asked site) (map (λ z. z.0) ys))
+    parts_closed [] h = tt
+    parts_closed (y ∷ ys) h = (y.1 h.0, parts_closed ys h.1)
 
-    arms_closed : (ys : List K) → ArmsClosed (map (arm asked site) (map (λ z. z.0) ys))
-    arms_closed [] = tt
-    arms_closed (y ∷ ys) = (y.1, arms_closed ys)
+    arms_closed : (ys : List K) → AllOf q.Suits (map (λ z. z.0) ys)
+        → ArmsClosed (map (arm asked site) (map (λ z. z.0) ys))
+    arms_closed [] h = tt
+    arms_closed (y ∷ ys) h = (y.1 h.0, arms_closed ys h.1)
 
     abbrev under : layer.Expr-F E K → layer.Expr-F Expr Case
     under y = map-Expr E K Expr Case (λ z. z.0) (λ z. z.0) y
 
-    level : (y : layer.Expr-F E K)
+    abbrev case_under : layer.Case-F E K → layer.Case-F Expr Case
+    case_under y = map-Case E K Expr Case (λ z. z.0) (λ z. z.0) y
+
+    level : (y : layer.Expr-F E K) → PartsHold q.Makes q.Meets q.Holds q.Suits (under y)
         → Closed (compile_step asked site
         (map-Expr Expr Case Compiling Arm (compile asked site) (arm asked site) (under y)))
-    level (layer.Int n) k env reach = simple (steps.Int n) tt
-    level (layer.Bool b) k env reach = simple (steps.Bool b) tt
-    level (layer.Var i) k env reach = none
-    level (layer.Unary op a) k env reach = join (compile asked site a.0 k env reach).steps _ (a.1 k env reach)
+    level (layer.Int n) h k env reach = simple (steps.Int n) tt
+    level (layer.Bool b) h k env reach = simple (steps.Bool b) tt
+    level (layer.Var i) h k env reach = none
+    level (layer.Unary op a) h k env reach = join (compile asked site a.0 k env reach).steps _ (a.1 h k env reach)
         (simple (steps.Unary op (compile asked site a.0 k env reach).out) tt)
-    level (layer.Binary op a b check) k env reach =
-        binary_closed asked op check (compile asked site a.0) (compile asked site b.0) a.1 b.1 k env reach
-    level (layer.Construct c args) k env reach =
+    level (layer.Binary op a b check) h k env reach =
+        binary_closed asked op check (compile asked site a.0) (compile asked site b.0) (a.1 h.0) (b.1 h.1) k env reach
+    level (layer.Construct c args) h k env reach =
         let ms = map (compile asked site) (map (λ z. z.0) args) in
-        join (all ms k env reach).steps _ (all_closed ms (parts_closed args) [] k env reach)
-        (simple (steps.Construct c (all ms k env reach).out) tt)
-    level (layer.Field x i) k env reach = join (compile asked site x.0 k env reach).steps _ (x.1 k env reach)
+        join (all ms k env reach).steps _ (all_closed ms (parts_closed args h.1) [] k env reach)
+        (simple (steps.Construct c (all ms k env reach).out) h.0)
+    level (layer.Field x i) h k env reach = join (compile asked site x.0 k env reach).steps _ (x.1 h k env reach)
         (simple (steps.Field (compile asked site x.0 k env reach).out i) tt)
-    level (layer.If t a b) k env reach =
+    level (layer.If t a b) h k env reach =
         let x = compile asked site t.0 k env reach in
         let n = after k x in
         let m = after n (when n x.alive x.out) in
         let l = after m (unless m x.alive x.out) in
         let y = compile asked site a.0 l env n in
         let z = compile asked site b.0 (after l y) env (suc m) in
-        join x.steps _ (t.1 k env reach) (join (when n x.alive x.out).steps _ (simple (steps.Both x.alive x.out) tt)
+        join x.steps _ (t.1 h.0 k env reach)
+        (join (when n x.alive x.out).steps _ (simple (steps.Both x.alive x.out) tt)
         (join (unless m x.alive x.out).steps _ (unless_closed m x.alive x.out)
         (choice_closed (after (after l y) z) n y
         (record { steps = z.steps; out = Some z.out; alive = z.alive; fails = z.fails })
-        (a.1 l env n) (b.1 (after l y) env (suc m)))))
-    level (layer.Match x ys check) k env reach =
+        (a.1 h.1 l env n) (b.1 h.2 (after l y) env (suc m)))))
+    level (layer.Match x ys check) h k env reach =
         let y = compile asked site x.0 k env reach in
-        join y.steps _ (x.1 k env reach) (cases_closed asked (map (arm asked site) (map (λ z. z.0) ys)) (arms_closed ys)
+        join y.steps _ (x.1 h.0 k env reach)
+        (cases_closed asked (map (arm asked site) (map (λ z. z.0) ys)) (arms_closed ys h.1)
         check y.out (after k y) env y.alive)
-    level (layer.Val a b) k env reach =
+    level (layer.Val a b) h k env reach =
         let x = compile asked site a.0 k env reach in
-        join x.steps _ (a.1 k env reach) (b.1 (after k x) (env ++ x.out ∷ []) x.alive)
-    level (layer.Assert check t rest) k env reach =
+        join x.steps _ (a.1 h.0 k env reach) (b.1 h.1 (after k x) (env ++ x.out ∷ []) x.alive)
+    level (layer.Assert check t rest) h k env reach =
         let x = compile asked site t.0 k env reach in
         let n = after k x in
         let d = demand (asks asked (Some check)) n x.alive x.out in
-        join x.steps _ (t.1 k env reach) (join d.steps _ (demand_closed (asks asked (Some check)) n x.alive x.out)
-        (rest.1 (after n d) env d.alive))
-    level (layer.Call g args pre down) k env reach =
+        join x.steps _ (t.1 h.0 k env reach)
+        (join d.steps _ (demand_closed (asks asked (Some check)) n x.alive x.out)
+        (rest.1 h.1 (after n d) env d.alive))
+    level (layer.Call g args pre down) h k env reach =
         let ms = map (compile asked site) (map (λ z. z.0) args) in
         let x = all ms k env reach in
-        join x.steps _ (all_closed ms (parts_closed args) [] k env reach) (its (after k x) x.alive g pre down x.out)
+        join x.steps _ (all_closed ms (parts_closed args h.1) [] k env reach)
+        (its (after k x) x.alive g pre down x.out h.0)
 
     at_level : (y : layer.Expr-F E K) → C (roll-Expr (under y))
-    at_level y = subst (λ (m : Compiling). Closed m)
-        (sym (fold-roll-Expr Compiling Arm (compile_step asked site) arm_step (under y))) (level y)
+    at_level y h = subst (λ (m : Compiling). Closed m)
+        (sym (fold-roll-Expr Compiling Arm (compile_step asked site) arm_step (under y)))
+        (level y (q.parts (under y) h))
 
     at_parts : (p : Pattern) (o : Option E) (b : E) → let y : layer.Case-F E K =
         record { pattern = p; guard = o; body = b } in
-        let z = map-Case E K Expr Case (λ w. w.0) (λ w. w.0) y in
-        ArmClosed (arm_step (map-Case Expr Case Compiling Arm (compile asked site) (arm asked site) z))
-    at_parts p None b = record { guard = tt; body = b.1 }
-    at_parts p (Some e) b = record { guard = e.1; body = b.1 }
+        let z = case_under y in
+        CaseHolds q.Makes q.Meets q.Holds q.Suits z
+        → ArmClosed (arm_step (map-Case Expr Case Compiling Arm (compile asked site) (arm asked site) z))
+    at_parts p None b h = record { guard = tt; body = b.1 h.1 }
+    at_parts p (Some e) b h = record { guard = e.1 h.0; body = b.1 h.1 }
 
-    at_case : (y : layer.Case-F E K) → Q (roll-Case (map-Case E K Expr Case (λ z. z.0) (λ z. z.0) y))
-    at_case y =
-        let z = map-Case E K Expr Case (λ w. w.0) (λ w. w.0) y in
+    at_case : (y : layer.Case-F E K) → Q (roll-Case (case_under y))
+    at_case y h =
+        let z = case_under y in
         subst (λ (k : Arm). ArmClosed k) (sym (fold-roll-Case Compiling Arm (compile_step asked site) arm_step z))
-        (at_parts y.pattern y.guard y.body)
+        (at_parts y.pattern y.guard y.body (q.case_parts z h))
 
-    pub expr_closed : (e : Expr) → Closed (compile asked site e)
+    pub expr_closed : (e : Expr) → q.Holds e → Closed (compile asked site e)
     expr_closed = ind-Expr C Q (λ x y is. subst (λ z. C (roll-Expr z)) is (at_level y))
         (λ x y is. subst (λ z. Q (roll-Case z)) is (at_case y))

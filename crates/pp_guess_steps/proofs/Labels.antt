@@ -11,7 +11,7 @@ use Rattle.pp_steps.specs.Guesses.{all_unfolded, guess_steps, params_of, standin
 use Rattle.pp_steps_run.specs.Told.{AllOf}
 use Rattle.pp_steps_run.proofs.Pieces.{all_join}
 use Rattle.pp_guess_steps.proofs.CallsPaired.{IsNoCall, pattern_fits, simple_quiet}
-use Rattle.pp_guess_steps.proofs.ClosedRounds.{base_closed, guess_closed, unfolding_closed}
+use Rattle.pp_guess_steps.proofs.ClosedAlways.{base_closed, guess_closed, unfolding_closed}
 use Rattle.pp_guess_steps.proofs.OwnFrame.{base}
 
 -- the sorts of the call are those of its function

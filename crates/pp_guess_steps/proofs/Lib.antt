@@ -7,10 +7,13 @@ mod OwnCalls
 mod Ties
 mod Pairs
 mod Rounds
-mod ClosedExprs
-mod ClosedRounds
+pub mod Conditions
+pub mod ClosedPatterns
+pub mod ClosedExprs
+pub mod ClosedRounds
+mod ClosedAlways
 mod CallsPaired
-mod OwnFrame
+pub mod OwnFrame
 mod Failures
 mod Supposed
 mod ButCalls
@@ -22,12 +25,12 @@ mod CallsTrue
 mod AllTrue
 mod Answered
 mod Reading
-mod RoundsRead
-mod Labels
+pub mod RoundsRead
+pub mod Labels
 mod OperatorSorts
 mod Sorting
 pub mod RoundsSorted
-mod SolvedSorted
+pub mod SolvedSorted
 pub mod WorldSorts
 mod NeverStuck
 mod SortedCalls

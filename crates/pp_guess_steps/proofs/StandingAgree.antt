@@ -20,8 +20,7 @@ use Rattle.pp_steps_run.specs.Told.{AllOf, On}
 use Rattle.pp_steps_run.proofs.Pieces.{all_join, all_left, all_right, bit_truth}
 use Rattle.pp_guess_steps.proofs.OwnFrame.{A, base, true_is}
 use Rattle.pp_guess_steps.proofs.PairsBack.{AllAgreed, pairs_back}
-use Rattle.pp_guess_steps.proofs.ClosedExprs.{IsSimple}
-use Rattle.pp_guess_steps.proofs.ClosedRounds.{pairs_closed}
+use Rattle.pp_guess_steps.proofs.ClosedAlways.{IsSimple, pairs_closed}
 use Rattle.pp_guess_steps.proofs.CallsPaired.{simple_quiet}
 use Rattle.pp_guess_steps.specs.Laws.{ObeysRest}
 use Rattle.pp_guess_steps.proofs.ButCalls.{AllNoCall, quiet_join, quiet_obeys, rest_left, rest_right}

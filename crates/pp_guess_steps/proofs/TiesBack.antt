@@ -15,7 +15,7 @@ use Rattle.pp_steps.specs.Meaning.{Missing, Obeys, Values}
 use Rattle.pp_steps.specs.Piece.{Piece, after, joined, plain}
 use Rattle.pp_steps_run.specs.Told.{AllOf, IsMade, On}
 use Rattle.pp_steps_run.proofs.Pieces.{all_join, all_left, all_right, made_left, made_right, obeys_left, obeys_right}
-use Rattle.pp_guess_steps.proofs.ClosedRounds.{unfolding_closed}
+use Rattle.pp_guess_steps.proofs.ClosedAlways.{unfolding_closed}
 use Rattle.std.proofs.lemmas.List.Elements.{Contains-append_cases}
 use Rattle.pp_checks.proofs.Tallest.{head_or}
 use Rattle.pp_guess_steps.proofs.Members.{nothing_in}
