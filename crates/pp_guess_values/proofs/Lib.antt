@@ -1,0 +1,5 @@
+mod OwnFields
+mod Defaults
+mod Listing
+mod Arguments
+pub mod Named

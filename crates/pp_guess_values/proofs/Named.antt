@@ -1,0 +1,186 @@
+-- Where a guess run fails the check, there are values with their sorts that say so, and a naming that a domain admits
+-- names them all.
+use Rattle.std.proofs.Common.{◌≡◌, ◌≤◌, ◌<◌, ℕ, ◌+◌, ◌*◌, ◌^◌, true, List, All, Some, length, slice_get, refl, sym}
+use Rattle.std.proofs.Common.{ap, ◌∙◌, subst, arith}
+use Rattle.std.proofs.Math.Logic.{∥∥₁_map}
+use Rattle.std.proofs.lemmas.Option.{same_Some, slice_get_within}
+use Rattle.pp_prog.specs.declared.expr.Function.{Function}
+use Rattle.pp_prog.specs.declared.id.CheckId.{CheckId}
+use Rattle.pp_prog.specs.declared.id.CtorId.{CtorId}
+use Rattle.pp_prog.specs.declared.program.Program.{Program}
+use Rattle.pp_prog.specs.declared.sort.Sort.{Sort}
+use Rattle.pp_prog.specs.declared.sort.Sort.TheVariants as sort
+use Rattle.pp_prog.specs.declared.types.Ctor.{Ctor}
+use Rattle.pp_prog.specs.declared.value.Value.{Value}
+use Rattle.pp_prog.specs.Sorts.{param_sorts}
+use Rattle.pp_prog.specs.Table.{HaveValues, is_sort}
+use Rattle.pp_prog.proofs.ValueSorts.{Has}
+use Rattle.pp_sound.specs.Sound.{IsCalled}
+use Rattle.pp_sound.proofs.Listed.{all_at}
+use Rattle.pp_guess_runs.specs.Answers.{Answering, IsAnswering, answers_of}
+use Rattle.pp_guess_runs.specs.Guess.{fails, guess}
+use Rattle.pp_induction.specs.Ends.{GuessFails}
+use Rattle.pp_domain.specs.Laws.{AdmittedFor, Lawful}
+use Rattle.pp_domain.specs.Naming.{IsDefault, Names, NamesAll, Naming}
+use Rattle.pp_domain.specs.Sense.{Sense}
+use Rattle.pp_steps.specs.declared.step.Step.{Step}
+use Rattle.pp_steps.specs.declared.step.Step.TheVariants as steps
+use Rattle.pp_steps.specs.Guesses.{guess_steps}
+use Rattle.pp_steps.specs.Meaning.{Missing, Values}
+use Rattle.pp_steps.specs.Sorted.{Selects}
+use Rattle.pp_steps_run.specs.Told.{AreValues}
+use Rattle.pp_build.specs.Followed.{AreNamed, HasDefault}
+use Rattle.pp_build.proofs.StepLists.{sorted_at}
+use Rattle.pp_guess_steps.specs.Laws.{HaveGuessSorts, IsSortedGuess}
+use Rattle.pp_guess_steps.specs.OpenCalls.{world}
+use Rattle.pp_guess_steps.proofs.Laws.{guesses_suppose}
+use Rattle.pp_guess_steps.proofs.SortedValues.{sorted_guesses_exist}
+use Rattle.pp_guess_steps.proofs.WorldSorts.{guesses_answer_sorted}
+use Rattle.pp_guess_values.specs.NamedGuess.{IsNamedGuess, IsShort}
+use Rattle.pp_guess_values.proofs.Arguments.{arguments_are_steps, holds_of_values}
+use Rattle.pp_guess_values.proofs.Defaults.{default_field, default_field_is, default_has_sort, default_of}
+use Rattle.pp_guess_values.proofs.Listing.{each_field, each_value, few_listed, first_is_default, listed, zero_plus}
+use Rattle.pp_guess_values.proofs.OwnFields.{has_few_fields, tree_fields}
+
+at_most_below : (a b c : ℕ) → a ≤ b → b < c → a < c
+at_most_below a b c le lt = omega (arith, le, lt)
+
+module _ (p : Program) (f : Function) (check : CheckId) (n : ℕ)
+    (run : HaveGuessSorts p.types (guess_steps p.functions f check n) (param_sorts f.params))
+    (inhabited : HaveValues p.types.datatypes p.types.ctors) where
+  abbrev Steps : List Step
+  Steps = (guess_steps p.functions f check n).steps
+
+  abbrev default : Sort → Value
+  default = default_of p.types inhabited
+
+  abbrev field : CtorId → ℕ → Value
+  field = default_field p.types inhabited
+
+  field_sort_stands : (c : CtorId) (k : Ctor) (place : ℕ) (s : Sort) → slice_get p.types.ctors c.0 ≡ Some k
+      → slice_get k.fields place ≡ Some s → is_sort p.types.datatypes s ≡ true
+  field_sort_stands c k place s there at =
+      all_at (is_sort p.types.datatypes) k.fields place s (p.types.agree.fields c.0 k there) at
+
+  default_field_has_sort : (c : CtorId) (k : Ctor) (place : ℕ) (s : Sort) → slice_get p.types.ctors c.0 ≡ Some k
+      → slice_get k.fields place ≡ Some s → Has p.types.ctors s (field c place)
+  default_field_has_sort c k place s there at =
+      subst (Has p.types.ctors s) (sym (default_field_is p.types inhabited c k place s there at))
+      (default_has_sort p.types inhabited s (field_sort_stands c k place s there at))
+
+  -- ---- values with their sorts, and a naming of all that is listed
+
+  module _ (ρ : Values) (sorted : (k : ℕ) → k < length Steps → Has p.types.ctors (run.sorts k) (ρ k)) where
+    abbrev Listed : List Value
+    Listed = listed p.types inhabited run.sorts ρ Steps
+
+    listed_is_short : IsShort p.types Steps → length Listed < 2 ^ 30
+    listed_is_short short =
+        at_most_below (length Listed) (length Steps * (2 + short.most)) (2 ^ 30)
+        (few_listed p.types inhabited run.sorts ρ Steps short.most
+        (λ k lt. has_few_fields p.types.ctors short.most short.fields (run.sorts k) (ρ k) (sorted k lt))) short.few
+
+    module _ (naming : Naming) (all : NamesAll p.types naming Listed) where
+      value_is_named : (k : ℕ) → k < length Steps → Names p.types naming (ρ k)
+      value_is_named k lt = each_value p.types inhabited run.sorts ρ Steps (Names p.types naming) all.names k lt
+
+      are_named : AreNamed p.types naming run.sorts ρ (length Steps)
+      are_named = record {
+        sorted = sorted;
+        named = λ k lt. record {
+          whole = value_is_named k lt;
+          fields = λ c fields is. subst (All (Names p.types naming)) (tree_fields c fields (ρ k) is)
+              (each_field p.types inhabited run.sorts ρ Steps (Names p.types naming) all.names k lt);
+        };
+      }
+
+      args_are_named : (args : List Value) → AreValues ρ (guess_steps p.functions f check n).arguments args
+          → All (Names p.types naming) args
+      args_are_named args are =
+          holds_of_values (Names p.types naming) ρ (length Steps) value_is_named
+          (guess_steps p.functions f check n).arguments args (arguments_are_steps p.functions f check n) are
+
+      default_is_first : (k : ℕ) → k < length Steps → (s : Sort) → run.sorts k ≡ s
+          → is_sort p.types.datatypes s ≡ true → IsDefault naming s (default s)
+      default_is_first k lt sort.Int is stands = refl
+      default_is_first k lt sort.Bool is stands = refl
+      default_is_first k lt (sort.Tree d) is stands =
+          all.firsts d (default (sort.Tree d))
+          (first_is_default p.types inhabited run.sorts 0 Steps _ k d lt (ap run.sorts (zero_plus k) ∙ is)
+          stands)
+
+      module _ (missing : Missing) (same : (c : CtorId) (place : ℕ) → missing.field c place ≡ field c place) where
+        field_is_default : (k : ℕ) (c : CtorId) (i a : ℕ) → slice_get Steps k ≡ Some (steps.CtorField c i a)
+            → IsDefault naming (run.sorts k) (missing.field c i)
+        field_is_default k c i a at =
+            let made : Selects p.types run.sorts c i a (run.sorts k) =
+            sorted_at p.types run.sorts 0 Steps k k (steps.CtorField c i a) run.sorted at (sym (zero_plus k)) in
+            subst (IsDefault naming (run.sorts k))
+            (sym (same c i
+            ∙ default_field_is p.types inhabited c made.ctor i (run.sorts k) made.stands made.field))
+            (default_is_first k (slice_get_within Steps k (steps.CtorField c i a) at) (run.sorts k) refl
+            (field_sort_stands c made.ctor i (run.sorts k) made.stands made.field))
+
+        have_defaults : (k : ℕ) (s : Step) → slice_get Steps k ≡ Some s
+            → HasDefault naming run.sorts ρ missing k s
+        have_defaults k (steps.Open s) at = tt
+        have_defaults k (steps.Int z) at = tt
+        have_defaults k (steps.Bool b) at = tt
+        have_defaults k (steps.Not a) at = tt
+        have_defaults k (steps.Both a b) at = tt
+        have_defaults k (steps.Choose c a b) at = tt
+        have_defaults k (steps.Unary op a) at = tt
+        have_defaults k (steps.Binary op a b) at = tt
+        have_defaults k (steps.Construct c fields) at = tt
+        have_defaults k (steps.IsCtor c i a) at = tt
+        have_defaults k (steps.CtorField c i a) at = field_is_default k c i a at
+        have_defaults k (steps.Field a i) at = tt
+        have_defaults k (steps.IsAlike a b) at = tt
+        have_defaults k (steps.GoesDown a b) at = tt
+        have_defaults k (steps.HasAnswer c) at = tt
+        have_defaults k (steps.Answer c) at = tt
+
+  -- ---- a guess run that fails
+
+  module _ {D T : Type 0} (m : Sense D T) (law : Lawful m) (short : IsShort p.types Steps) (args : List Value)
+      (i : ℕ) (called : IsCalled p i f args) (W : Answering) (answering : IsAnswering p W)
+      (failed : guess p.types.ctors p.functions f check args n W ≡ fails) where
+    abbrev missing : Missing
+    missing = world p.functions (answers_of p.types.ctors p.functions W) field n
+
+    run_values : IsSortedGuess p f check n missing args run.sorts
+    run_values = sorted_guesses_exist p i f args called check n missing default_field_has_sort
+        (guesses_answer_sorted p W answering field n) default (default_has_sort p.types inhabited) run
+
+    admitted_naming : AdmittedFor m p.types (Listed run_values.values run_values.sorted)
+    admitted_naming = law.names p.types (Listed run_values.values run_values.sorted)
+        (listed_is_short run_values.values run_values.sorted short)
+
+    named_guess : IsNamedGuess m p f check n run.sorts
+    named_guess =
+        let ρ = run_values.values in
+        let x = admitted_naming in
+        record {
+          args = args;
+          args_sorted = called.arguments;
+          missing = missing;
+          values = ρ;
+          guess = run_values.guess;
+          supposed = guesses_suppose p.types.ctors p.functions f check args n W field ρ failed run_values.guess;
+          naming = x.naming;
+          admitted = x.admitted;
+          args_named = args_are_named ρ run_values.sorted x.naming x.names args run_values.guess.arguments;
+          are = are_named ρ run_values.sorted x.naming x.names;
+          defaults = have_defaults ρ run_values.sorted x.naming x.names missing (λ c place. refl);
+        }
+
+-- where some guess run of round n fails the check, and what has to be named is short, there are such values
+pub failing_guess_is_named : {D T : Type 0} (m : Sense D T) → Lawful m → (p : Program) (i : ℕ) (f : Function)
+    → slice_get p.functions i ≡ Some f → (check : CheckId) (n : ℕ) → GuessFails p i check n
+    → (run : HaveGuessSorts p.types (guess_steps p.functions f check n) (param_sorts f.params))
+    → IsShort p.types (guess_steps p.functions f check n).steps → ∥ IsNamedGuess m p f check n run.sorts ∥₁
+failing_guess_is_named m law p i f here check n wrong run short =
+    let same : wrong.function ≡ f = same_Some wrong.function f (sym wrong.called.function ∙ here) in
+    ∥∥₁_map p.types.inhabited (λ inhabited. named_guess p f check n run inhabited m law short wrong.args i
+    (subst (λ g. IsCalled p i g wrong.args) same wrong.called) wrong.answers wrong.answering
+    (subst (λ g. guess p.types.ctors p.functions g check wrong.args n wrong.answers ≡ fails) same wrong.failed))
