@@ -35,7 +35,8 @@ impl Case {
     }
 }
 
-fn number(word: Option<&str>) -> Result<u32> {
+/// The number that the word spells.
+pub fn number(word: Option<&str>) -> Result<u32> {
     let number = word
         .context("a number")?
         .parse::<u32>()

@@ -18,12 +18,25 @@
 //! many gates there were before the call and how many it added. The cases are `lists` (lists of numbers at height 6)
 //! and `wide` (four constructors with three recursive fields at height 4), the calls `unknown` (the trees alone),
 //! `equal`, `below`, `merge` and `read`.
+//!
+//! A line `named CALL ..` makes calls of named trees over the same datatypes, one after another, each with its
+//! arguments behind it. Each gives a symbol, and these are numbered from 0: `number` (one of which nothing is known),
+//! `constant N`, `unknown D`, `construct C X ..` (the fields), `has T C` (whether the tree T has the constructor C),
+//! `field T C P`, `merge L T U`, `same T U` (trees), `equal X Y` (numbers) and `below T U`. `ask L B` among them asks
+//! that the literal L be true, or false where B is 0. The answer has the gates and the looks that each call added, and
+//! at the end `sat` or `unsat`: whether what is asked can hold together with the domain's condition. What it must be
+//! follows from the theory of datatypes: constructors are disjoint and injective, each tree is its constructor over its
+//! fields, no tree lies below itself, and fields of other constructors are 0, false or the first tree. The gates were
+//! counted by a script that makes the same circuits.
 #![tactic(auto)]
 
 mod asking;
+mod calls;
 mod case;
 mod found;
 mod measuring;
+mod named;
+mod registers;
 mod showing;
 mod solving;
 mod trying;
@@ -40,7 +53,9 @@ use std::io::{BufRead, BufReader};
 fn answer(alloc: Global, table: &TypeTable, line: &str) -> Result<String>
     requires { IsSample table.now }
 {
-    if line.starts_with("lists ") || line.starts_with("wide ") {
+    if line.starts_with("named ") {
+        named::answer(alloc, table, line)
+    } else if line.starts_with("lists ") || line.starts_with("wide ") {
         measuring::measure(alloc, table, line)
     } else {
         trying::answer(alloc, table, line)

@@ -1,5 +1,5 @@
 -- What is read of a field of a kept tree.
-use Rattle.std.proofs.Common.{◌≡◌, ℕ, zero, suc, ◌<◌, Bool, true, false, List, [], ◌∷◌, length, Some, slice_get, map}
+use Rattle.std.proofs.Common.{◌≡◌, ℕ, zero, suc, Bool, true, false, List, [], ◌∷◌, Some, slice_get}
 use Rattle.std.proofs.Common.{refl}
 use Rattle.std.proofs.Common.{sym, ap, ◌∙◌, subst, arith, inl, inr}
 use Rattle.std.proofs.lemmas.Bool.{and_parts}
@@ -25,10 +25,10 @@ use Rattle.pp_domain.specs.Sense.{Good}
 use Rattle.pp_bounded_trees.specs.declared.arena.BoundedTree.{BoundedTree}
 use Rattle.pp_bounded_trees.specs.declared.arena.Trees.{Trees}
 use Rattle.pp_bounded_trees.specs.Laws.{bounded_laws}
-use Rattle.pp_bounded_trees.specs.Meaning.{BoundedFits, bounded_sense}
+use Rattle.pp_bounded_trees.specs.Meaning.{bounded_sense}
 use Rattle.pp_bounded_trees.specs.Readable.{IsReadable}
 use Rattle.pp_bounded_trees.proofs.Known.{symbol_is}
-use Rattle.pp_bounded_samples.specs.Kept.{CanRead, Goes, IsPlaceIn, Kept, Looked}
+use Rattle.pp_bounded_samples.specs.Kept.{Goes, IsPlaceIn, Kept, Looked}
 use Rattle.pp_bounded_samples.proofs.Keeping.{goes}
 
 some_same : {X : Type 0} (x y : X) → Some x ≡ Some y → x ≡ y

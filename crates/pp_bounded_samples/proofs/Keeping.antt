@@ -1,6 +1,6 @@
 -- Each call of the domain keeps trees and literals.
-use Rattle.std.proofs.Common.{◌≡◌, ℕ, ◌+◌, ◌*◌, ◌≤◌, ◌<◌, ◌^◌, max, min, Bool, true, false, if◌then◌else◌, List, []}
-use Rattle.std.proofs.Common.{length, Some, slice_get, refl, sym, ap, ◌∙◌, subst, arith}
+use Rattle.std.proofs.Common.{◌≡◌, ℕ, ◌+◌, ◌*◌, ◌≤◌, ◌^◌, max, min, Bool, true, false, if◌then◌else◌, List, []}
+use Rattle.std.proofs.Common.{refl, sym, ap, ◌∙◌, subst, arith}
 use Rattle.std.proofs.Math.Nat.{mul-le-mul_left, mul-le-mul_right}
 use Rattle.pp_prog.specs.declared.id.DataId.{DataId}
 use Rattle.pp_prog.specs.declared.sort.Sort.TheVariants as sort
@@ -19,7 +19,7 @@ use Rattle.pp_domain.specs.Sense.{Good}
 use Rattle.pp_bounded_trees.specs.declared.arena.BoundedTree.{BoundedTree}
 use Rattle.pp_bounded_trees.specs.declared.arena.Trees.{Trees}
 use Rattle.pp_bounded_trees.specs.Laws.{bounded_laws}
-use Rattle.pp_bounded_trees.specs.Meaning.{BoundedFits, bounded_sense}
+use Rattle.pp_bounded_trees.specs.Meaning.{bounded_sense}
 use Rattle.pp_bounded_trees.specs.Readable.{IsReadable}
 use Rattle.pp_bounded_samples.specs.declared.pair.TreePair.{TreePair}
 use Rattle.pp_bounded_samples.specs.Kept.{CanRead, Goes, KeepsPair, Kept}

@@ -98,9 +98,12 @@ sample_is_table n =
       inhabited = value_of;
     }
   where
-    value_of : (d : ℕ) → d < 4 → HasValue (sample_ctors n) (tree_of d)
+    value_of : (d : ℕ) → d < 7 → HasValue (sample_ctors n) (tree_of d)
     value_of zero lt = bare (sample_ctors n) 0 0 refl
     value_of (suc zero) lt = bare (sample_ctors n) 2 1 refl
     value_of (suc (suc zero)) lt = bare (sample_ctors n) 4 2 refl
     value_of (suc (suc (suc zero))) lt = bare (sample_ctors n) 7 3 refl
-    value_of (suc (suc (suc (suc d)))) lt = absurd (omega (arith, lt))
+    value_of (suc (suc (suc (suc zero)))) lt = bare (sample_ctors n) 11 4 refl
+    value_of (suc (suc (suc (suc (suc zero))))) lt = bare (sample_ctors n) 13 5 refl
+    value_of (suc (suc (suc (suc (suc (suc zero)))))) lt = bare (sample_ctors n) 15 6 refl
+    value_of (suc (suc (suc (suc (suc (suc (suc d))))))) lt = absurd (omega (arith, lt))

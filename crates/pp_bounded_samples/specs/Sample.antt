@@ -20,17 +20,20 @@ abbrev pub ctor_of : List ℕ → ℕ → List Sort → Ctor
 ctor_of name d fields = record { name = name; of = record { 0 = d }; fields = fields; object = false }
 
 abbrev pub sample_datatypes : List ℕ → List Datatype
-sample_datatypes n = datatype_of n 0 2 ∷ datatype_of n 2 2 ∷ datatype_of n 4 3 ∷ datatype_of n 7 4 ∷ []
+sample_datatypes n = datatype_of n 0 2 ∷ datatype_of n 2 2 ∷ datatype_of n 4 3 ∷ datatype_of n 7 4
+    ∷ datatype_of n 11 2 ∷ datatype_of n 13 2 ∷ datatype_of n 15 2 ∷ []
 
--- lists of numbers, trees with a truth value at each fork, a datatype with fields of another, and four constructors
--- with three recursive fields
+-- lists of numbers, trees with a truth value at each fork, a datatype with fields of another, four constructors with
+-- three recursive fields, two datatypes that hold each other, and two truth values
 abbrev pub sample_ctors : List ℕ → List Ctor
 sample_ctors n =
     ctor_of n 0 [] ∷ ctor_of n 0 (sort.Int ∷ tree_of 0 ∷ [])
     ∷ ctor_of n 1 [] ∷ ctor_of n 1 (tree_of 1 ∷ sort.Bool ∷ tree_of 1 ∷ [])
     ∷ ctor_of n 2 [] ∷ ctor_of n 2 (sort.Bool ∷ tree_of 2 ∷ []) ∷ ctor_of n 2 (tree_of 0 ∷ tree_of 2 ∷ [])
     ∷ ctor_of n 3 [] ∷ ctor_of n 3 (sort.Bool ∷ []) ∷ ctor_of n 3 (sort.Int ∷ [])
-    ∷ ctor_of n 3 (tree_of 3 ∷ tree_of 3 ∷ tree_of 3 ∷ []) ∷ []
+    ∷ ctor_of n 3 (tree_of 3 ∷ tree_of 3 ∷ tree_of 3 ∷ [])
+    ∷ ctor_of n 4 [] ∷ ctor_of n 4 (tree_of 5 ∷ tree_of 4 ∷ []) ∷ ctor_of n 5 [] ∷ ctor_of n 5 (tree_of 4 ∷ [])
+    ∷ ctor_of n 6 [] ∷ ctor_of n 6 (sort.Bool ∷ sort.Bool ∷ []) ∷ []
 
 -- the table of the samples, all with one name
 pub record IsSample (types : TypeTable) : Type 0 where

@@ -23,6 +23,15 @@ pub const MIXED: u32 = 2;
 /// Four constructors with three recursive fields: `Stop`, `Truth`, `Number`, and `Three` of three trees.
 pub const WIDE: u32 = 3;
 
+/// Lists of the trees of the next datatype, which holds them: `Empty`, and `More` of a tree and a list.
+pub const FOREST: u32 = 4;
+
+/// Trees with such lists: `Leaf`, and `Node` of a list.
+pub const ROSE: u32 = 5;
+
+/// Two truth values: `Neither`, and `Both` of them.
+pub const PAIR: u32 = 6;
+
 /// The height up to which each call has its room.
 const LOW: u32 = 4;
 
@@ -46,6 +55,9 @@ fn datatypes(alloc: Global, name: &str) -> Result<Datatypes, NoMemory>
     add_datatype(alloc, &mut datatypes, name, 2, 2)?;
     add_datatype(alloc, &mut datatypes, name, 4, 3)?;
     add_datatype(alloc, &mut datatypes, name, 7, 4)?;
+    add_datatype(alloc, &mut datatypes, name, 11, 2)?;
+    add_datatype(alloc, &mut datatypes, name, 13, 2)?;
+    add_datatype(alloc, &mut datatypes, name, 15, 2)?;
     Ok(datatypes)
 }
 
@@ -75,6 +87,8 @@ fn ctors(alloc: Global, name: &str) -> Result<Ctors, NoMemory>
     let tree = Sort::Tree(DataId(TREE));
     let mixed = Sort::Tree(DataId(MIXED));
     let wide = Sort::Tree(DataId(WIDE));
+    let forest = Sort::Tree(DataId(FOREST));
+    let rose = Sort::Tree(DataId(ROSE));
     add_ctor(alloc, &mut ctors, name, LIST, &[])?;
     add_ctor(alloc, &mut ctors, name, LIST, &[Sort::Int, list])?;
     add_ctor(alloc, &mut ctors, name, TREE, &[])?;
@@ -86,6 +100,12 @@ fn ctors(alloc: Global, name: &str) -> Result<Ctors, NoMemory>
     add_ctor(alloc, &mut ctors, name, WIDE, &[Sort::Bool])?;
     add_ctor(alloc, &mut ctors, name, WIDE, &[Sort::Int])?;
     add_ctor(alloc, &mut ctors, name, WIDE, &[wide, wide, wide])?;
+    add_ctor(alloc, &mut ctors, name, FOREST, &[])?;
+    add_ctor(alloc, &mut ctors, name, FOREST, &[rose, forest])?;
+    add_ctor(alloc, &mut ctors, name, ROSE, &[])?;
+    add_ctor(alloc, &mut ctors, name, ROSE, &[forest])?;
+    add_ctor(alloc, &mut ctors, name, PAIR, &[])?;
+    add_ctor(alloc, &mut ctors, name, PAIR, &[Sort::Bool, Sort::Bool])?;
     Ok(ctors)
 }
 

@@ -1,0 +1,111 @@
+//! What calls of named trees add, and what the solver makes of what is asked of them.
+
+ghost use Rattle.std.specs.Prelude.{OnOk};
+ghost use Rattle.pp_bounded_samples.specs.Sample.{IsSample};
+ghost use Rattle.pp_bounded_cases.specs.Registers.{AreHeld};
+
+use crate::calls::call;
+use crate::case::number;
+use crate::registers::literal_at;
+use crate::solving::assignment;
+use anyhow::Result;
+use pp_clause::Lit;
+use pp_domain::{Symbol, Symbols};
+use pp_gate::Circuit;
+use pp_list::Items;
+use pp_named_trees::{NamedTree, NamedTrees};
+use pp_prog::TypeTable;
+use std::alloc::Global;
+
+/// The answer to `named` and the calls of a line: the gates and the looks of each, and whether what is asked holds
+/// together with the domain's condition.
+pub fn answer(alloc: Global, table: &TypeTable, line: &str) -> Result<String>
+    requires { IsSample table.now }
+{
+    let mut words = words_of(alloc, line)?;
+    let mut answer = String::new(alloc);
+    let mut circuit = Circuit::new(alloc)?;
+    let mut trees = NamedTrees::over(&circuit);
+    let mut symbols = Items::new(alloc);
+    let mut asked = Vec::new(alloc);
+    for _ in 0..words.len() {
+        next_call(
+            &mut trees,
+            &mut circuit,
+            table,
+            &mut symbols,
+            &mut asked,
+            &mut words,
+            &mut answer,
+        )?;
+    }
+    asked.push(trees.ok)?;
+    match assignment(alloc, &circuit, &asked)? {
+        None => write!(answer, "unsat")?,
+        Some(_) => write!(answer, "sat")?,
+    }
+    Ok(answer)
+}
+
+/// The words of the line but the first, the last one first.
+fn words_of(alloc: Global, line: &str) -> Result<Vec<&str>> {
+    let mut words = Vec::new(alloc);
+    for word in line.split_whitespace() {
+        words.push(word)?;
+    }
+    words.reverse();
+    let _name = words.pop();
+    Ok(words)
+}
+
+/// Makes the call of the last word, or asks for what it asks, if there is one.
+fn next_call(
+    trees: &mut NamedTrees,
+    circuit: &mut Circuit,
+    table: &TypeTable,
+    symbols: &mut Symbols<NamedTree>,
+    asked: &mut Vec<Lit>,
+    words: &mut Vec<&str>,
+    answer: &mut String,
+) -> Result<()>
+    requires sample { IsSample table.now }
+    requires held { AreHeld table.now trees.old circuit.old symbols.old }
+    ensures { OnOk result (AreHeld table.now trees.new circuit.new symbols.new) }
+{
+    match words.pop() {
+        None => Ok(()),
+        Some("ask") => ask(symbols.as_slice(), asked, words),
+        Some(word) => counted(trees, circuit, table, symbols, word, words, answer),
+    }
+}
+
+/// `ask L B`: asks that the literal L be true where B is 1, and false where it is another number.
+fn ask(symbols: &[Symbol<NamedTree>], asked: &mut Vec<Lit>, words: &mut Vec<&str>) -> Result<()> {
+    let lit = literal_at(symbols, words)?;
+    let truth = number(words.pop())? == 1;
+    asked.push(if truth { lit } else { lit.negated() })?;
+    Ok(())
+}
+
+/// Makes the call, and adds its gates and looks to the answer.
+fn counted(
+    trees: &mut NamedTrees,
+    circuit: &mut Circuit,
+    table: &TypeTable,
+    symbols: &mut Symbols<NamedTree>,
+    word: &str,
+    words: &mut Vec<&str>,
+    answer: &mut String,
+) -> Result<()>
+    requires sample { IsSample table.now }
+    requires held { AreHeld table.now trees.old circuit.old symbols.old }
+    ensures { OnOk result (AreHeld table.now trees.new circuit.new symbols.new) }
+{
+    let gates = circuit.gates();
+    let looks = trees.expansions.len();
+    call(trees, circuit, table, symbols, word, words)?;
+    let more = circuit.gates().saturating_sub(gates);
+    let seen = trees.expansions.len().saturating_sub(looks);
+    write!(answer, "{more} {seen}, ")?;
+    Ok(())
+}

@@ -1,0 +1,4 @@
+mod Reading
+mod Taking
+mod Lying
+mod Searching
