@@ -1,5 +1,6 @@
 -- Unknown arguments, and the steps behind them: what the registers tell.
-use Rattle.std.proofs.Common.{◌≡◌, ℕ, zero, suc, ◌+◌, ◌≤◌, ◌<◌, ◌^◌, List, [], ◌∷◌, ◌++◌, length, map, drop, Bool, true, Some}
+use Rattle.std.proofs.Common.{◌≡◌, ℕ, zero, suc, ◌+◌, ◌≤◌, ◌<◌, ◌^◌, List, [], ◌∷◌, ◌++◌, length, map, drop, Bool}
+use Rattle.std.proofs.Common.{true, Some}
 use Rattle.std.proofs.Common.{refl, sym, ap, ◌∙◌, subst, arith, length-append}
 use Rattle.std.specs.Prelude.{slice_get, sum, IsTrue}
 use Rattle.std.proofs.Math.Seq.{drop-append_seam}
@@ -67,7 +68,8 @@ module _ {D T : Type 0} (m : Sense D T) (types : TypeTable) (exact : m.exact ≡
       → Moves m types d gs e hs (sum (map (opened_gates m types depth) params))
       → Moves m types d gs e hs (sum (map (open_gates types depth) params))
   opened_moves d gs params depth e hs moves =
-      subst (λ n. Moves m types d gs e hs n) (exact_all_opened m types exact (λ k. sort.Int) (λ k. 0) depth params) moves
+      subst (λ n. Moves m types d gs e hs n) (exact_all_opened m types exact (λ k. sort.Int) (λ k. 0) depth params)
+      moves
 
   -- also where nothing comes after it
   pub opened_left : (d : D) (gs : List Gate) (params : List Sort) (depth : ℕ) (steps : List Step) (asked : ℕ)
@@ -85,8 +87,9 @@ module _ {D T : Type 0} (m : Sense D T) (types : TypeTable) (exact : m.exact ≡
       let few = can.few in
       let room = can.room in omega arith
 
-module _ {D T : Type 0} (m : Sense D T) (types : TypeTable) (exact : m.exact ≡ true) (d : D) (gs : List Gate) (params : List Sort)
-    (depth : ℕ) (steps : List Step) (asked most : ℕ) (can : CanEvaluate types gs params depth steps asked most)
+module _ {D T : Type 0} (m : Sense D T) (types : TypeTable) (exact : m.exact ≡ true) (d : D) (gs : List Gate)
+    (params : List Sort) (depth : ℕ) (steps : List Step) (asked most : ℕ)
+    (can : CanEvaluate types gs params depth steps asked most)
   where
     abbrev opens : List Step
     opens = map open_step params

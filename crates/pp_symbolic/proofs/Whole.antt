@@ -31,7 +31,7 @@ use Rattle.pp_simplify.specs.Names.{named}
 use Rattle.pp_simplify.specs.Pruned.{IsPruned}
 use Rattle.pp_simplify_laws.proofs.Following.{follows_folded, follows_more, follows_pruned}
 use Rattle.pp_symbolic.proofs.Simplified.{arguments_stand, can_folded, can_pruned}
-use Rattle.pp_symbolic.proofs.Real.{FollowRun, is_frame, nothing_open}
+use Rattle.pp_symbolic.proofs.RunFrame.{FollowRun, is_frame, nothing_open}
 
 -- the laws of steps that the evaluation rests on
 pub record StepLaws : Type 0 where

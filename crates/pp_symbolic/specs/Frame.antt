@@ -1,21 +1,36 @@
 -- What the answer of a symbolic evaluation means. Source: own.
-use Rattle.std.specs.Prelude.{◌≡◌, ◌↔◌, ℕ, Bool, true, List, Some, slice_get}
+use Rattle.std.specs.Prelude.{◌≡◌, ◌↔◌, ◌^◌, ℕ, Bool, true, false, List, Some, slice_get}
 use Rattle.pp_prog.specs.declared.expr.Function.{Function}
 use Rattle.pp_prog.specs.declared.id.CheckId.{CheckId}
 use Rattle.pp_prog.specs.declared.program.Program.{Program}
 use Rattle.pp_prog.specs.declared.value.Value.{Value}
+use Rattle.pp_prog.specs.Cone.{IsWordFunction}
 use Rattle.pp_prog.specs.Sorts.{param_sorts}
 use Rattle.pp_clause.specs.Literal.{lit_value}
 use Rattle.pp_gate.specs.declared.gate.Gate.{Gate}
-use Rattle.pp_gate.specs.Circuit.{IsOf}
+use Rattle.pp_gate.specs.Circuit.{Gives, IsOf}
 use Rattle.pp_eval.specs.declared.outcome.Outcome.TheVariants.{Fails}
 use Rattle.pp_eval.specs.Runs.{run}
 use Rattle.pp_sound.specs.Counterexample.{AreLow}
 use Rattle.pp_sound.specs.Sound.{IsCalled, IsCheckOf}
+use Rattle.pp_induction.specs.Ends.{GuessFails}
 use Rattle.pp_domain.specs.Naming.{Naming}
 use Rattle.pp_domain.specs.Sense.{Sense, Good}
 use Rattle.pp_domain.specs.Symbols.{AreSymbols, SymbolsStand}
 use Rattle.pp_symbolic.specs.declared.frame.Frame.{Frame}
+use Rattle.pp_symbolic.specs.declared.frame.Mode.{Mode}
+use Rattle.pp_symbolic.specs.declared.frame.Mode.TheVariants.{Guess, Real}
+
+-- runs are followed over an exact domain, guess runs over one that isn't
+abbrev pub Suits : {D T : Type 0} → Sense D T → Mode → Type 0
+Suits m Real = m.exact ≡ true
+Suits m Guess = m.exact ≡ false
+
+-- how many gates and inputs may come in, also where memory ends: of a run as many as its estimate says, of guess runs,
+-- of which the size is tested when it is known, as many as a circuit has room for
+abbrev pub left_at_most : Mode → ℕ → ℕ
+left_at_most Real estimated = estimated
+left_at_most Guess estimated = 2 ^ 30
 
 module _ {D T : Type 0} (m : Sense D T) (p : Program) (c : CheckId) (round depth : ℕ) (e : D) (gs : List Gate)
     (frame : Frame T)
@@ -57,6 +72,27 @@ module _ {D T : Type 0} (m : Sense D T) (p : Program) (c : CheckId) (round depth
       -- what is supposed holds only where the domain's condition does
       pub ok : (a : ℕ → Bool) → lit_value a frame.circuit_ok ≡ true → lit_value a (m.ok e) ≡ true
       pub of_function : (i : ℕ) (f : Function) → IsCheckOf p i c.0 → slice_get p.functions i ≡ Some f → IsFrameOf i f
+
+module _ {D T : Type 0} (m : Sense D T) (p : Program) (c : CheckId) (round : ℕ) (e : D) (gs : List Gate)
+    (frame : Frame T)
+  where
+    -- an assignment that gives each gate its value, and under which the check fails and all that was supposed holds
+    pub record IsModel (a : ℕ → Bool) : Type 0 where
+      pub gates : Gives a gs
+      pub ok : lit_value a frame.circuit_ok ≡ true
+      pub fails : lit_value a frame.fails ≡ true
+
+    -- the frame is that of the guess runs of the check's function, over literals of the circuit
+    pub record IsGuessFrame : Type 0 where
+      pub fails : IsOf gs frame.fails
+      pub circuit_ok : IsOf gs frame.circuit_ok
+      -- what is supposed holds only where the domain's condition does
+      pub ok : (a : ℕ → Bool) → Gives a gs → lit_value a frame.circuit_ok ≡ true → lit_value a (m.ok e) ≡ true
+      -- where some guess run of the round fails the check, some assignment says so
+      pub found : (i : ℕ) → IsCheckOf p i c.0 → GuessFails p i c round → ∥ ((a : ℕ → Bool) × IsModel a) ∥₁
+      -- and of a function that meets no datatype each such assignment is that of a guess run that fails the check
+      pub words : (i : ℕ) → IsCheckOf p i c.0 → IsWordFunction p.types p.functions i → (a : ℕ → Bool) → IsModel a
+          → GuessFails p i c round
 
 -- f is the function that check c belongs to
 pub record IsOwner (p : Program) (c : CheckId) (f : Function) : Type 0 where

@@ -1,2 +1,4 @@
 pub mod Frame
 pub mod Evaluated
+pub mod Room
+pub mod Guessed

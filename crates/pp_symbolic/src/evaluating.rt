@@ -1,34 +1,29 @@
 //! The evaluation.
 
-ghost use Rattle.std.specs.Prelude.{◌≡◌, ◌<◌, ◌≤◌, ℕ, true, IfOk, OnOk, length};
+ghost use Rattle.std.specs.Prelude.{◌≡◌, ◌<◌, ◌≤◌, IfOk, OnOk, length};
 ghost use Rattle.pp_checks.specs.Plan.{IsPlanOf};
 ghost use Rattle.pp_domain.specs.Answers.{Fresh};
 ghost use Rattle.pp_domain.specs.Moves.{Moves};
 ghost use Rattle.pp_estimate.specs.Estimates.{estimate};
-ghost use Rattle.pp_symbolic.specs.Frame.{IsFrame, IsOwner};
-ghost use Rattle.pp_symbolic.specs.declared.frame.Mode.TheVariants.{Real};
+ghost use Rattle.pp_symbolic.specs.Frame.{IsFrame, IsGuessFrame, Suits, left_at_most};
+ghost use Rattle.pp_symbolic.specs.declared.frame.Mode.TheVariants.{Guess, Real};
 
 use crate::NoMemory;
 use crate::frame::{Frame, Mode};
-use crate::steps::evaluate;
+use crate::guess::of_guess;
+use crate::real::of_run;
 use pp_checks::Plan;
-use pp_compile::compile_run;
 use pp_domain::Domain;
 use pp_gate::Circuit;
-use pp_prog::{CheckId, Function, Program};
-use pp_simplify::simplify;
-use pp_steps_exist::{runs_ask, runs_exist, runs_read};
-use pp_steps_gates::runs_fit_estimates;
-use pp_steps_run::tell_runs;
-use pp_steps_sorted::runs_are_sorted;
+use pp_prog::{CheckId, Program};
 use std::alloc::Global;
 
-/// The circuit of a round of a check, over a fresh domain and a circuit without inputs and gates: the run of the
-/// check's function with the round as its fuel, on arguments up to the depth. What the circuit gets, its constant
-/// included, is at most the estimate of the round: what is known before the run, operators on known numbers and truth
-/// values among it, and what the literal doesn't stand on, isn't built. Until guess runs come the mode is `Real`, and
-/// the domain is exact. After want of memory, the only error, the old gates stand and some new ones may be left; more
-/// than 2^32 - 1 steps are want of memory too.
+/// The circuit of a round of a check, over a fresh domain and a circuit without inputs and gates: in mode `Real` that
+/// of the run of the check's function with the round as its fuel, on arguments up to the depth, over an exact domain;
+/// in mode `Guess` that of its guess runs of the round, on arguments of any height, over a domain that isn't exact.
+/// What the circuit gets, its constant included, is at most the estimate of the round. After want of memory, the only
+/// error, the old gates stand and some new ones may be left. More than 2^32 - 1 steps are want of memory too, and so
+/// is, in mode `Guess`, a circuit that may be too large or that turns out larger than the estimate.
 pub fn symbolic<D: Domain>(
     alloc: Global,
     domain: &mut D,
@@ -40,8 +35,7 @@ pub fn symbolic<D: Domain>(
     round: u32,
     depth: u32,
 ) -> Result<Frame<D::Tree>, NoMemory>
-    requires exact { D.sense.exact ≡ true }
-    requires real { mode ≡ Real }
+    requires mode { Suits D.sense mode }
     requires fresh { Fresh D.sense program.now.types domain.old circuit.old }
     requires empty { length circuit.old ≡ 1 }
     requires plan { IsPlanOf plan.now program.now }
@@ -49,41 +43,17 @@ pub fn symbolic<D: Domain>(
     requires round { round ≤ 12 }
     requires depth { (1 ≤ depth) × (depth ≤ 6) }
     requires size { estimate program.now.types program.now.functions program.now.checks check.0 round depth ≤ 4000000 }
-    ensures moves { Moves D.sense program.now.types domain.old circuit.old domain.new circuit.new
-        (estimate program.now.types program.now.functions program.now.checks check.0 round depth) }
+    ensures moves { Moves D.sense program.now.types domain.old circuit.old domain.new circuit.new (left_at_most mode
+        (estimate program.now.types program.now.functions program.now.checks check.0 round depth)) }
     ensures size { OnOk result (length circuit.new ≤
         estimate program.now.types program.now.functions program.now.checks check.0 round depth) }
-    ensures frame { IfOk result (λ r. IsFrame D.sense program.now check round depth domain.new circuit.new r) }
+    ensures run { IfOk result (λ r. mode ≡ Real
+        → IsFrame D.sense program.now check round depth domain.new circuit.new r) }
+    ensures guess { IfOk result (λ r. mode ≡ Guess
+        → IsGuessFrame D.sense program.now check round domain.new circuit.new r) }
 {
-    tell_runs();
-    runs_exist();
-    runs_read();
-    runs_ask();
-    runs_are_sorted();
-    runs_fit_estimates();
-    let f = owner(program, check);
-    let mut run = compile_run(alloc, program.functions.as_slice(), f, check, round)?;
-    if run.steps.len() > u32::MAX as usize {
-        return Err(NoMemory);
+    match mode {
+        Mode::Real => of_run(alloc, domain, circuit, program, plan, check, round, depth),
+        Mode::Guess => of_guess(alloc, domain, circuit, program, plan, check, round, depth),
     }
-    let fails = simplify(alloc, &mut run.steps, f.params.len(), run.fails)?;
-    evaluate(
-        alloc,
-        domain,
-        circuit,
-        program.types(),
-        f.params.as_slice(),
-        depth,
-        run.steps.as_slice(),
-        fails,
-    )
-}
-
-/// The function that the check belongs to.
-fn owner(program: &Program, check: CheckId) -> &Function
-    requires { check.0 < length program.now.checks }
-    ensures { IsOwner program.now check result.now }
-{
-    let found = program.checks()[check.0 as usize];
-    program.function(found.function)
 }

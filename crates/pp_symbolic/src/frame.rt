@@ -11,8 +11,10 @@ pub enum Mode {
     Guess,
 }
 
-/// The symbols of the arguments; the literal that is true exactly where the run on them fails the check; and the
-/// literal that is true where all that was supposed of the inputs holds.
+/// The symbols of the arguments; the literal that the check fails, in mode `Real` true exactly where the run on them
+/// does; and the literal that is true where all that was supposed holds: of the inputs, and of the open calls of guess
+/// runs.
+#[derive(Drop)]
 pub struct Frame<T> {
     pub arguments: Symbols<T>,
     pub fails: Lit,

@@ -1,12 +1,22 @@
 //! Symbolic evaluation: one circuit in which a literal is true exactly where the run of a function fails a check.
 //!
 //! `symbolic` writes the steps of the run (`pp_compile`), leaves out what isn't needed (`pp_simplify`), performs the
-//! others over the trees of a domain (`pp_build`), and answers the symbols of the arguments with the literal.
-//! `specs/Frame` says what they mean.
+//! others over the trees of a domain (`pp_build`), and answers the symbols of the arguments with the literal. Of guess
+//! runs it performs all steps, once it is known that a circuit has room for them. `specs/Frame` says what they mean.
+//!
+//! - `evaluating`: `symbolic`. `frame`: what it answers.
+//! - `real`, `steps`: the steps of a run, and how they are performed.
+//! - `guess`, `guessed`, `room`: those of guess runs, and whether there is room for them.
+//! - `owner`: the function that a check belongs to.
 #![tactic(auto)]
 
 mod evaluating;
 mod frame;
+mod guess;
+mod guessed;
+mod owner;
+mod real;
+mod room;
 mod steps;
 
 pub use evaluating::symbolic;

@@ -3,9 +3,11 @@
 ghost use Rattle.std.specs.Prelude.{◌≡◌, ◌<◌, ℕ, true, IfOk, length, slice_get, Some};
 ghost use Rattle.pp_prog.specs.Sorts.{param_sorts};
 ghost use Rattle.pp_clause.specs.Literal.{Literal};
+ghost use Rattle.pp_gate.specs.Circuit.{StandsFor};
 ghost use Rattle.pp_domain.specs.declared.symbol.Symbol.TheVariants.{Bit};
 ghost use Rattle.pp_domain.specs.Moves.{Moves};
 ghost use Rattle.pp_symbolic.specs.Evaluated.{CanEvaluate, IsEvaluated};
+ghost use Rattle.pp_symbolic.specs.Guessed.{HaveLiterals, register_bit};
 
 use crate::NoMemory;
 use crate::frame::Frame;
@@ -58,8 +60,10 @@ fn copies<T: Copy>(alloc: Global, symbols: &Symbols<T>) -> Result<Symbols<T>, No
 }
 
 /// The literal that the register with this number is. Where there is none, it is the constant.
-fn literal_at<T: Copy>(circuit: &Circuit, registers: &Symbols<T>, number: u32) -> Lit
-    ensures { (l : Literal) → slice_get registers.now number ≡ Some (Bit l) → result ≡ l }
+pub(crate) fn literal_at<T: Copy>(circuit: &Circuit, registers: &Symbols<T>, number: u32) -> Lit
+    ensures own { (l : Literal) → slice_get registers.now number ≡ Some (Bit l) → result ≡ l }
+    ensures stands { HaveLiterals circuit.now registers.now
+        → StandsFor circuit.now result (λ s. register_bit s (slice_get registers.now number)) }
 {
     match registers.as_slice().get(number as usize) {
         Some(Symbol::Bit(l)) => *l,

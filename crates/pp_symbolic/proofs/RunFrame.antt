@@ -63,7 +63,7 @@ module _ {D T : Type 0} (m : Sense D T) (p : Program) (d : D) (gs : List Gate) (
           ap (λ h. gate_value (λ x. true) h) constant;
     }
 
-    first_good : (n : Naming) → m.Admits p.types n → Good m p.types d gs n (λ x. true)
+    pub first_good : (n : Naming) → m.Admits p.types n → Good m p.types d gs n (λ x. true)
     first_good n admitted = record {
       gates = first_gives;
       ok = ap (λ l. lit_value (λ x. true) l) fresh.ok;

@@ -10,7 +10,7 @@ use Rattle.pp_simplify.specs.Pruned.{IsPruned}
 use Rattle.pp_steps.specs.Frames.{run_steps}
 use Rattle.pp_symbolic.proofs.Whole.{StepLaws, can_new, can_run, frame_run, if_ok, moves_run}
 use Rattle.pp_symbolic.proofs.Whole.{name_in, on_ok, size_run}
-use Rattle.pp_symbolic.proofs.evaluating.symbolic.Goals as goal
+use Rattle.pp_symbolic.proofs.real.of_run.Goals as goal
 
 pub simplify-requires-clause-reads : goal.simplify-requires-clause-reads
 simplify-requires-clause-reads g c =
