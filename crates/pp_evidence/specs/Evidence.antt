@@ -5,6 +5,7 @@ use Rattle.std.specs.List.{list_all}
 use Rattle.pp_prog.specs.declared.id.CheckId.{CheckId}
 use Rattle.pp_prog.specs.declared.program.Program.{Program}
 use Rattle.pp_prog.specs.declared.value.Value.{Value}
+use Rattle.pp_prog.specs.Cone.{IsWordFunction}
 use Rattle.pp_clause.specs.declared.spent.Spent.{Spent}
 use Rattle.pp_clause.specs.Clause.{clauses_value}
 use Rattle.pp_clause.specs.Literal.{Literal, lit_value}
@@ -39,7 +40,9 @@ module _ (p : Program) (i : ℕ) (c : CheckId) (round depth lemmas : ℕ) where
     pub spent : IsSpentQuery (estimate p.types p.functions p.checks c.0 round depth) lemmas s
     pub exact : Satisfiable s.clauses s.assumptions ↔ ((args : List Value) × IsCounterexample p i c round depth args)
 
-  -- a proof: they can wherever some guess run of the round fails the check
+  -- a proof: they can wherever some guess run of the round fails the check, and of a function that meets no datatype
+  -- only there
   pub record IsProofEvidence (s : Spent) : Type 0 where
     pub spent : IsSpentQuery (estimate p.types p.functions p.checks c.0 round depth) lemmas s
     pub found : GuessFails p i c round → ∥ Satisfiable s.clauses s.assumptions ∥₁
+    pub words : IsWordFunction p.types p.functions i → Satisfiable s.clauses s.assumptions → GuessFails p i c round

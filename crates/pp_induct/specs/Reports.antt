@@ -5,12 +5,13 @@ use Rattle.pp_prog.specs.declared.check.Check.{Check}
 use Rattle.pp_prog.specs.declared.id.CheckId.{CheckId}
 use Rattle.pp_prog.specs.declared.program.Program.{Program}
 use Rattle.pp_prog.specs.declared.value.Value.{Value}
+use Rattle.pp_prog.specs.Cone.{IsWordFunction}
 use Rattle.pp_checks.specs.Closed.{Closed}
 use Rattle.pp_checks.specs.Plain.{IsPlain}
 use Rattle.pp_estimate.specs.Estimates.{estimate}
 use Rattle.pp_evidence.specs.Evidence.{IsProofEvidence, IsSearchEvidence}
 use Rattle.pp_sound.specs.Counterexample.{IsCounterexample}
-use Rattle.pp_induction.specs.Ends.{IsExhausted, IsProved, NoLowRunFails}
+use Rattle.pp_induction.specs.Ends.{GuessFails, IsExhausted, IsProved, NoLowRunFails}
 use Rattle.pp_induct.specs.declared.ends.CheckEnd.{CheckEnd}
 use Rattle.pp_induct.specs.declared.ends.CheckEnd.TheVariants.{Proved, Exhausted, Invalid, Open}
 use Rattle.pp_induct.specs.declared.ends.Why.{Why}
@@ -103,12 +104,20 @@ module _ (p : Program) (limits : Limits) (i : ℕ) (c : CheckId) where
   IsWhy searched Size = IsTooLarge (next_round searched)
   IsWhy searched (Lemmas s) = IsOutOfLemmas searched s
 
+  -- and for a function that meets no datatype: some guess run of the last round that was searched fails the check,
+  -- unless the proof of that round has spent its lemmas
+  abbrev pub IsGuessed : Option ℕ → Why → Type 0
+  IsGuessed None why = Unit {0}
+  IsGuessed (Some n) Rounds = IsWordFunction p.types p.functions i → GuessFails p i c n
+  IsGuessed (Some n) Size = IsWordFunction p.types p.functions i → GuessFails p i c n
+  IsGuessed (Some n) (Lemmas s) = IsWordFunction p.types p.functions i → IsOutOfProof n s ⊎ GuessFails p i c n
+
   -- the end of the check, which belongs to function number i
   abbrev pub IsEnd : CheckEnd → Type 0
   IsEnd (Proved n) = IsProvedIn n
   IsEnd (Exhausted n) = IsExhaustedIn n
   IsEnd (Invalid args n) = IsInvalidIn args n
-  IsEnd (Open searched why) = IsSearched searched × IsWhy searched why
+  IsEnd (Open searched why) = IsSearched searched × IsWhy searched why × IsGuessed searched why
 
 module _ (p : Program) (limits : Limits) where
   -- what is said of each check holds

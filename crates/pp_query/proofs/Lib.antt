@@ -1,5 +1,10 @@
-pub mod Asked
-pub mod Stands
-pub mod Frames
-pub mod Outcomes
-pub mod Plain
+mod Asked
+mod Frames
+mod Outcomes
+mod Plain
+mod Proved
+mod Questions
+mod Replies
+mod Searched
+mod Stands
+mod Variables

@@ -1,3 +1,4 @@
+pub mod Reply
 pub mod Question
 pub mod Found
 pub mod Proofs

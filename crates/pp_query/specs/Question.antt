@@ -1,37 +1,40 @@
--- What a round asks: which literals of its circuit are to be true, and by which clauses. Source: own.
-use Rattle.std.specs.Prelude.{◌≡◌, ◌↔◌, ◌≤◌, ◌*◌, ℕ, Bool, true, List, [], ◌∷◌, All, length}
+-- What a round asks, and what a query of it answers. Source: own.
+use Rattle.std.specs.Prelude.{◌≡◌, ◌≤◌, ℕ, length}
 use Rattle.pp_prog.specs.declared.id.CheckId.{CheckId}
 use Rattle.pp_prog.specs.declared.program.Program.{Program}
-use Rattle.pp_clause.specs.Clause.{IsClause, clauses_value}
-use Rattle.pp_clause.specs.Literal.{Literal}
-use Rattle.pp_gate.specs.declared.gate.Gate.{Gate}
-use Rattle.pp_gate.specs.Circuit.{IsOf}
-use Rattle.pp_gate.specs.Cone.{GivesAsked}
-use Rattle.pp_bounded_trees.specs.declared.arena.BoundedTree.{BoundedTree}
-use Rattle.pp_bounded_trees.specs.Meaning.{BoundedFits, bounded_sense}
+use Rattle.pp_gate.specs.Circuit.{IsCircuit, IsOf}
+use Rattle.pp_domain.specs.Sense.{Sense}
 use Rattle.pp_estimate.specs.Estimates.{estimate}
-use Rattle.pp_symbolic.specs.declared.frame.Frame.{Frame}
-use Rattle.pp_symbolic.specs.Frame.{IsFrame}
+use Rattle.pp_symbolic.specs.declared.frame.Mode.{Mode}
+use Rattle.pp_symbolic.specs.declared.frame.Mode.TheVariants.{Guess, Real}
+use Rattle.pp_symbolic.specs.Frame.{IsFrame, IsGuessFrame}
+use Rattle.pp_query.specs.declared.query.Query.{Query}
 use Rattle.pp_query.specs.declared.question.Question.{Question}
+use Rattle.pp_query.specs.declared.reply.Reply.{Reply}
+use Rattle.pp_query.specs.Reply.{IsReply}
 
--- the frame whose parts the question keeps
-abbrev pub frame_of : Question → Frame BoundedTree
-frame_of q = record { arguments = q.arguments; fails = q.fails; circuit_ok = q.circuit_ok }
+module _ {D T : Type 0} (q : Question D T) where
+  -- the literals that are asked for are of the circuit, which isn't large
+  pub record CanAsk : Type 0 where
+    pub circuit : IsCircuit q.circuit
+    pub small : length q.circuit ≤ 4000000
+    pub fails : IsOf q.circuit q.frame.fails
+    pub circuit_ok : IsOf q.circuit q.frame.circuit_ok
 
--- asked to be true: that the run fails the check, and that all that was supposed of the inputs holds
-abbrev pub asked_of : Question → List Literal
-asked_of q = q.fails ∷ q.circuit_ok ∷ []
+  -- the reply is one to whether the check fails, where all that was supposed holds
+  abbrev pub IsReplyTo : ℕ → Reply → Type 0
+  IsReplyTo = IsReply q.circuit q.frame.fails q.frame.circuit_ok
 
--- the frame is that of the round's run, over a circuit that fits the domain and isn't larger than the estimate
-pub record IsQuestion (p : Program) (c : CheckId) (round depth : ℕ) (q : Question) : Type 0 where
-  pub fits : BoundedFits p.types q.domain q.circuit
-  pub small : length q.circuit ≤ estimate p.types p.functions p.checks c.0 round depth
-  pub frame : IsFrame bounded_sense p c round depth q.domain q.circuit (frame_of q)
+module _ {D T : Type 0} (m : Sense D T) (p : Program) (c : CheckId) (mode : Mode) (round depth : ℕ) where
+  -- the frame is that of the round's run, or of its guess runs, over a circuit that fits the domain and isn't larger
+  -- than the estimate
+  pub record IsQuestion (q : Question D T) : Type 0 where
+    pub fits : m.Fits p.types q.domain q.circuit
+    pub small : length q.circuit ≤ estimate p.types p.functions p.checks c.0 round depth
+    pub run : mode ≡ Real → IsFrame m p c round depth q.domain q.circuit q.frame
+    pub guess : mode ≡ Guess → IsGuessFrame m p c round q.domain q.circuit q.frame
 
--- An assignment makes the clauses true exactly where it gives each gate on which the literals stand its value. They
--- have literals of the circuit alone, and are at most 8 a gate.
-pub record AreClausesOf (gs : List Gate) (asked : List Literal) (cs : List (List Literal)) : Type 0 where
-  pub clauses : All IsClause cs
-  pub few : length cs ≤ 8 * length gs
-  pub within : All (λ c. All (IsOf gs) c) cs
-  pub value : (s : ℕ → Bool) → (clauses_value s cs ≡ true) ↔ GivesAsked s gs asked
+  -- the question is that of the round, and the reply is one to it
+  pub record IsQuery (lemmas : ℕ) (query : Query D T) : Type 0 where
+    pub question : IsQuestion query.question
+    pub reply : IsReplyTo query.question lemmas query.reply

@@ -1,16 +1,20 @@
 //! Queries: the search for arguments that fail a check, and the proof that no guess run fails it.
 //!
-//! `search` makes the circuit of a round (`pp_symbolic`) over trees up to a height (`pp_bounded`), gives the clauses of
-//! what it asks to the solver (`pp_cdcl`), and reads the arguments off the assignment that is found. `specs/Question`
-//! says what is asked, and `specs/Found` what the answers mean. `prove` proves plain descents; `specs/Proofs` says what
-//! its answers mean.
+//! `query_of` makes the circuit of a round (`pp_symbolic`), gives the clauses of what it asks to the solver
+//! (`pp_cdcl`), and answers a model where there is one. `search` asks of the run, over trees up to a height
+//! (`pp_bounded`), and reads the arguments off the model. `prove` asks of the guess runs, over named trees
+//! (`pp_named`): the check is proved where there is no model, and a plain descent is without a query. `specs/Reply` and
+//! `specs/Question` say what is asked and replied, `specs/Found` and `specs/Proofs` what the answers mean.
 #![tactic(auto)]
 
+mod asking;
 mod found;
 mod proof;
 mod proving;
+mod query;
 mod question;
 mod reading;
+mod reply;
 mod searching;
 
 pub use found::Found;

@@ -7,12 +7,17 @@ ghost use Rattle.pp_query.specs.Proofs.{IsProof};
 
 use crate::NoMemory;
 use crate::proof::Proof;
+use crate::query::{Query, query_of};
+use crate::reply::Reply;
 use pp_checks::Plan;
+use pp_named::Named;
 use pp_prog::{CheckId, Program};
+use pp_symbolic::Mode;
 use std::alloc::Global;
 
-/// Proves that no guess run of the round fails the check, where it is a plain descent; of other checks nothing is shown
-/// so far. The solver may learn so many lemmas. The only error is want of memory.
+/// Proves that no guess run of the round fails the check. A plain descent is proved without a query; of another check
+/// the circuit of the guess runs, over named trees, is asked for a model, and the check is proved where there is none.
+/// The solver may learn so many lemmas. The only error is want of memory.
 pub fn prove(
     alloc: Global,
     program: &Program,
@@ -31,5 +36,11 @@ pub fn prove(
     if plan.plain(check) {
         return Ok(Proof::Proved);
     }
-    Ok(Proof::NotProved)
+    let query = query_of::<Named>(alloc, program, plan, check, Mode::Guess, round, 1, lemmas)?;
+    let Query { question: _, reply } = query;
+    match reply {
+        Reply::Model(_) => Ok(Proof::NotProved),
+        Reply::NoModel => Ok(Proof::Proved),
+        Reply::Spent(evidence) => Ok(Proof::Spent(evidence)),
+    }
 }

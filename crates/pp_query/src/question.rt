@@ -1,50 +1,49 @@
-//! The question of a round: whether some arguments of its circuit fail the check.
+//! The question of a round: whether the check fails in its circuit, where all that was supposed holds.
 
-ghost use Rattle.std.specs.Prelude.{◌≡◌, ◌^◌, ◌<◌, ◌≤◌, All, IfOk, length};
+ghost use Rattle.std.specs.Prelude.{◌<◌, ◌≤◌, IfOk, length};
 ghost use Rattle.pp_checks.specs.Plan.{IsPlanOf};
 ghost use Rattle.pp_estimate.specs.Estimates.{estimate};
-ghost use Rattle.pp_gate.specs.Circuit.{IsOf};
-ghost use Rattle.pp_query.specs.Question.{IsQuestion, AreClausesOf, asked_of};
+ghost use Rattle.pp_query.specs.Question.{IsQuestion};
+ghost use Rattle.pp_symbolic.specs.Frame.{Suits};
 
 use crate::NoMemory;
-use pp_bounded::{Bounded, BoundedTree};
 use pp_checks::Plan;
-use pp_clause::{Clauses, Lit, Lits};
-use pp_domain::{Domain, Symbols};
+use pp_domain::Domain;
 use pp_gate::Circuit;
 use pp_prog::{CheckId, Program};
 use pp_symbolic::{Frame, Mode, symbolic};
 use std::alloc::Global;
 
-/// The circuit of a round and its domain, with the frame of the run: the symbols of the arguments, the literal that the
-/// run fails the check, and the literal that all that was supposed of the inputs holds.
+/// The circuit of a round and its domain, with the frame: the symbols of the arguments, the literal that the check
+/// fails, and the literal that all that was supposed of the inputs holds.
 #[derive(Drop)]
-pub struct Question {
+pub struct Question<D, T> {
     pub circuit: Circuit,
-    pub domain: Bounded,
-    pub arguments: Symbols<BoundedTree>,
-    pub fails: Lit,
-    pub circuit_ok: Lit,
+    pub domain: D,
+    pub frame: Frame<T>,
 }
 
-/// The question of a round, over arguments of height at most `depth`.
-pub fn question_of(
+/// The question of a round: of its run on arguments of height at most `depth`, over an exact domain, or of its guess
+/// runs, over another. The only error is want of memory.
+pub fn question_of<D: Domain + Drop>(
     alloc: Global,
     program: &Program,
     plan: &Plan,
     check: CheckId,
+    mode: Mode,
     round: u32,
     depth: u32,
-) -> Result<Question, NoMemory>
+) -> Result<Question<D, D::Tree>, NoMemory>
+    requires mode { Suits D.sense mode }
     requires plan { IsPlanOf plan.now program.now }
     requires check { check.0 < length program.now.checks }
     requires round { round ≤ 12 }
     requires depth { (1 ≤ depth) × (depth ≤ 6) }
     requires size { estimate program.now.types program.now.functions program.now.checks check.0 round depth ≤ 4000000 }
-    ensures question { IfOk result (λ q. IsQuestion program.now check round depth q) }
+    ensures question { IfOk result (λ q. IsQuestion D.sense program.now check mode round depth q) }
 {
     let mut circuit = Circuit::new(alloc)?;
-    let mut domain = Bounded::fresh(&mut circuit)?;
+    let mut domain = D::fresh(&mut circuit)?;
     let frame = symbolic(
         alloc,
         &mut domain,
@@ -52,42 +51,13 @@ pub fn question_of(
         program,
         plan,
         check,
-        Mode::Real,
+        mode,
         round,
         depth,
     )?;
-    let Frame {
-        arguments,
-        fails,
-        circuit_ok,
-    } = frame;
     Ok(Question {
         circuit,
         domain,
-        arguments,
-        fails,
-        circuit_ok,
+        frame,
     })
-}
-
-/// The literals that are asked to be true.
-pub fn assumptions(alloc: Global, question: &Question) -> Result<Lits, NoMemory>
-    ensures { IfOk result (λ lits. lits ≡ asked_of question.now) }
-{
-    let mut lits = Lits::new(alloc);
-    lits.push(question.fails)?;
-    lits.push(question.circuit_ok)?;
-    Ok(lits)
-}
-
-/// The clauses of the gates on which the literals stand.
-pub fn clauses_of(circuit: &Circuit, asked: &[Lit]) -> Result<Clauses, NoMemory>
-    requires room { length circuit.now ≤ 2 ^ 28 }
-    requires of { All (IsOf circuit.now) asked.now }
-    ensures { IfOk result (λ clauses. AreClausesOf circuit.now asked.now clauses) }
-{
-    let clauses = circuit.clauses_of(asked)?;
-    // `len` tells that each of them is a clause
-    let _count = clauses.len();
-    Ok(clauses)
 }

@@ -7,12 +7,13 @@ ghost use Rattle.pp_query.specs.Found.{IsFound};
 
 use crate::NoMemory;
 use crate::found::Found;
-use crate::question::{assumptions, clauses_of, question_of};
+use crate::query::{Query, query_of};
 use crate::reading::read_all;
-use pp_cdcl::{Answer, solve};
+use crate::reply::Reply;
+use pp_bounded::Bounded;
 use pp_checks::Plan;
-use pp_clause::Spent;
 use pp_prog::{CheckId, Program};
+use pp_symbolic::Mode;
 use std::alloc::Global;
 
 /// Looks for arguments of height at most `depth` whose run with the fuel `round` fails the check. The solver may learn
@@ -34,28 +35,30 @@ pub fn search(
     requires size { estimate program.now.types program.now.functions program.now.checks check.0 round depth ≤ 4000000 }
     ensures found { IfOk result (λ found. IsFound program.now check round depth lemmas found) }
 {
-    let question = question_of(alloc, program, plan, check, round, depth)?;
-    if question.fails == question.circuit_ok.negated() {
-        return Ok(Found::Nothing);
-    }
-    let assumptions = assumptions(alloc, &question)?;
-    let asked = assumptions.as_slice();
-    let clauses = clauses_of(&question.circuit, asked)?;
-    match solve(alloc, &clauses, asked, lemmas)? {
-        Answer::Sat(assignment) => {
-            let whole = question.circuit.complete(&assignment)?;
-            let arguments = question.arguments.as_slice();
-            let values = read_all(alloc, &question.domain, program.types(), &whole, arguments)?;
+    let query = query_of::<Bounded>(
+        alloc,
+        program,
+        plan,
+        check,
+        Mode::Real,
+        round,
+        depth,
+        lemmas,
+    )?;
+    let Query { question, reply } = query;
+    match reply {
+        Reply::Model(assignment) => {
+            let arguments = question.frame.arguments.as_slice();
+            let values = read_all(
+                alloc,
+                &question.domain,
+                program.types(),
+                &assignment,
+                arguments,
+            )?;
             Ok(Found::Args(values))
         }
-        Answer::Unsat(_) => Ok(Found::Nothing),
-        Answer::Spent(log) => {
-            let evidence = Spent {
-                clauses,
-                assumptions,
-                log,
-            };
-            Ok(Found::Spent(evidence))
-        }
+        Reply::NoModel => Ok(Found::Nothing),
+        Reply::Spent(evidence) => Ok(Found::Spent(evidence)),
     }
 }

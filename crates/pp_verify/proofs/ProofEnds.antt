@@ -1,5 +1,5 @@
 -- The ends of a check by the proof of a round that was searched, and the round after it.
-use Rattle.std.proofs.Common.{◌≡◌, ◌∙◌, ℕ, ◌+◌, ◌≤◌, Bool, true, false, refl, sym, ap, arith, below_more, inr}
+use Rattle.std.proofs.Common.{◌≡◌, ◌∙◌, ℕ, ◌+◌, ◌≤◌, Bool, true, false, refl, sym, ap, arith, below_more, inl, inr}
 use Rattle.std.specs.Prelude.{List, Some, All, nat_eq, if◌then◌else◌}
 use Rattle.std.proofs.lemmas.Bool.{eq-eqb, eqb-true, false≢true}
 use Rattle.std.proofs.lemmas.List.Elements.{All-weaker}
@@ -10,10 +10,11 @@ use Rattle.pp_evidence.specs.Evidence.{IsAmong, IsProofEvidence, IsSpentQuery}
 use Rattle.pp_induct.specs.declared.ends.CheckEnd.TheVariants.{Open, Proved}
 use Rattle.pp_induct.specs.declared.ends.Why.TheVariants.{Lemmas, Rounds}
 use Rattle.pp_induct.specs.declared.limits.Limits.{Limits}
-use Rattle.pp_induct.specs.Reports.{IsEnd, IsNotPlain, IsSearchedTo}
-use Rattle.pp_induction.specs.Ends.{NoGuessFails}
+use Rattle.pp_induct.specs.Reports.{IsEnd, IsNotPlain, IsOutOfProof, IsSearchedTo}
+use Rattle.pp_induction.specs.Ends.{GuessFails, NoGuessFails}
 use Rattle.pp_prog.specs.declared.id.CheckId.{CheckId}
 use Rattle.pp_prog.specs.declared.program.Program.{Program}
+use Rattle.pp_prog.specs.Cone.{IsWordFunction}
 use Rattle.pp_verify.specs.declared.progress.Progress.{Progress}
 use Rattle.pp_verify.specs.declared.progress.Step.TheVariants.{Ended, Next}
 use Rattle.pp_verify.specs.Rounds.{HasCome, HasSearchedBefore, StepGives, step_after}
@@ -35,6 +36,7 @@ pub evidence_at : (p : Program) (i : ℕ) (c : CheckId) (round depth lemmas : �
 evidence_at p i c round depth lemmas s le h = record {
   spent = spent_among_more _ _ lemmas s (grows_with_depth p.types p.functions p.checks c.0 round 1 depth le) h.spent;
   found = h.found;
+  words = h.words;
 }
 
 module _ {p : Program} {limits : Limits} {i : ℕ} {c : CheckId} {round : ℕ} (searched : IsSearchedTo p limits i c round)
@@ -50,17 +52,22 @@ module _ {p : Program} {limits : Limits} {i : ℕ} {c : CheckId} {round : ℕ} (
         → IsEnd p limits i c (Open (Some round) (Lemmas s))
     open_by_proof s least not_plain evidence = (
       searched,
-      inr (record {
-        not_plain = not_plain;
-        evidence = evidence_at p i c round limits.depth limits.lemmas s least evidence;
-      }),
+      inr out,
+      λ word. inl out,
     )
+      where
+        out : IsOutOfProof p limits i c round s
+        out = record {
+          not_plain = not_plain;
+          evidence = evidence_at p i c round limits.depth limits.lemmas s least evidence;
+        }
 
     pub one_more_searched : HasSearchedBefore p limits i c round → IsNotPlain p c
-        → HasSearchedBefore p limits i c (round + 1)
-    one_more_searched before not_plain = record {
+        → (IsWordFunction p.types p.functions i → GuessFails p i c round) → HasSearchedBefore p limits i c (round + 1)
+    one_more_searched before not_plain guessed = record {
       each = below_more (IsSearchedTo p limits i c) round before.each searched;
       not_plain = λ first. not_plain;
+      guessed = λ word. below_more (GuessFails p i c) round (before.guessed word) (guessed word);
     }
 
 -- what follows a round that ended nothing
@@ -77,6 +84,7 @@ after_gives p limits progress come more = by (nat_eq progress.round limits.round
     by true e = (
       more.each progress.round (omega arith),
       (ap Some (eqb-true progress.round limits.rounds e), more.not_plain (omega arith)),
+      λ word. more.guessed word progress.round (omega arith),
     )
     by false e =
         let differ : progress.round ≡ limits.rounds → ⊥ =

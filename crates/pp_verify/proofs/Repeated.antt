@@ -1,10 +1,12 @@
 -- A round in which no call was left to unfold in the round before is like that one.
 use Rattle.std.proofs.Common.{◌∙◌, ℕ, zero, suc, sym, arith}
 use Rattle.std.specs.Prelude.{List}
+use Rattle.pp_prog.specs.declared.id.CheckId.{CheckId}
+use Rattle.pp_prog.specs.declared.program.Program.{Program}
 use Rattle.pp_prog.specs.Calls.{call_table}
 use Rattle.pp_checks.specs.Closed.{Closed, Nests}
 use Rattle.pp_eval.proofs.Lasts.{lasts}
-use Rattle.pp_induction.specs.Ends.{NoGuessFails, NoLowRunFails}
+use Rattle.pp_induction.specs.Ends.{GuessFails, NoGuessFails, NoLowRunFails}
 use Rattle.pp_run_laws.proofs.Nested.{nested_never_deep}
 use Rattle.pp_verify.proofs.GuessesAlike.{guess_same_after}
 use Rattle.pp_verify.specs.Laws.{RepeatedAreAlike}
@@ -13,6 +15,19 @@ use Rattle.pp_verify.specs.Laws.{RepeatedAreAlike}
 nests_more : (calls : List (List ℕ)) (n f : ℕ) → Nests calls n f → Nests calls (suc n) f
 nests_more calls zero f nests g has = absurd (nests g has)
 nests_more calls (suc n) f nests g has = nests_more calls n g (nests g has)
+
+-- a guess run that fails a check in the one fails it in the other too
+pub guess_fails_after : (p : Program) (i : ℕ) (c : CheckId) (n : ℕ) → Nests (call_table p.functions) n i
+    → GuessFails p i c n → GuessFails p i c (suc n)
+guess_fails_after p i c n nests h = record {
+  function = h.function;
+  args = h.args;
+  called = h.called;
+  answers = h.answers;
+  answering = h.answering;
+  failed = sym (guess_same_after p.types.ctors p.functions n i h.function h.called.function nests c h.args h.answers)
+      ∙ h.failed;
+}
 
 pub repeated_are_alike : RepeatedAreAlike
 repeated_are_alike p i n nests c d = record { runs = (later, sooner); guesses = (guesses, back); closed = (more, less) }

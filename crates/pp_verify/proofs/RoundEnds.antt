@@ -1,5 +1,5 @@
 -- The ends of a check, round after round.
-use Rattle.std.proofs.Common.{◌≡◌, ℕ, zero, suc, ◌+◌, ◌≤◌, true, refl, arith, below_more, inl}
+use Rattle.std.proofs.Common.{◌≡◌, ℕ, zero, suc, ◌+◌, ◌≤◌, true, refl, arith, below_more, inl, inr}
 use Rattle.std.specs.Prelude.{List, [], ◌∷◌}
 use Rattle.std.proofs.lemmas.Bool.{and_parts}
 use Rattle.std.proofs.lemmas.List.Elements.{All-cons, All-nil, Contains-append_right}
@@ -14,12 +14,12 @@ use Rattle.pp_prog.specs.Sorts.{has_sort, have_sorts, param_sorts}
 use Rattle.pp_checks.specs.Closed.{AreUpTo, Closed}
 use Rattle.pp_evidence.specs.Evidence.{IsSearchEvidence}
 use Rattle.pp_induct.specs.declared.ends.CheckEnd.TheVariants.{Exhausted, Invalid}
-use Rattle.pp_induct.specs.declared.ends.Why.TheVariants.{Lemmas}
+use Rattle.pp_induct.specs.declared.ends.Why.TheVariants.{Lemmas, Size}
 use Rattle.pp_induct.specs.declared.limits.Limits.{Limits}
-use Rattle.pp_induct.specs.Reports.{IsBegun, IsEnd, IsOutOfLemmas, IsSearched, IsSearchedTo}
-use Rattle.pp_induction.specs.Ends.{NoLowRunFails, NoRunFails}
+use Rattle.pp_induct.specs.Reports.{IsBegun, IsEnd, IsGuessed, IsOutOfLemmas, IsSearched, IsSearchedTo, IsTooLarge}
+use Rattle.pp_induction.specs.Ends.{GuessFails, NoLowRunFails, NoRunFails}
 use Rattle.pp_sound.specs.Counterexample.{AreLow, IsCounterexample}
-use Rattle.pp_verify.proofs.Repeated.{repeated_are_alike}
+use Rattle.pp_verify.proofs.Repeated.{guess_fails_after, repeated_are_alike}
 use Rattle.pp_verify.specs.Laws.{IsAlikeAfter}
 use Rattle.pp_verify.specs.Rounds.{HasSearchedBefore, IsRepeated, open_before, round_before}
 
@@ -46,6 +46,8 @@ module _ {p : Program} {limits : Limits} {i : ℕ} {c : CheckId} where
           open_still = λ closed. last.open_still (alike.closed.1 closed);
         });
     not_plain = λ first. before.not_plain (omega arith);
+    guessed = λ word. below_more (GuessFails p i c) (suc n) (before.guessed word)
+        (guess_fails_after p i c n nests (before.guessed word n (omega arith)));
   }
     where
       last : IsSearchedTo p limits i c n
@@ -53,6 +55,13 @@ module _ {p : Program} {limits : Limits} {i : ℕ} {c : CheckId} where
 
       alike : IsAlikeAfter p i c n limits.depth
       alike = repeated_are_alike p i n nests c limits.depth
+
+-- a round that is too large isn't begun
+pub open_by_size : (p : Program) (limits : Limits) (i : ℕ) (c : CheckId) (round : ℕ)
+    → HasSearchedBefore p limits i c round → IsTooLarge p limits i c round → IsEnd p limits i c (open_before round Size)
+open_by_size p limits i c zero before large = (tt, large, tt)
+open_by_size p limits i c (suc n) before large =
+    (before.each n (omega arith), large, λ word. before.guessed word n (omega arith))
 
 -- what stands behind the end of a check in a round that is begun, after rounds that found nothing
 module _ {p : Program} {limits : Limits} {i : ℕ} {c : CheckId} {round : ℕ}
@@ -63,12 +72,16 @@ module _ {p : Program} {limits : Limits} {i : ℕ} {c : CheckId} {round : ℕ}
 
   pub open_by_search : (s : Spent) → IsSearchEvidence p i c round limits.depth limits.lemmas s
       → IsEnd p limits i c (open_before round (Lemmas s))
-  open_by_search s evidence = (searched_before round before, by round begun evidence)
+  open_by_search s evidence = (searched_before round before, by round begun evidence, guessed_by round before)
     where
       by : (n : ℕ) → IsBegun p limits i c n → IsSearchEvidence p i c n limits.depth limits.lemmas s
           → IsOutOfLemmas p limits i c (round_before n) s
       by zero begun evidence = record { begun = begun; evidence = evidence }
       by (suc n) begun evidence = inl (record { begun = begun; evidence = evidence })
+
+      guessed_by : (n : ℕ) → HasSearchedBefore p limits i c n → IsGuessed p limits i c (round_before n) (Lemmas s)
+      guessed_by zero before = tt
+      guessed_by (suc n) before = λ word. inr (before.guessed word n (omega arith))
 
   pub invalid_by : (args : List Value) → IsCounterexample p i c round limits.depth args
       → IsEnd p limits i c (Invalid args round)

@@ -5,6 +5,7 @@ use Rattle.pp_prog.specs.declared.expr.Function.{Function}
 use Rattle.pp_prog.specs.declared.id.CheckId.{CheckId}
 use Rattle.pp_prog.specs.declared.program.Program.{Program}
 use Rattle.pp_prog.specs.Calls.{call_table}
+use Rattle.pp_prog.specs.Cone.{IsWordFunction}
 use Rattle.pp_checks.specs.Closed.{Nests}
 use Rattle.pp_checks.specs.Plan.{IsPlanOf, Plan}
 use Rattle.pp_induct.specs.declared.ends.CheckEnd.{CheckEnd}
@@ -13,6 +14,7 @@ use Rattle.pp_induct.specs.declared.ends.Why.{Why}
 use Rattle.pp_induct.specs.declared.ends.Why.TheVariants.{Rounds}
 use Rattle.pp_induct.specs.declared.limits.Limits.{Limits}
 use Rattle.pp_induct.specs.Reports.{IsEnd, IsNotPlain, IsSearchedTo}
+use Rattle.pp_induction.specs.Ends.{GuessFails}
 use Rattle.pp_sound.specs.Sound.{IsCheckOf}
 use Rattle.pp_verify.specs.declared.progress.Progress.{Progress}
 use Rattle.pp_verify.specs.declared.progress.Step.{Step}
@@ -45,10 +47,12 @@ step_after limits progress =
 
 module _ (p : Program) (limits : Limits) where
   -- of check c, which belongs to function number i: each round before this one was searched, without arguments that
-  -- fail the check, and left its function open; and after the first of them the check is no plain descent
+  -- fail the check, and left its function open; after the first of them the check is no plain descent; and where the
+  -- function meets no datatype, some guess run of each of them fails the check
   pub record HasSearchedBefore (i : ℕ) (c : CheckId) (round : ℕ) : Type 0 where
     pub each : (n : ℕ) → n < round → IsSearchedTo p limits i c n
     pub not_plain : 0 < round → IsNotPlain p c
+    pub guessed : IsWordFunction p.types p.functions i → (n : ℕ) → n < round → GuessFails p i c n
 
   -- the work on a check of the function has come so far, and the round that comes next is asked for
   pub record HasCome (progress : Progress) : Type 0 where

@@ -24,7 +24,7 @@ returns-in-Spent c =
 pub returns-in-NotProved : goal.returns-in-NotProved
 returns-in-NotProved c =
     let proof = rw c.in-NotProved.is at c.in_ok-proof.ensures.proof in
+    let told = proof c.args.progress.function.0 c.requires.come.own in
     rw c.after.ensures
     (after_gives c.args.program.now c.args.limits c.args.progress c.requires.come
-    (one_more_searched c.requires.searched c.requires.come.before
-    (proof c.args.progress.function.0 c.requires.come.own)))
+    (one_more_searched c.requires.searched c.requires.come.before told.0 told.1))
