@@ -7,7 +7,8 @@ ghost use Rattle.pp_checks.specs.Plan.{IsPlanOf};
 ghost use Rattle.pp_estimate.specs.Estimates as spec;
 
 use crate::accepted::accepted;
-use anyhow::{Context, Result, ensure};
+use crate::words::number;
+use anyhow::{Context, Result};
 use pp_bounded::Bounded;
 use pp_checks::Plan;
 use pp_compile::compile_run;
@@ -50,21 +51,6 @@ fn read_sizes(numbers: &str) -> Result<Sizes>
         depth: number(words.next(), 1, 6)?,
         times: number(words.next(), 0, 1000)?,
     })
-}
-
-/// A number, at least the one and at most the other.
-fn number(word: Option<&str>, least: u32, most: u32) -> Result<u32>
-    ensures { IfOk result (λ n. (least ≤ n) × (n ≤ most)) }
-{
-    let number = word
-        .context("a number")?
-        .parse::<u32>()
-        .context("a number")?;
-    ensure!(
-        least <= number && number <= most,
-        "{number} isn't between {least} and {most}"
-    );
-    Ok(number)
 }
 
 /// Prints the sizes of the circuits of a source.

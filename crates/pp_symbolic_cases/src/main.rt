@@ -11,14 +11,19 @@
 //! | `rounds FILE` | the circuits of rounds are compared with the runs | `rounds` |
 //! | `plans FILE` | what the plans of the programs say | `plans` |
 //! | `circuits SOURCE ROUND DEPTH TIMES` | how large the circuits of runs are | `circuits` |
+//! | `guess_runs FILE` | whether checks are proved in a round | `guess_runs` |
+//! | `guesses SOURCE ROUNDS LEMMAS` | what the proofs of checks take | `guesses` |
 //! | `coverage CASE SIZE` | whether a large match is covered | `coverage` |
 #![tactic(auto)]
 
 mod accepted;
 mod circuits;
 mod coverage;
+mod guess_runs;
+mod guesses;
 mod plans;
 mod rounds;
+mod words;
 
 use anyhow::{Context, Result, bail};
 use std::env;
@@ -31,6 +36,8 @@ fn run(rt: &HostRuntime, task: &str) -> Result<()> {
         "rounds" => rounds::print_rounds(rt, given),
         "plans" => plans::print_plans(rt, given),
         "circuits" => circuits::print_sizes(rt, given),
+        "guess_runs" => guess_runs::print_proved(rt, given),
+        "guesses" => guesses::print_proofs(rt, given),
         "coverage" => coverage::print_coverage(rt, given),
         other => bail!("no task {other}"),
     }
