@@ -40,7 +40,7 @@ check 'a call of an invalid function' 1 "$(printf '%s\n' 'parent: invalid, postc
     'left: depends on parent, 2 checks' '0 valid, 1 invalid, 0 open, 1 depending')" ''
 run --rounds 0 heap.scala
 check 'an open function' 2 "$(printf '%s\n' 'parent: valid, 1 checks' \
-    'left: open at round 0, precondition at 1:12:22, rounds' '1 valid, 0 invalid, 1 open, 0 depending')" ''
+    'left: open at round 0, postcondition at 1:12:5, rounds' '1 valid, 0 invalid, 1 open, 0 depending')" ''
 run refused.scala
 check 'a refused source' 3 '' 'refused: syntax at 1:1:11'
 run
