@@ -1,0 +1,40 @@
+// Not proved: an element is lost on the way.
+// pureproof examples/proofs/length_wrong.scala
+// 2 valid, 2 invalid, 0 open, 0 depending
+import stainless.lang._
+
+object Length {
+  sealed abstract class List[A]
+  case class Cons[A](head: A, tail: List[A]) extends List[A]
+  case class Nil[A]() extends List[A]
+
+  // Past the greatest Int it begins again at the smallest, which sums don't mind.
+  def length[A](l: List[A]): Int = {
+    decreases(l)
+    l match {
+      case Cons(_, t) => 1 + length(t)
+      case Nil() => 0
+    }
+  }
+
+  def append[A](a: List[A], b: List[A]): List[A] = {
+    decreases(a)
+    a match {
+      case Cons(h, t) => Cons(h, append(t, b))
+      case Nil() => b
+    }
+  } ensuring (res => length(res) == length(a) + length(b))
+
+  // The elements of l from the last to the first, and then those of done.
+  def reverseOnto[A](l: List[A], done: List[A]): List[A] = {
+    decreases(l)
+    l match {
+      case Cons(h, t) => reverseOnto(t, done)
+      case Nil() => done
+    }
+  } ensuring (res => length(res) == length(l) + length(done))
+
+  def reverse[A](l: List[A]): List[A] = {
+    reverseOnto(l, Nil[A]())
+  } ensuring (res => length(res) == length(l))
+}
