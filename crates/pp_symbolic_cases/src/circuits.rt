@@ -141,7 +141,7 @@ fn steps_of(alloc: Global, program: &Program, check: CheckId, round: u32) -> Res
 }
 
 /// The function with the number.
-fn numbered(functions: &[Function], number: FunctionId) -> Option<&Function> {
+pub fn numbered(functions: &[Function], number: FunctionId) -> Option<&Function> {
     at(functions, number.0 as usize)
 }
 

@@ -8,6 +8,7 @@ ghost use Rattle.pp_checks.specs.Plan.{IsPlanOf};
 ghost use Rattle.pp_estimate.specs.Estimates as spec;
 
 use crate::accepted::accepted;
+use crate::circuits::numbered;
 use crate::words::number;
 use anyhow::{Context, Result};
 use pp_cdcl::{Answer, solve};
@@ -17,7 +18,6 @@ use pp_compile::compile_guess;
 use pp_domain::Domain;
 use pp_estimate::estimate;
 use pp_gate::Circuit;
-use pp_list::at;
 use pp_named::Named;
 use pp_prog::{CheckId, Program};
 use pp_symbolic::{Mode, NoMemory, symbolic};
@@ -196,7 +196,7 @@ fn steps_of(alloc: Global, program: &Program, check: CheckId, round: u32) -> Res
 {
     let functions = program.functions.as_slice();
     let found = program.checks()[check.0 as usize];
-    match at(functions, found.function.0 as usize) {
+    match numbered(functions, found.function) {
         Some(f) => Ok(
             compile_guess(alloc, functions, f, check, round)?
                 .steps
