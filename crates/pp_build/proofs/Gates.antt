@@ -1,5 +1,6 @@
 -- The gates that operations on symbols take, as steps with the symbols' sorts and heights count them.
-use Rattle.std.proofs.Common.{◌≡◌, ℕ, ◌+◌, ◌*◌, max, min, length, sym, subst, arith, Bool, true, false, if◌then◌else◌, List, Some, slice_get, refl, ap}
+use Rattle.std.proofs.Common.{◌≡◌, ℕ, ◌+◌, ◌*◌, max, min, length, sym, subst, arith, Bool, true, false}
+use Rattle.std.proofs.Common.{if◌then◌else◌, List, Some, slice_get, refl, ap}
 use Rattle.std.proofs.Common.{◌∙◌}
 use Rattle.pp_prog.specs.declared.id.CtorId.{CtorId}
 use Rattle.pp_prog.specs.declared.sort.Sort.{Sort}
@@ -7,23 +8,25 @@ use Rattle.pp_prog.specs.declared.sort.Sort.TheVariants as sort
 use Rattle.pp_prog.specs.declared.types.Ctor.{Ctor}
 use Rattle.pp_prog.specs.declared.types.TypeTable.{TypeTable}
 use Rattle.pp_prog.specs.declared.expr.BinaryOp.{BinaryOp}
-use Rattle.pp_prog.specs.declared.expr.BinaryOp.TheVariants.{Add, Sub, Mul, Div, Rem, Equal, Differ, Less, AtMost, More}
+use Rattle.pp_prog.specs.declared.expr.BinaryOp.TheVariants.{Add, Sub, Mul, Div, Rem, Equal, Differ, Less, AtMost}
+use Rattle.pp_prog.specs.declared.expr.BinaryOp.TheVariants.{More}
 use Rattle.pp_prog.specs.declared.expr.BinaryOp.TheVariants.{AtLeast, AndAlso, OrElse, And, Or, Xor, Shl, Shr, Ushr}
 use Rattle.pp_prog.specs.ExprSorts.{sort_if, then_sort}
-use Rattle.pp_prog.specs.Sizes.{by_sort}
+use Rattle.pp_prog.specs.Sizes.{bits, by_sort, nodes}
 use Rattle.pp_prog.specs.Sorts.{same_sort}
 use Rattle.pp_prog.proofs.ValueSorts.{one_sort}
 use Rattle.pp_gate.specs.declared.gate.Gate.{Gate}
 use Rattle.pp_domain.specs.declared.symbol.Symbol.{Symbol}
 use Rattle.pp_domain.specs.declared.symbol.Symbol.TheVariants as symbol
-use Rattle.pp_domain.specs.Allowance.{below_gates, bits_at, look_at_gates, nodes_at, construct_gates, expand_gates_of}
+use Rattle.pp_domain.specs.Allowance.{bits_at, look_at_gates, nodes_at, construct_gates, expand_gates_of}
 use Rattle.pp_domain.specs.AnySort.{choose_gates, compare_gates}
 use Rattle.pp_domain.specs.Sense.{Sense}
 use Rattle.pp_domain.specs.Symbols.{IsSymbol, symbol_height}
 use Rattle.pp_steps.specs.Gates.{binary_gates}
 use Rattle.pp_steps.specs.Sorted.{operated_sort}
 use Rattle.pp_build.specs.StepGates.{one_look}
-use Rattle.pp_build_operators.specs.Budget.{is_equality, goes_down_gates, operator_gates, symbol_sort}
+use Rattle.pp_build_operators.specs.Budget.{goes_down_gates, is_equality, operator_gates, symbol_sort}
+use Rattle.pp_build_operators.specs.Budget.{tree_down_gates}
 use Rattle.pp_build_operators.proofs.SymbolSorts.{compare_gates_are, symbol_sort_is}
 
 equal_sorts : (p q r : Sort) → operated_sort Equal (Some p) (Some q) ≡ Some r → p ≡ q
@@ -33,9 +36,6 @@ equal_sorts p q r e = when (same_sort p q) refl e
         → p ≡ q
     when true same f = one_sort p q same
     when false same f = absurd (cc)
-
-plus_zero : (n : ℕ) → n + 0 ≡ n
-plus_zero n = omega arith
 
 module _ {D T : Type 0} (m : Sense D T) (types : TypeTable) where
   pub choose_gates_are : (d : D) (gs : List Gate) (s : Sort) (x y : Symbol T) → IsSymbol m d gs s x
@@ -115,21 +115,32 @@ module _ {D T : Type 0} (m : Sense D T) (types : TypeTable) where
       → IsSymbol m d gs s y
       → goes_down_gates m types d x y ≡ by_sort 1024 0 (λ of.
       if m.exact then 64 + 4 * (32 + bits_at m types of (symbol_height m d x))
-      * (1 + nodes_at m types of (symbol_height m d y)) else 1) s
+      * (1 + nodes_at m types of (symbol_height m d y)) else 194 + 128 * length (m.looks d)) s
   goes_down_gates_are d gs sort.Int (symbol.Word v) (symbol.Word w) is other = refl
   goes_down_gates_are d gs sort.Bool (symbol.Bit k) (symbol.Bit l) is other = refl
   goes_down_gates_are d gs (sort.Tree of) (symbol.Tree t) (symbol.Tree u) is other =
       by m.exact refl
       ∙ ap (λ e. if m.exact then 64 + 4 * (32 + bits_at m types e (m.height d t))
-      * (1 + nodes_at m types e (m.height d u)) else 1) is.1
+      * (1 + nodes_at m types e (m.height d u)) else 194 + 128 * length (m.looks d)) is.1
     where
       most : ℕ
       most = 64 + 4 * (32 + bits_at m types (m.data_of d t) (m.height d t))
           * (1 + nodes_at m types (m.data_of d t) (m.height d u))
 
-      by : (b : Bool) → m.exact ≡ b → (if b then below_gates m types d t u else 1) ≡ (if b then most else 1)
-      by true e = ap (λ (b : Bool). most + (if b then 0 else 128 * length (m.looks d))) e ∙ plus_zero most
-      by false e = refl
+      -- by the kind of the domain
+      whole : Bool → ℕ
+      whole b = 64 + 4 * (32 + (if b then bits types (m.height d t) (sort.Tree (m.data_of d t)) else 0))
+          * (1 + (if b then nodes types (m.height d u) (sort.Tree (m.data_of d t)) else 0))
+          + (if b then 0 else 128 * length (m.looks d)) + (if b then 0 else 2)
+
+      plain : (n : ℕ) → n + 0 + 0 ≡ n
+      plain n = omega arith
+
+      by : (b : Bool) → m.exact ≡ b
+          → tree_down_gates m types d t u ≡ (if b then most else 194 + 128 * length (m.looks d))
+      by true e =
+          ap (λ (b : Bool). most + (if b then 0 else 128 * length (m.looks d)) + (if b then 0 else 2)) e ∙ plain most
+      by false e = ap whole e ∙ omega arith
   goes_down_gates_are d gs sort.Int (symbol.Bit l) y is other = absurd is
   goes_down_gates_are d gs sort.Int (symbol.Tree t) y is other = absurd is
   goes_down_gates_are d gs sort.Bool (symbol.Word w) y is other = absurd is

@@ -1,5 +1,6 @@
 -- Performed steps that are operators, and steps of which nothing is known.
-use Rattle.std.proofs.Common.{◌≡◌, ◌+◌, ◌*◌, if◌then◌else◌, ℕ, min, true, false, List, [], ◌∷◌, arith, length, Some, slice_get, refl, sym, ap, ◌∙◌, subst}
+use Rattle.std.proofs.Common.{◌≡◌, ◌+◌, ◌*◌, if◌then◌else◌, ℕ, min, true, false, List, [], ◌∷◌, arith, length, Some}
+use Rattle.std.proofs.Common.{slice_get, refl, sym, ap, ◌∙◌, subst}
 use Rattle.pp_prog.specs.declared.expr.BinaryOp.{BinaryOp}
 use Rattle.pp_prog.specs.declared.expr.UnaryOp.{UnaryOp}
 use Rattle.pp_prog.specs.declared.sort.Sort.{Sort}
@@ -23,7 +24,7 @@ use Rattle.pp_steps.specs.Gates.{Heights, binary_gates, height_of}
 use Rattle.pp_steps.specs.Known.{Tells}
 use Rattle.pp_steps.specs.Sorted.{Sorts}
 use Rattle.pp_domain.specs.Allowance.{bits_at, nodes_at}
-use Rattle.pp_build.proofs.StepGates.{keeps_same}
+use Rattle.pp_build.proofs.StepGates.{keeps_compared, keeps_same}
 use Rattle.pp_steps.specs.Meaning.{Values, applied, value_or}
 use Rattle.pp_build_operators.specs.Budget.{goes_down_gates, is_equality, operator_gates}
 use Rattle.pp_build_operators.specs.Operated.{IsBinary, IsDescent, IsUnary, StandsAs}
@@ -100,9 +101,11 @@ module _ {D T : Type 0} (m : Sense D T) (types : TypeTable) (d : D) (gs : List G
         operator_gates_are m types op d gs (can.sorts i) (can.sorts j) (can.sorts (length rs)) x y
         (can.registers.of i x left) (can.registers.of j y right) can.sorted
         ∙ ap (λ h. if is_equality op then by_sort 64 1 (λ of. 4 * (32 + bits_at m types of
-        (min h (symbol_height m d y)))) (can.sorts i) else binary_gates types op 0 (can.sorts i)) (can.registers.high i x left)
+        (min h (symbol_height m d y)))) (can.sorts i) else binary_gates types op 0 (can.sorts i))
+        (can.registers.high i x left)
         ∙ ap (λ h. if is_equality op then by_sort 64 1 (λ of. 4 * (32 + bits_at m types of
-        (min (can.heights i) h))) (can.sorts i) else binary_gates types op 0 (can.sorts i)) (can.registers.high j y right)
+        (min (can.heights i) h))) (can.sorts i) else binary_gates types op 0 (can.sorts i))
+        (can.registers.high j y right)
 
     pub binary_performed : (op : BinaryOp) (e : D) (hs : List Gate) (g : ℕ) → Moves m types d gs e hs g
         → (r : Symbol T) → IsBinary m types op d gs e hs x y r → Performs m types d gs rs (steps.Binary op i j) e hs r
@@ -131,9 +134,11 @@ module _ {D T : Type 0} (m : Sense D T) (types : TypeTable) (d : D) (gs : List G
         goes_down_gates_are m types d gs (can.sorts i) x y (can.registers.of i x left)
         (subst (λ s. IsSymbol m d gs s y) (sym can.sorted.0) (can.registers.of j y right))
         ∙ ap (λ h. by_sort 1024 0 (λ of. if m.exact then 64 + 4 * (32 + bits_at m types of h)
-        * (1 + nodes_at m types of (symbol_height m d y)) else 1) (can.sorts i)) (can.registers.high i x left)
+        * (1 + nodes_at m types of (symbol_height m d y)) else 194 + 128 * length (m.looks d)) (can.sorts i))
+        (can.registers.high i x left)
         ∙ ap (λ h. by_sort 1024 0 (λ of. if m.exact then 64 + 4 * (32 + bits_at m types of (can.heights i))
-        * (1 + nodes_at m types of h) else 1) (can.sorts i)) (can.registers.high j y right)
+        * (1 + nodes_at m types of h) else 194 + 128 * length (m.looks d)) (can.sorts i))
+        (can.registers.high j y right)
 
     pub descent_performed : (e : D) (hs : List Gate) (r : Symbol T) → IsDescent m types d gs e hs x y r
         → Performs m types d gs rs (steps.GoesDown i j) e hs r
@@ -144,7 +149,7 @@ module _ {D T : Type 0} (m : Sense D T) (types : TypeTable) (d : D) (gs : List G
           of = subst (λ s. IsSymbol m e hs s r) (sym can.sorted.1) made.0.of;
           high = made.0.low;
           extends = λ exact n a good. made.0.extends n a good (exactly m _ exact);
-          looks = keeps_same m types d e can.sorts (length rs) (steps.GoesDown i j) made.0.looks;
+          looks = keeps_compared m types d e can.sorts (length rs) i j made.0.looks made.0.compares;
           follows = λ inexact n a ρ missing follow.
               let lt = can.reads.0 in
               let less = can.reads.1 in

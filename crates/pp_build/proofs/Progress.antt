@@ -1,5 +1,6 @@
 -- How far the loop over the steps has come.
-use Rattle.std.proofs.Common.{true, false, ◌≡◌, ℕ, suc, ◌+◌, ◌-◌, ◌<◌, ◌≤◌, Bool, List, [], ◌∷◌, ◌++◌, length, drop, get_or, take}
+use Rattle.std.proofs.Common.{true, false, ◌≡◌, ℕ, suc, ◌+◌, ◌-◌, ◌<◌, ◌≤◌, Bool, List, [], ◌∷◌, ◌++◌, length, drop}
+use Rattle.std.proofs.Common.{get_or, take}
 use Rattle.std.proofs.Common.{Some, slice_get, refl, sym, ap, ◌∙◌, subst, arith, length-append, inl, inr, ◌⊎◌}
 use Rattle.std.proofs.lemmas.List.{take_all, take-append-le}
 use Rattle.std.proofs.lemmas.Bool.{cases_lt}
@@ -22,7 +23,7 @@ use Rattle.pp_domain.proofs.Composition.{Extended_more, Extended_none, Moves_mor
 use Rattle.pp_steps.specs.declared.step.Step.{Step}
 use Rattle.pp_steps.specs.Gates.{Heights}
 use Rattle.pp_prog.specs.declared.id.DataId.{DataId}
-use Rattle.pp_build.specs.StepGates.{all_step_gates, looked, step_gates}
+use Rattle.pp_build.specs.StepGates.{all_step_gates, compared, looked, step_gates}
 use Rattle.pp_build.proofs.StepGates.{left_gates, step_gates_at}
 use Rattle.pp_steps.specs.Known.{Tells}
 use Rattle.pp_steps.specs.Meaning.{Does, Missing, Values}
@@ -76,7 +77,10 @@ module _ {D T : Type 0} (m : Sense D T) (types : TypeTable) (d : D) (gs : List G
     front = take_all (length qs) qs (omega arith);
     registers = can.registers;
     extends = λ exact n a good. Extended_none m types d gs n a good;
-    follows = λ inexact n a ρ missing all. (record { next = a; agree = agree_self (length gs) a; good = all.good }, all.stand);
+    follows = λ inexact n a ρ missing all. (
+      record { next = a; agree = agree_self (length gs) a; good = all.good },
+      all.stand,
+    );
     known = λ n a ρ missing k s good past lt at compares does. absurd (omega arith);
   }
 
@@ -181,16 +185,19 @@ module _ {D T : Type 0} (m : Sense D T) (types : TypeTable) (d : D) (gs : List G
         after : List DataId
         after = looked can.sorts (length rs) s ++ m.looks e
 
+        compares_after : ℕ
+        compares_after = compared can.sorts s + m.compares e
+
         gates_here : all_step_gates m types can.sorts can.heights (m.looks e) (m.compares e) (length rs)
             (drop (length rs) steps)
-            ≡ here + all_step_gates m types can.sorts can.heights after (m.compares e) (suc (length rs))
+            ≡ here + all_step_gates m types can.sorts can.heights after compares_after (suc (length rs))
             (drop (suc (length rs)) steps)
         gates_here = step_gates_at m types can.sorts can.heights (m.looks e) (m.compares e) steps (length rs) s at
 
         -- after the step no more is left than was counted
         gates_left : all_step_gates m types can.sorts can.heights (m.looks f) (m.compares f) (suc (length rs))
             (drop (suc (length rs)) steps)
-            ≤ all_step_gates m types can.sorts can.heights after (m.compares e) (suc (length rs))
+            ≤ all_step_gates m types can.sorts can.heights after compares_after (suc (length rs))
             (drop (suc (length rs)) steps)
         gates_left = left_gates m types can.sorts can.heights e f (length rs) s (suc (length rs))
             (drop (suc (length rs)) steps) done.looks

@@ -1,8 +1,11 @@
 -- The gates of steps: in an exact domain those by heights, in another one no more after fewer looks.
-use Rattle.std.proofs.Common.{◌≡◌, ℕ, suc, ◌+◌, ◌*◌, ◌≤◌, max, min, nat_eq, Bool, true, false, ◌&&◌, if◌then◌else◌, List, []}
-use Rattle.std.proofs.Common.{◌∷◌, ◌++◌, drop, map, sum, Some, slice_get, refl, sym, ap, ◌∙◌, subst, arith, inl, inr, ◌⊎◌}
+use Rattle.std.proofs.Common.{◌≡◌, ℕ, suc, ◌+◌, ◌*◌, ◌≤◌, max, min, nat_eq, Bool, true, false, ◌&&◌, if◌then◌else◌}
+use Rattle.std.proofs.Common.{List, []}
+use Rattle.std.proofs.Common.{◌∷◌, ◌++◌, drop, length, map, sum, Some, slice_get, refl, sym, ap, ◌∙◌, subst, arith}
+use Rattle.std.proofs.Common.{inl, inr, ◌⊎◌}
 use Rattle.pp_prog.specs.declared.expr.BinaryOp.{BinaryOp}
-use Rattle.pp_prog.specs.declared.expr.BinaryOp.TheVariants.{Add, Sub, Mul, Div, Rem, Equal, Differ, Less, AtMost, More}
+use Rattle.pp_prog.specs.declared.expr.BinaryOp.TheVariants.{Add, Sub, Mul, Div, Rem, Equal, Differ, Less, AtMost}
+use Rattle.pp_prog.specs.declared.expr.BinaryOp.TheVariants.{More}
 use Rattle.pp_prog.specs.declared.expr.BinaryOp.TheVariants.{AtLeast, AndAlso, OrElse, And, Or, Xor, Shl, Shr, Ushr}
 use Rattle.pp_prog.specs.declared.id.DataId.{DataId}
 use Rattle.pp_prog.specs.declared.sort.Sort.{Sort}
@@ -18,7 +21,8 @@ use Rattle.pp_steps.specs.declared.step.Step.TheVariants as steps
 use Rattle.pp_steps.specs.Gates.{Heights, all_gates, gates_of, open_gates}
 use Rattle.pp_steps.specs.Sorted.{Sorts}
 use Rattle.pp_build.proofs.StepLists.{drop_at}
-use Rattle.pp_build.specs.StepGates.{AtMostIn, KeepsLooks, all_step_gates, looked, one_look, opened_gates, step_gates}
+use Rattle.pp_build.specs.StepGates.{AtMostIn, KeepsLooks, all_step_gates, compared, looked, one_look}
+use Rattle.pp_build.specs.StepGates.{opened_gates, step_gates}
 
 -- ---- fewer looks
 
@@ -38,7 +42,9 @@ same_times d e xs ys le = by (nat_eq e.0 d.0)
 
 pub fewer_after : (fs xs ys : List DataId) → AtMostIn xs ys → AtMostIn (fs ++ xs) (fs ++ ys)
 fewer_after [] xs ys fewer = fewer
-fewer_after (f ∷ fs) xs ys fewer = λ d. same_times d f (fs ++ xs) (fs ++ ys) (fewer_after fs xs ys fewer d)
+fewer_after (f ∷ fs) xs ys fewer =
+    let rest = fewer_after fs xs ys fewer in
+    record { each = λ d. same_times d f (fs ++ xs) (fs ++ ys) (rest.each d); all = omega (arith, rest.all) }
 
 product_le : (a b c : ℕ) → a ≤ b → a * c ≤ b * c
 product_le a b c le = grind (arith)
@@ -46,7 +52,7 @@ product_le a b c le = grind (arith)
 look_le : (types : TypeTable) (xs ys : List DataId) (j k : ℕ) (d : DataId) → AtMostIn xs ys → j ≤ k
     → look_gates types xs j d ≤ look_gates types ys k d
 look_le types xs ys j k d fewer le =
-    let p = product_le (times d xs) (times d ys) (64 + 4 * flat types d) (fewer d) in omega arith
+    let p = product_le (times d xs) (times d ys) (64 + 4 * flat types d) (fewer.each d) in omega arith
 
 module _ {D T : Type 0} (m : Sense D T) (types : TypeTable) where
   one_look_le : (xs ys : List DataId) (j k : ℕ) (d : DataId) → AtMostIn xs ys → j ≤ k
@@ -62,6 +68,17 @@ module _ {D T : Type 0} (m : Sense D T) (types : TypeTable) where
   sort_look_le xs ys j k sort.Int fewer le = omega arith
   sort_look_le xs ys j k sort.Bool fewer le = omega arith
   sort_look_le xs ys j k (sort.Tree d) fewer le = one_look_le xs ys j k d fewer le
+
+  compare_le : (xs ys : List DataId) (one : DataId → ℕ) (s : Sort) → AtMostIn xs ys
+      → by_sort 1024 0 (λ of. if m.exact then one of else 194 + 128 * length xs) s
+      ≤ by_sort 1024 0 (λ of. if m.exact then one of else 194 + 128 * length ys) s
+  compare_le xs ys one sort.Int fewer = omega arith
+  compare_le xs ys one sort.Bool fewer = omega arith
+  compare_le xs ys one (sort.Tree of) fewer = by m.exact
+    where
+      by : (b : Bool) → (if b then one of else 194 + 128 * length xs) ≤ (if b then one of else 194 + 128 * length ys)
+      by true = omega arith
+      by false = (let all = fewer.all in omega arith)
 
   module _ (σ : Sorts) (η : Heights) where
     pub step_gates_le : (xs ys : List DataId) (j k i : ℕ) (s : Step) → AtMostIn xs ys → j ≤ k
@@ -79,7 +96,8 @@ module _ {D T : Type 0} (m : Sense D T) (types : TypeTable) where
     step_gates_le xs ys j k i (steps.CtorField c n a) fewer le = sort_look_le xs ys j k (σ a) fewer le
     step_gates_le xs ys j k i (steps.Field a n) fewer le = sort_look_le xs ys j k (σ a) fewer le
     step_gates_le xs ys j k i (steps.IsAlike a b) fewer le = omega arith
-    step_gates_le xs ys j k i (steps.GoesDown a b) fewer le = omega arith
+    step_gates_le xs ys j k i (steps.GoesDown a b) fewer le =
+        compare_le xs ys (λ of. 64 + 4 * (32 + bits_at m types of (η a)) * (1 + nodes_at m types of (η b))) (σ a) fewer
     step_gates_le xs ys j k i (steps.HasAnswer c) fewer le = omega arith
     step_gates_le xs ys j k i (steps.Answer c) fewer le = omega arith
 
@@ -88,8 +106,8 @@ module _ {D T : Type 0} (m : Sense D T) (types : TypeTable) where
     all_step_gates_le xs ys j k i [] fewer le = omega arith
     all_step_gates_le xs ys j k i (s ∷ ss) fewer le =
         let one = step_gates_le xs ys j k i s fewer le in
-        let rest = all_step_gates_le (looked σ i s ++ xs) (looked σ i s ++ ys) j k (suc i) ss
-        (fewer_after (looked σ i s) xs ys fewer) le in
+        let rest = all_step_gates_le (looked σ i s ++ xs) (looked σ i s ++ ys) (compared σ s + j) (compared σ s + k)
+        (suc i) ss (fewer_after (looked σ i s) xs ys fewer) (omega arith) in
         omega arith
 
   -- what a call that looks at a tree leaves
@@ -98,21 +116,47 @@ module _ {D T : Type 0} (m : Sense D T) (types : TypeTable) where
   looked_once d e gs hs t of at = by at.once
     where
       by : (SameLooks m d e × (hs ≡ gs)) ⊎ FirstLook m d e t of → AtMostIn (m.looks e) (of ∷ m.looks d)
-      by (inl same) = λ x. subst (λ l. times x l ≤ times x (of ∷ m.looks d)) (sym same.0.looks) (more_times x of (m.looks d))
-      by (inr first) = λ x. subst (λ l. times x l ≤ times x (of ∷ m.looks d)) (sym first.looks) (omega arith)
+      by (inl same) = record {
+        each = λ x. subst (λ l. times x l ≤ times x (of ∷ m.looks d)) (sym same.0.looks) (more_times x of (m.looks d));
+        all = subst (λ l. length l ≤ length (of ∷ m.looks d)) (sym same.0.looks) (omega arith);
+      }
+      by (inr first) = record {
+        each = λ x. subst (λ l. times x l ≤ times x (of ∷ m.looks d)) (sym first.looks) (omega arith);
+        all = subst (λ l. length l ≤ length (of ∷ m.looks d)) (sym first.looks) (omega arith);
+      }
 
   more_times_all : (d : DataId) (fs xs ys : List DataId) → times d xs ≤ times d ys → times d xs ≤ times d (fs ++ ys)
   more_times_all d [] xs ys le = le
   more_times_all d (f ∷ fs) xs ys le =
       let rest = more_times_all d fs xs ys le in let one = more_times d f (fs ++ ys) in omega arith
 
+  longer : (fs ys : List DataId) → length ys ≤ length (fs ++ ys)
+  longer [] ys = omega arith
+  longer (f ∷ fs) ys = (let rest = longer fs ys in omega arith)
+
   -- a step that looks at no tree
   pub keeps_same : (d e : D) (σ : Sorts) (k : ℕ) (s : Step) → (m.exact ≡ false → SameLooks m d e)
       → KeepsLooks m d e σ k s
   keeps_same d e σ k s same = record {
-    looks = λ inexact x. more_times_all x (looked σ k s) (m.looks e) (m.looks d)
-        (subst (λ l. times x l ≤ times x (m.looks d)) (sym (same inexact).looks) (omega arith));
+    looks = λ inexact. record {
+      each = λ x. more_times_all x (looked σ k s) (m.looks e) (m.looks d)
+          (subst (λ l. times x l ≤ times x (m.looks d)) (sym (same inexact).looks) (omega arith));
+      all = subst (λ l. length l ≤ length (looked σ k s ++ m.looks d)) (sym (same inexact).looks)
+          (longer (looked σ k s) (m.looks d));
+    };
     compares = λ inexact. (let c = (same inexact).compares in omega arith);
+  }
+
+  -- a step that compares two
+  pub keeps_compared : (d e : D) (σ : Sorts) (k i j : ℕ) → (m.exact ≡ false → m.looks e ≡ m.looks d)
+      → (m.exact ≡ false → m.compares e ≤ by_sort 0 0 (λ of. 1) (σ i) + m.compares d)
+      → KeepsLooks m d e σ k (steps.GoesDown i j)
+  keeps_compared d e σ k i j same once = record {
+    looks = λ inexact. record {
+      each = λ x. subst (λ l. times x l ≤ times x (m.looks d)) (sym (same inexact)) (omega arith);
+      all = subst (λ l. length l ≤ length (m.looks d)) (sym (same inexact)) (omega arith);
+    };
+    compares = once;
   }
 
   -- a step that looks at one
@@ -123,7 +167,7 @@ module _ {D T : Type 0} (m : Sense D T) (types : TypeTable) where
     compares = λ inexact. by at.once;
   }
     where
-      by : (SameLooks m d e × (hs ≡ gs)) ⊎ FirstLook m d e t of → m.compares e ≤ m.compares d
+      by : (SameLooks m d e × (hs ≡ gs)) ⊎ FirstLook m d e t of → m.compares e ≤ compared σ s + m.compares d
       by (inl same) = (let c = same.0.compares in omega arith)
       by (inr first) = (let c = first.compares in omega arith)
 
@@ -214,23 +258,26 @@ module _ {D T : Type 0} (m : Sense D T) (types : TypeTable) (exact : m.exact ≡
   exact_gates looks compares k (steps.GoesDown a b) = down (σ a)
     where
       down : (q : Sort) → by_sort 1024 0 (λ of.
-          if m.exact then 64 + 4 * (32 + bits_at m types of (η a)) * (1 + nodes_at m types of (η b)) else 1) q
-          ≡ by_sort 1024 0 (λ of. 64 + 4 * (32 + bits types (η a) (sort.Tree of)) * (1 + nodes types (η b) (sort.Tree of)))
+          if m.exact then 64 + 4 * (32 + bits_at m types of (η a)) * (1 + nodes_at m types of (η b))
+          else 194 + 128 * length looks) q
+          ≡ by_sort 1024 0 (λ of. 64 + 4 * (32 + bits types (η a) (sort.Tree of))
+          * (1 + nodes types (η b) (sort.Tree of)))
           q
       down sort.Int = refl
       down sort.Bool = refl
       down (sort.Tree of) =
           ap (λ (z : Bool). if z then 64 + 4 * (32 + (if z then bits types (η a) (sort.Tree of) else 0))
-          * (1 + (if z then nodes types (η b) (sort.Tree of) else 0)) else 1) exact
+          * (1 + (if z then nodes types (η b) (sort.Tree of) else 0)) else 194 + 128 * length looks) exact
 
   -- so are those of all steps
   pub exact_all_gates : (looks : List DataId) (compares k : ℕ) (ss : List Step)
       → all_step_gates m types σ η looks compares k ss ≡ all_gates types σ η k ss
   exact_all_gates looks compares k [] = refl
   exact_all_gates looks compares k (s ∷ ss) =
-      ap (λ n. n + all_step_gates m types σ η (looked σ k s ++ looks) compares (suc k) ss)
+      ap (λ n. n + all_step_gates m types σ η (looked σ k s ++ looks) (compared σ s + compares) (suc k) ss)
       (exact_gates looks compares k s)
-      ∙ ap (λ n. gates_of types σ η k s + n) (exact_all_gates (looked σ k s ++ looks) compares (suc k) ss)
+      ∙ ap (λ n. gates_of types σ η k s + n)
+      (exact_all_gates (looked σ k s ++ looks) (compared σ s + compares) (suc k) ss)
 
 -- ---- a step at a time
 
@@ -239,21 +286,22 @@ module _ {D T : Type 0} (m : Sense D T) (types : TypeTable) (σ : Sorts) (η : H
   pub step_gates_at : (looks : List DataId) (compares : ℕ) (ss : List Step) (i : ℕ) (s : Step)
       → slice_get ss i ≡ Some s
       → all_step_gates m types σ η looks compares i (drop i ss) ≡ step_gates m types σ η looks compares i s
-      + all_step_gates m types σ η (looked σ i s ++ looks) compares (suc i) (drop (suc i) ss)
+      + all_step_gates m types σ η (looked σ i s ++ looks) (compared σ s + compares) (suc i) (drop (suc i) ss)
   step_gates_at looks compares ss i s at = ap (all_step_gates m types σ η looks compares i) (drop_at ss i s at)
 
   -- after a step no more is left than was counted before it
   pub left_gates : (d e : D) (k : ℕ) (s : Step) (i : ℕ) (ss : List Step) → KeepsLooks m d e σ k s
       → all_step_gates m types σ η (m.looks e) (m.compares e) i ss
-      ≤ all_step_gates m types σ η (looked σ k s ++ m.looks d) (m.compares d) i ss
+      ≤ all_step_gates m types σ η (looked σ k s ++ m.looks d) (compared σ s + m.compares d) i ss
   left_gates d e k s i ss keeps = by m.exact refl
     where
       by : (b : Bool) → m.exact ≡ b → all_step_gates m types σ η (m.looks e) (m.compares e) i ss
-          ≤ all_step_gates m types σ η (looked σ k s ++ m.looks d) (m.compares d) i ss
+          ≤ all_step_gates m types σ η (looked σ k s ++ m.looks d) (compared σ s + m.compares d) i ss
       by true exact =
           let one = exact_all_gates m types exact σ η (m.looks e) (m.compares e) i ss in
-          let other = exact_all_gates m types exact σ η (looked σ k s ++ m.looks d) (m.compares d) i ss in
+          let other = exact_all_gates m types exact σ η (looked σ k s ++ m.looks d) (compared σ s + m.compares d) i ss
+          in
           omega arith
       by false inexact =
-          all_step_gates_le m types σ η (m.looks e) (looked σ k s ++ m.looks d) (m.compares e) (m.compares d) i ss
-          (keeps.looks inexact) (keeps.compares inexact)
+          all_step_gates_le m types σ η (m.looks e) (looked σ k s ++ m.looks d) (m.compares e)
+          (compared σ s + m.compares d) i ss (keeps.looks inexact) (keeps.compares inexact)

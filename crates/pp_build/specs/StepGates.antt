@@ -1,6 +1,7 @@
 -- How many gates and inputs a step may take: of an exact domain by the heights of its operands, of another one by the
 -- datatypes of the trees that were looked at so far. Source: own.
 use Rattle.std.specs.Prelude.{◌≡◌, false, ℕ, suc, ◌+◌, ◌*◌, ◌≤◌, max, min, if◌then◌else◌, List, [], ◌∷◌, ◌++◌}
+use Rattle.std.specs.Prelude.{length}
 use Rattle.pp_prog.specs.declared.id.DataId.{DataId}
 use Rattle.pp_prog.specs.declared.sort.Sort.{Sort}
 use Rattle.pp_prog.specs.declared.sort.Sort.TheVariants as sort
@@ -29,14 +30,21 @@ looked σ k (steps.CtorField c i a) = tree_of (σ a)
 looked σ k (steps.Field a i) = tree_of (σ a)
 looked σ k s = []
 
--- no datatype stands in the first list more often than in the second
-abbrev pub AtMostIn : List DataId → List DataId → Type 0
-AtMostIn xs ys = (d : DataId) → times d xs ≤ times d ys
+-- how often the step compares two trees
+abbrev pub compared : Sorts → Step → ℕ
+compared σ (steps.GoesDown a b) = by_sort 0 0 (λ of. 1) (σ a)
+compared σ s = 0
 
--- the step looks at the tree that it names and at no other; in an exact domain nothing is asked
+-- no datatype stands in the first list more often than in the second, nor do all together
+pub record AtMostIn (xs ys : List DataId) : Type 0 where
+  pub each : (d : DataId) → times d xs ≤ times d ys
+  pub all : length xs ≤ length ys
+
+-- the step looks at the tree that it names and at no other, and compares no other trees; in an exact domain nothing is
+-- asked
 pub record KeepsLooks {D T : Type 0} (m : Sense D T) (d e : D) (σ : Sorts) (k : ℕ) (s : Step) : Type 0 where
   pub looks : m.exact ≡ false → AtMostIn (m.looks e) (looked σ k s ++ m.looks d)
-  pub compares : m.exact ≡ false → m.compares e ≤ m.compares d
+  pub compares : m.exact ≡ false → m.compares e ≤ compared σ s + m.compares d
 
 module _ {D T : Type 0} (m : Sense D T) (types : TypeTable) where
   -- a symbol of which nothing is known
@@ -66,11 +74,13 @@ module _ {D T : Type 0} (m : Sense D T) (types : TypeTable) where
     step_gates looks compares k (steps.Field a i) = by_sort 0 0 (one_look looks compares) (σ a)
     step_gates looks compares k (steps.GoesDown a b) =
         by_sort 1024 0 (λ of.
-        if m.exact then 64 + 4 * (32 + bits_at m types of (η a)) * (1 + nodes_at m types of (η b)) else 1) (σ a)
+        if m.exact then 64 + 4 * (32 + bits_at m types of (η a)) * (1 + nodes_at m types of (η b))
+        else 194 + 128 * length looks) (σ a)
     step_gates looks compares k s = 0
 
     -- all steps, the first of which has the number k
     abbrev pub all_step_gates : List DataId → ℕ → ℕ → List Step → ℕ
     all_step_gates looks compares k [] = 0
     all_step_gates looks compares k (s ∷ ss) =
-        step_gates looks compares k s + all_step_gates (looked σ k s ++ looks) compares (suc k) ss
+        step_gates looks compares k s
+        + all_step_gates (looked σ k s ++ looks) (compared σ s + compares) (suc k) ss

@@ -1,6 +1,6 @@
 -- The gates of operators on symbols: those of a step whose operands have the symbols' heights, the left one with the
 -- symbol's sort. Source: own.
-use Rattle.std.specs.Prelude.{ℕ, Bool, true, false, if◌then◌else◌}
+use Rattle.std.specs.Prelude.{ℕ, ◌+◌, Bool, true, false, if◌then◌else◌}
 use Rattle.pp_prog.specs.declared.expr.BinaryOp.{BinaryOp}
 use Rattle.pp_prog.specs.declared.expr.BinaryOp.TheVariants.{Mul, Div, Rem, Equal, Differ, Less, AtMost, More}
 use Rattle.pp_prog.specs.declared.expr.BinaryOp.TheVariants.{AtLeast, And, Or, Xor, Shl, Shr, Ushr}
@@ -53,8 +53,12 @@ module _ {D T : Type 0} (m : Sense D T) (types : TypeTable) where
   operator_gates op d left right =
       if is_equality op then compare_gates m types d left right else binary_gates types op 0 (symbol_sort d left)
 
+  -- whether a tree goes down: a comparison, and in a domain that isn't exact an input beside it
+  abbrev pub tree_down_gates : D → T → T → ℕ
+  tree_down_gates d new old = below_gates m types d new old + (if m.exact then 0 else 2)
+
   -- whether a component of a measure goes down from the old symbol to the new one
   abbrev pub goes_down_gates : D → Symbol T → Symbol T → ℕ
   goes_down_gates d (symbol.Word a) (symbol.Word b) = 1024
-  goes_down_gates d (symbol.Tree t) (symbol.Tree u) = if m.exact then below_gates m types d t u else 1
+  goes_down_gates d (symbol.Tree t) (symbol.Tree u) = tree_down_gates d t u
   goes_down_gates d _ _ = 0

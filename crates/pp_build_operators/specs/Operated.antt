@@ -1,6 +1,6 @@
 -- What operators on symbols ask and answer: a symbol of the result's sort, that stands under each good assignment for
 -- what the operator makes of the operands' values. Source: own.
-use Rattle.std.specs.Prelude.{◌≡◌, ℕ, Bool, true, false, List, [], ◌∷◌, Some, IsTrue}
+use Rattle.std.specs.Prelude.{◌≡◌, ◌≤◌, ◌+◌, ℕ, Bool, true, false, List, [], ◌∷◌, Some, IsTrue}
 use Rattle.pp_prog.specs.declared.id.DataId.{DataId}
 use Rattle.pp_prog.specs.declared.expr.BinaryOp.{BinaryOp}
 use Rattle.pp_prog.specs.declared.expr.UnaryOp.{UnaryOp}
@@ -10,6 +10,7 @@ use Rattle.pp_prog.specs.declared.types.TypeTable.{TypeTable}
 use Rattle.pp_prog.specs.declared.value.Value.{Value}
 use Rattle.pp_prog.specs.declared.value.Value.TheVariants.{Bool as Truth}
 use Rattle.pp_prog.specs.ExprSorts.{unary_sort}
+use Rattle.pp_prog.specs.Sizes.{by_sort}
 use Rattle.pp_prog.specs.Sorts.{has_sort}
 use Rattle.pp_gate.specs.declared.gate.Gate.{Gate}
 use Rattle.pp_domain.specs.declared.symbol.Symbol.{Symbol}
@@ -81,6 +82,17 @@ module _ {D T : Type 0} (m : Sense D T) (types : TypeTable) where
       → operated_sort op (Some s) (Some t) ≡ Some u
       → IsMade d gs (left ∷ right ∷ []) e hs u r × MeansBinary op e hs s t u left right r
 
+  -- a literal over which each good assignment extends; in a domain that isn't exact where the components stand for
+  -- values. No tree was expanded; of components that are trees two were compared
+  pub record IsDescentMade (d : D) (gs : List Gate) (new old : Symbol T) (e : D) (hs : List Gate) (s : Sort)
+      (r : Symbol T) : Type 0 where
+    pub of : IsSymbol m e hs sort.Bool r
+    pub low : symbol_height m e r ≡ 0
+    pub looks : m.exact ≡ false → m.looks e ≡ m.looks d
+    pub compares : m.exact ≡ false → m.compares e ≤ by_sort 0 0 (λ of. 1) s + m.compares d
+    pub extends : (n : Naming) (a : ℕ → Bool) → Good m types d gs n a
+        → Inexact m ((vs : List Value) × SymbolsStand m d a n (new ∷ old ∷ []) vs) → Extended m types gs n a e hs
+
   -- the comparison says when the component goes down: of trees in an exact domain alone
   abbrev pub IsCompared : Sort → Type 0
   IsCompared s = (of : DataId) → s ≡ sort.Tree of → m.exact ≡ true
@@ -94,5 +106,5 @@ module _ {D T : Type 0} (m : Sense D T) (types : TypeTable) where
   -- what a comparison of two components of measures answers
   abbrev pub IsDescent : D → List Gate → D → List Gate → Symbol T → Symbol T → Symbol T → Type 0
   IsDescent d gs e hs new old r = (s : Sort) → IsSymbol m d gs s new → IsSymbol m d gs s old
-      → IsMade d gs (new ∷ old ∷ []) e hs sort.Bool r × (IsCompared s → MeansDescent e hs s new old r)
+      → IsDescentMade d gs new old e hs s r × (IsCompared s → MeansDescent e hs s new old r)
       × ChoosesDescent d gs e hs s new old r

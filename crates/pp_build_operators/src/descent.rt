@@ -5,10 +5,12 @@ ghost use Rattle.std.specs.Int.{w32};
 ghost use Rattle.pp_gate.specs.Circuit.{IsOf, StandsFor};
 ghost use Rattle.pp_gate.specs.Growth.{AddsGates};
 ghost use Rattle.pp_wordgate.specs.Meaning.{word_of};
+ghost use Rattle.pp_domain.specs.declared.symbol.Symbol.TheVariants as symbol;
+ghost use Rattle.pp_domain.specs.Answers.{AreOfOneData};
 ghost use Rattle.pp_domain.specs.AnySort.{AreOfOneSort};
 ghost use Rattle.pp_domain.specs.Moves.{Moves};
 ghost use Rattle.pp_domain.specs.Symbols.{IsWordSymbol};
-ghost use Rattle.pp_build_operators.specs.Budget.{goes_down_gates};
+ghost use Rattle.pp_build_operators.specs.Budget.{goes_down_gates, tree_down_gates};
 ghost use Rattle.pp_build_operators.specs.Operated.{IsDescent};
 
 use pp_clause::{Lit, NoMemory};
@@ -17,7 +19,7 @@ use pp_gate::{Circuit, Word};
 use pp_prog::TypeTable;
 
 /// Whether a component of a measure goes down from the old symbol to the new one, of one sort. Of trees of a domain
-/// that isn't exact it is a literal that can stand for either. Words and literals leave the domain as it was.
+/// that isn't exact it is a literal that can stand for whether they do. Words and literals leave the domain as it was.
 pub fn goes_down<D: Domain>(
     domain: &mut D,
     circuit: &mut Circuit,
@@ -42,17 +44,40 @@ pub fn goes_down<D: Domain>(
             Ok(Symbol::Bit(down))
         }
         (Symbol::Tree(t), Symbol::Tree(u)) => {
-            if exact {
-                let down = domain.below(circuit, table, t, u)?;
-                Ok(Symbol::Bit(down))
-            } else {
-                let free = circuit.input()?;
-                Ok(Symbol::Bit(free))
-            }
+            let down = tree_goes_down(domain, circuit, table, exact, t, u)?;
+            Ok(Symbol::Bit(down))
         }
         (Symbol::Bit(_), Symbol::Bit(_)) => Ok(Symbol::Bit(circuit.truth().negated())),
         _ => Ok(*new),
     }
+}
+
+/// Whether a tree goes down: where it is a proper subtree of the old one. A domain that isn't exact tells that of some
+/// trees; of all others the literal can stand for either.
+fn tree_goes_down<D: Domain>(
+    domain: &mut D,
+    circuit: &mut Circuit,
+    table: &TypeTable,
+    exact: bool,
+    new: &D::Tree,
+    old: &D::Tree,
+) -> Result<Lit, NoMemory>
+    requires exact { exact ≡ D.sense.exact }
+    requires fits { D.sense.Fits table.now domain.old circuit.old }
+    requires trees { AreOfOneData D.sense table.now domain.old new.now old.now }
+    requires room { length circuit.old + tree_down_gates D.sense table.now domain.old new.now old.now ≤ 2 ^ 30 }
+    ensures moves { Moves D.sense table.now domain.old circuit.old domain.new circuit.new
+        (tree_down_gates D.sense table.now domain.old new.now old.now) }
+    ensures answer { IfOk result (λ l. IsDescent D.sense table.now domain.old circuit.old domain.new circuit.new
+        (symbol.Tree new.now) (symbol.Tree old.now) (symbol.Bit l)) }
+{
+    let told = domain.below(circuit, table, new, old)?;
+    if exact {
+        return Ok(told);
+    }
+    let free = circuit.input()?;
+    let down = circuit.or(told, free)?;
+    Ok(down)
 }
 
 /// Whether a number goes down: the new one isn't negative, and less than the old one.

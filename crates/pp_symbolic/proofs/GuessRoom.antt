@@ -28,7 +28,8 @@ use Rattle.pp_steps.specs.declared.step.Step.TheVariants as steps
 use Rattle.pp_steps.specs.Gates.{Heights, binary_gates, unary_gates}
 use Rattle.pp_steps.specs.Sorted.{Sorts}
 use Rattle.pp_build_operators.specs.Budget.{is_equality, number_gates}
-use Rattle.pp_build.specs.StepGates.{all_step_gates, looked, one_look as look_here, opened_gates, step_gates, tree_of}
+use Rattle.pp_build.specs.StepGates.{all_step_gates, compared, looked, one_look as look_here, opened_gates}
+use Rattle.pp_build.specs.StepGates.{step_gates, tree_of}
 use Rattle.pp_symbolic.specs.Room.{ctor_bits, form_gates, greatest_below, looks_in, node_bits, one_look, tree_gates}
 use Rattle.pp_symbolic.specs.Room.{widest}
 
@@ -151,6 +152,9 @@ unary_most Neg = omega arith
 unary_most Not = omega arith
 unary_most Flip = omega arith
 
+product_sum : (a b c : ℕ) → (a + b) * c ≡ a * c + b * c
+product_sum a b c = grind (arith)
+
 module _ {D T : Type 0} (m : Sense D T) (types : TypeTable) (inexact : m.exact ≡ false) where
   bits_none : (of : DataId) (h : ℕ) → bits_at m types of h ≡ 0
   bits_none of h = ap (λ (b : Bool). if b then bits types h (sort.Tree of) else 0) inexact
@@ -174,78 +178,100 @@ module _ {D T : Type 0} (m : Sense D T) (types : TypeTable) (inexact : m.exact �
   compared_most h sort.Bool = omega arith
   compared_most h (sort.Tree of) = let none = bits_none of h in omega arith
 
-  descent_most : (a b : ℕ) (s : Sort) → by_sort 1024 0 (λ of.
-      if m.exact then 64 + 4 * (32 + bits_at m types of a) * (1 + nodes_at m types of b) else 1) s ≤ 1024
-  descent_most a b sort.Int = omega arith
-  descent_most a b sort.Bool = omega arith
-  descent_most a b (sort.Tree of) =
-      let same : (if m.exact then 64 + 4 * (32 + bits_at m types of a) * (1 + nodes_at m types of b) else 1) ≡ 1 =
-      ap (λ (z : Bool). if z then 64 + 4 * (32 + bits_at m types of a) * (1 + nodes_at m types of b) else 1) inexact in
+  descent_most : (looks : List DataId) (a b : ℕ) (s : Sort) → by_sort 1024 0 (λ of.
+      if m.exact then 64 + 4 * (32 + bits_at m types of a) * (1 + nodes_at m types of b)
+      else 194 + 128 * length looks) s ≤ 1024 + 128 * length looks
+  descent_most looks a b sort.Int = omega arith
+  descent_most looks a b sort.Bool = omega arith
+  descent_most looks a b (sort.Tree of) =
+      let same : (if m.exact then 64 + 4 * (32 + bits_at m types of a) * (1 + nodes_at m types of b)
+      else 194 + 128 * length looks) ≡ 194 + 128 * length looks =
+      ap (λ (z : Bool). if z then 64 + 4 * (32 + bits_at m types of a) * (1 + nodes_at m types of b)
+      else 194 + 128 * length looks) inexact in
       omega arith
 
-  -- one more look, after so many
+  -- one more look or comparison, after so many
   abbrev next_look : ℕ → ℕ
-  next_look n = 256 + 8 * widest types + n * (64 + 4 * widest types)
+  next_look n = 256 + 8 * widest types + n * (192 + 4 * widest types)
 
-  look_most : (looks : List DataId) (s : Sort) → by_sort 0 0 (look_here m types looks 0) s ≤ next_look (length looks)
-  look_most looks sort.Int = omega arith
-  look_most looks sort.Bool = omega arith
-  look_most looks (sort.Tree of) =
-      let same : look_here m types looks 0 of ≡ look_gates types looks 0 of =
-      ap (λ (z : Bool). if z then 0 else look_gates types looks 0 of) inexact in
+  -- as many comparisons and looks meet this one
+  meets_most : (c l p w : ℕ) → p ≤ l * (64 + 4 * w) → p + 128 * c ≤ (c + l) * (192 + 4 * w)
+  meets_most c l p w le =
+      let one = product_le c c 128 (192 + 4 * w) (omega arith) (omega arith) in
+      let other = product_le l l (64 + 4 * w) (192 + 4 * w) (omega arith) (omega arith) in
+      let whole = product_sum c l (192 + 4 * w) in
+      omega arith
+
+  look_most : (looks : List DataId) (c : ℕ) (s : Sort)
+      → by_sort 0 0 (look_here m types looks c) s ≤ next_look (c + length looks)
+  look_most looks c sort.Int = omega arith
+  look_most looks c sort.Bool = omega arith
+  look_most looks c (sort.Tree of) =
+      let same : look_here m types looks c of ≡ look_gates types looks c of =
+      ap (λ (z : Bool). if z then 0 else look_gates types looks c of) inexact in
       let wide = flat_widest types of in
       let pairs = product_le (times of looks) (length looks) (64 + 4 * flat types of) (64 + 4 * widest types)
       (times_most of looks) (omega arith) in
+      let meets = meets_most c (length looks) _ (widest types) pairs in
       omega arith
 
   module _ (σ : Sorts) (η : Heights) where
-    looked_most : (k : ℕ) (s : Step) → length (looked σ k s) ≤ one_look s
+    looked_most : (k : ℕ) (s : Step) → length (looked σ k s) + compared σ s ≤ one_look s
     looked_most k (steps.Construct c fields) = by (σ k)
       where
-        by : (s : Sort) → length (tree_of s) ≤ 1
+        by : (s : Sort) → length (tree_of s) + 0 ≤ 1
         by sort.Int = omega arith
         by sort.Bool = omega arith
         by (sort.Tree d) = omega arith
     looked_most k (steps.IsCtor c n a) = by (σ a)
       where
-        by : (s : Sort) → length (tree_of s) ≤ 1
+        by : (s : Sort) → length (tree_of s) + 0 ≤ 1
         by sort.Int = omega arith
         by sort.Bool = omega arith
         by (sort.Tree d) = omega arith
     looked_most k (steps.CtorField c i a) = by (σ a)
       where
-        by : (s : Sort) → length (tree_of s) ≤ 1
+        by : (s : Sort) → length (tree_of s) + 0 ≤ 1
         by sort.Int = omega arith
         by sort.Bool = omega arith
         by (sort.Tree d) = omega arith
     looked_most k (steps.Field a i) = by (σ a)
       where
-        by : (s : Sort) → length (tree_of s) ≤ 1
+        by : (s : Sort) → length (tree_of s) + 0 ≤ 1
+        by sort.Int = omega arith
+        by sort.Bool = omega arith
+        by (sort.Tree d) = omega arith
+    looked_most k (steps.GoesDown a b) = by (σ a)
+      where
+        by : (s : Sort) → 0 + by_sort 0 0 (λ of. 1) s ≤ 1
         by sort.Int = omega arith
         by sort.Bool = omega arith
         by (sort.Tree d) = omega arith
     looked_most k s = omega arith
 
-    step_most : (looks : List DataId) (k : ℕ) (s : Step)
-        → step_gates m types σ η looks 0 k s ≤ form_gates s + one_look s * next_look (length looks)
-    step_most looks k (steps.Open s) = let most = opened_most s in omega arith
-    step_most looks k (steps.Int n) = omega arith
-    step_most looks k (steps.Bool b) = omega arith
-    step_most looks k (steps.Not a) = omega arith
-    step_most looks k (steps.Both a b) = omega arith
-    step_most looks k (steps.Choose c a b) = let most = chosen_most (max (η a) (η b)) (σ k) in omega arith
-    step_most looks k (steps.Unary op a) = let most = unary_most op in omega arith
-    step_most looks k (steps.Binary op a b) =
+    step_most : (looks : List DataId) (c k : ℕ) (s : Step)
+        → step_gates m types σ η looks c k s ≤ form_gates s + one_look s * next_look (c + length looks)
+    step_most looks j k (steps.Open s) = let most = opened_most s in omega arith
+    step_most looks j k (steps.Int n) = omega arith
+    step_most looks j k (steps.Bool b) = omega arith
+    step_most looks j k (steps.Not a) = omega arith
+    step_most looks j k (steps.Both a b) = omega arith
+    step_most looks j k (steps.Choose c a b) = let most = chosen_most (max (η a) (η b)) (σ k) in omega arith
+    step_most looks j k (steps.Unary op a) = let most = unary_most op in omega arith
+    step_most looks j k (steps.Binary op a b) =
         let most = equality_most op _ _ (compared_most (min (η a) (η b)) (σ a)) (operator_most types op (σ a)) in
         omega arith
-    step_most looks k (steps.Construct c fields) = let most = look_most looks (σ k) in omega arith
-    step_most looks k (steps.IsCtor c n a) = let most = look_most looks (σ a) in omega arith
-    step_most looks k (steps.CtorField c i a) = let most = look_most looks (σ a) in omega arith
-    step_most looks k (steps.Field a i) = let most = look_most looks (σ a) in omega arith
-    step_most looks k (steps.IsAlike a b) = omega arith
-    step_most looks k (steps.GoesDown a b) = let most = descent_most (η a) (η b) (σ a) in omega arith
-    step_most looks k (steps.HasAnswer c) = omega arith
-    step_most looks k (steps.Answer c) = let most = opened_most c.result in omega arith
+    step_most looks j k (steps.Construct c fields) = let most = look_most looks j (σ k) in omega arith
+    step_most looks j k (steps.IsCtor c n a) = let most = look_most looks j (σ a) in omega arith
+    step_most looks j k (steps.CtorField c i a) = let most = look_most looks j (σ a) in omega arith
+    step_most looks j k (steps.Field a i) = let most = look_most looks j (σ a) in omega arith
+    step_most looks j k (steps.IsAlike a b) = omega arith
+    step_most looks j k (steps.GoesDown a b) =
+        let most = descent_most looks (η a) (η b) (σ a) in
+        let meets = meets_most j (length looks) 0 (widest types) (omega arith) in
+        omega arith
+    step_most looks j k (steps.HasAnswer c) = omega arith
+    step_most looks j k (steps.Answer c) = let most = opened_most c.result in omega arith
 
     -- ---- all steps
 
@@ -255,40 +281,41 @@ module _ {D T : Type 0} (m : Sense D T) (types : TypeTable) (inexact : m.exact �
 
     next_more : (n k : ℕ) → n ≤ k → next_look n ≤ next_look k
     next_more n k le =
-        let p = product_le n k (64 + 4 * widest types) (64 + 4 * widest types) le (omega arith) in omega arith
+        let p = product_le n k (192 + 4 * widest types) (192 + 4 * widest types) le (omega arith) in omega arith
 
-    steps_most : (looks : List DataId) (k : ℕ) (ss : List Step)
-        → all_step_gates m types σ η looks 0 k ss
-        ≤ sum_by form_gates ss + looks_in ss * next_look (length looks + looks_in ss)
-    steps_most looks k [] = omega arith
-    steps_most looks k (s ∷ ss) =
+    steps_most : (looks : List DataId) (c k : ℕ) (ss : List Step)
+        → all_step_gates m types σ η looks c k ss
+        ≤ sum_by form_gates ss + looks_in ss * next_look (c + length looks + looks_in ss)
+    steps_most looks c k [] = omega arith
+    steps_most looks c k (s ∷ ss) =
         let l = one_look s in
         let r = looks_in ss in
-        let n = length looks in
+        let n = c + length looks in
         let after = looked σ k s ++ looks in
+        let later = compared σ s + c in
         let longer = length-append (looked σ k s) looks in
         let own = looked_most k s in
-        let here = step_most looks k s in
-        let rest = steps_most after (suc k) ss in
-        let rest_looks = product_le r r (next_look (length after + r)) (next_look (n + (l + r))) (omega arith)
-        (next_more (length after + r) (n + (l + r)) (omega arith)) in
+        let here = step_most looks c k s in
+        let rest = steps_most after later (suc k) ss in
+        let rest_looks = product_le r r (next_look (later + length after + r)) (next_look (n + (l + r))) (omega arith)
+        (next_more (later + length after + r) (n + (l + r)) (omega arith)) in
         let joined_looks = later_looks l r (next_look n) (next_look (n + (l + r)))
         (next_more n (n + (l + r)) (omega arith)) in
         let forms = sum_by-cons form_gates s ss in
         let looks_all : looks_in (s ∷ ss) ≡ l + r = sum_by-cons one_look s ss in
-        let goal : all_step_gates m types σ η looks 0 k (s ∷ ss)
+        let goal : all_step_gates m types σ η looks c k (s ∷ ss)
         ≤ (form_gates s + sum_by form_gates ss) + (l + r) * next_look (n + (l + r)) = omega arith in
-        subst (λ j. all_step_gates m types σ η looks 0 k (s ∷ ss)
+        subst (λ j. all_step_gates m types σ η looks c k (s ∷ ss)
         ≤ sum_by form_gates (s ∷ ss) + j * next_look (n + j)) (sym looks_all)
-        (subst (λ j. all_step_gates m types σ η looks 0 k (s ∷ ss) ≤ j + (l + r) * next_look (n + (l + r))) (sym forms)
+        (subst (λ j. all_step_gates m types σ η looks c k (s ∷ ss) ≤ j + (l + r) * next_look (n + (l + r))) (sym forms)
         goal)
 
     -- of a domain that has looked at nothing
     pub guess_steps_most : (ss : List Step)
         → all_step_gates m types σ η [] 0 0 ss ≤ sum_by form_gates ss + tree_gates (looks_in ss) (widest types)
     guess_steps_most ss =
-        let most = steps_most [] 0 ss in
-        let zero_plus : 0 + looks_in ss ≡ looks_in ss = omega arith in
-        let p : looks_in ss * next_look (0 + looks_in ss) ≡ tree_gates (looks_in ss) (widest types) =
+        let most = steps_most [] 0 0 ss in
+        let zero_plus : 0 + 0 + looks_in ss ≡ looks_in ss = omega arith in
+        let p : looks_in ss * next_look (0 + 0 + looks_in ss) ≡ tree_gates (looks_in ss) (widest types) =
         ap (λ (j : ℕ). looks_in ss * next_look j) zero_plus in
         omega arith

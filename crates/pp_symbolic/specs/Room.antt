@@ -14,12 +14,13 @@ use Rattle.pp_build_operators.specs.Budget.{number_gates}
 
 -- ---- steps
 
--- whether the step looks at a tree
+-- whether the step looks at a tree, or may compare two
 abbrev pub is_look : Step → Bool
 is_look (steps.Construct c fields) = true
 is_look (steps.IsCtor c n a) = true
 is_look (steps.CtorField c i a) = true
 is_look (steps.Field a i) = true
+is_look (steps.GoesDown a b) = true
 is_look s = false
 
 abbrev pub one_look : Step → ℕ
@@ -54,9 +55,9 @@ greatest_below (suc n) f = max (greatest_below n f) (f n)
 abbrev pub widest : TypeTable → ℕ
 widest types = greatest_below (length types.datatypes) (λ d. node_bits (ctors_of types (record { 0 = d })))
 
--- so many looks at trees of this width, each of which meets all earlier ones
+-- so many looks at trees of this width, and comparisons, each of which meets all earlier ones
 abbrev pub tree_gates : ℕ → ℕ → ℕ
-tree_gates looks wide = looks * (256 + 8 * wide + looks * (64 + 4 * wide))
+tree_gates looks wide = looks * (256 + 8 * wide + looks * (192 + 4 * wide))
 
 -- ---- a guess run
 

@@ -73,7 +73,7 @@ fn operator_gates(op: BinaryOp) -> u64
     }
 }
 
-/// How many steps look at a tree.
+/// How many steps look at a tree, or may compare two.
 fn looks_of(steps: &[Step]) -> usize
     ensures { result ≡ looks_in steps.now }
 {
@@ -91,15 +91,19 @@ fn is_look(step: &Step) -> bool
 {
     matches!(
         step,
-        Step::Construct(_, _) | Step::IsCtor(_, _, _) | Step::CtorField(_, _, _) | Step::Field(_, _)
+        Step::Construct(_, _)
+            | Step::IsCtor(_, _, _)
+            | Step::CtorField(_, _, _)
+            | Step::Field(_, _)
+            | Step::GoesDown(_, _)
     )
 }
 
-/// So many looks at trees of this width, each of which meets all earlier ones.
+/// So many looks at trees of this width, and comparisons, each of which meets all earlier ones.
 fn tree_gates(looks: u64, wide: u64) -> u64
     ensures { (k : ℕ) → wide ≡ cut k → result ≡ cut (spec.tree_gates looks k) }
 {
-    let pair = wide.saturating_mul(4).saturating_add(64);
+    let pair = wide.saturating_mul(4).saturating_add(192);
     let look = wide.saturating_mul(8).saturating_add(256);
     looks.saturating_mul(look.saturating_add(looks.saturating_mul(pair)))
 }
