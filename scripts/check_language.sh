@@ -1,8 +1,9 @@
 #!/usr/bin/env bash
 # Tries the examples of pages: `check_language.sh [PROGRAM [PAGE..]]`, where PROGRAM is the built program, and without a
-# PAGE the pages are docs/LANGUAGE.md and docs/VERDICTS.md. Each page has a folder of its own. In a page
+# PAGE the pages are the README and those of docs/ that are for users. Each page has a folder of its own, in which
+# `examples` is that of the repository. In a page
 #   ```scala name=FILE   holds the source FILE,
-#   ```sh                holds a command a line, in which `pureproof` is the program,
+#   ```sh                holds a command a line, in which `pureproof` and `./pureproof` are the program,
 #   ```text status=N     holds what these commands print, on standard output where N is 0 to 2, else on standard error,
 #                        and the status with which the command ends, or one for each, as `status=0,3`; the other stream
 #                        stays empty.
@@ -20,7 +21,7 @@ for page in "${@:2}"; do
     pages+=("$(readlink -f "$page")")
 done
 if [ $# -lt 2 ]; then
-    pages=("$root/docs/LANGUAGE.md" "$root/docs/VERDICTS.md")
+    pages=("$root/README.md" "$root"/docs/{TUTORIAL,VERDICTS,LANGUAGE,COMING}.md)
 fi
 for page in "${pages[@]}"; do
     if [ ! -r "$page" ]; then
@@ -71,6 +72,7 @@ try() {
 read_page() {
     local line name wanted
     mkdir "$scratch/folder" && cd "$scratch/folder" || exit 2
+    ln -s "$root/examples" examples && ln -s "$program" pureproof
     number=0
     inside=no
     names=' '

@@ -1,6 +1,6 @@
 // Not proved: 0 and an expression make 0.
 // pureproof examples/proofs/constant_folding_wrong.scala
-// 3 valid, 1 invalid, 0 open, 0 depending
+// 3 valid, 1 invalid, 0 open, 1 depending
 import stainless.lang._
 
 object ConstantFolding {
@@ -39,10 +39,14 @@ object ConstantFolding {
     }
   }
 
+  def sumKeepsValue(a: Expr, b: Expr, x: Int): Boolean = {
+    value(sum(a, b), x) == value(a, x) + value(b, x)
+  }.holds
+
   def keepsValue(e: Expr, x: Int): Boolean = {
     decreases(e)
     val parts = e match {
-      case Sum(a, b) => keepsValue(a, x) && keepsValue(b, x)
+      case Sum(a, b) => keepsValue(a, x) && keepsValue(b, x) && sumKeepsValue(folded(a), folded(b), x)
       case _ => true
     }
     parts && value(folded(e), x) == value(e, x)

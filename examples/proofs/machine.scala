@@ -1,5 +1,5 @@
 // Proved: the code that is made of a term leaves the term's value on the stack.
-// pureproof --lemmas 1000000 --rounds 2 --depth 1 examples/proofs/machine.scala
+// pureproof examples/proofs/machine.scala
 // 5 valid, 0 invalid, 0 open, 0 depending
 import stainless.lang._
 
@@ -51,12 +51,13 @@ object Machines {
     val same = run(code(t, rest), s) == run(rest, Top(value(t), s))
     t match {
       case Number(_) => same
-      case Flipped(u) => runCode(u, Flip(rest), s) && same
+      case Flipped(u) =>
+        runCode(u, Flip(rest), s) && run(Flip(rest), Top(value(u), s)) == run(rest, Top(~value(u), s)) && same
     }
   }.holds
 
   def isRight(t: Term): Boolean = {
-    assert(runCode(t, Stop(), Empty()))
-    run(code(t, Stop()), Empty()) == Top(value(t), Empty())
+    val result = Top(value(t), Empty())
+    runCode(t, Stop(), Empty()) && run(Stop(), result) == result && run(code(t, Stop()), Empty()) == result
   }.holds
 }

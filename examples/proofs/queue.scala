@@ -42,7 +42,8 @@ object Queue {
   def reversesOn(l: List, done: List, more: List): Boolean = {
     decreases(l)
     val rest = l match {
-      case Cons(h, t) => reversesOn(t, Cons(h, done), more)
+      case Cons(h, t) =>
+        reversesOn(t, Cons(h, done), more) && append(Cons(h, done), more) == Cons(h, append(done, more))
       case Nil() => true
     }
     rest && append(reverseOnto(l, done), more) == reverseOnto(l, append(done, more))
@@ -69,7 +70,8 @@ object Queue {
   def putComesLast(q: Queue, x: Int): Boolean = {
     val last = Cons(x, Nil())
     reversesOn(q.back, Nil(), last) && isAssociative(q.front, reverseOnto(q.back, Nil()), last) &&
-      reversesOn(q.back, last, Nil()) && elements(put(q, x)) == append(elements(q), last)
+      append(Nil(), last) == last && reverseOnto(Cons(x, q.back), Nil()) == reverseOnto(q.back, last) &&
+      elements(put(q, x)) == append(elements(q), last)
   }.holds
 
   def turnedIsTheSame(q: Queue): Boolean = {

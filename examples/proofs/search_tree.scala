@@ -1,5 +1,5 @@
 // Proved: what is put into a search tree is found, nothing else comes in or goes, and it stays in order.
-// pureproof --depth 2 --gates 4000000 examples/proofs/search_tree.scala
+// pureproof examples/proofs/search_tree.scala
 // 5 valid, 0 invalid, 0 open, 0 depending
 import stainless.lang._
 
@@ -54,7 +54,7 @@ object SearchTree {
         if (x < k) staysInOrder(l, x, low, k)
         else if (x == k) true
         else staysInOrder(r, x, k, high)
-      case Leaf() => true
+      case Leaf() => within(Leaf(), low, x) && within(Leaf(), x, high)
     }
     parts && within(insert(t, x), low, high)
   }.holds

@@ -1,5 +1,5 @@
 // Not proved: an equal key is looked for on the left.
-// pureproof --depth 2 --gates 4000000 examples/proofs/search_tree_wrong.scala
+// pureproof examples/proofs/search_tree_wrong.scala
 // 2 valid, 1 invalid, 0 open, 2 depending
 import stainless.lang._
 
@@ -54,7 +54,7 @@ object SearchTree {
         if (x < k) staysInOrder(l, x, low, k)
         else if (x == k) true
         else staysInOrder(r, x, k, high)
-      case Leaf() => true
+      case Leaf() => within(Leaf(), low, x) && within(Leaf(), x, high)
     }
     parts && within(insert(t, x), low, high)
   }.holds

@@ -1,5 +1,5 @@
 // Proved: a list that is sorted by insertion is in order.
-// pureproof --lemmas 1000000 examples/proofs/sorted.scala
+// pureproof examples/proofs/sorted.scala
 // 3 valid, 0 invalid, 0 open, 0 depending
 import stainless.lang._
 
