@@ -2,16 +2,22 @@
 # Times proofs: each program of examples/proofs is proved, but the wrong one. The head of each says what is proved, the
 # words, and the last line that has to be printed.
 # It prints the rows of a table: the program, its words, the seconds of the whole run, the median of five, and the last
-# line that was printed. It ends with the number of programs that answered as their head says, and of others.
-# It wants python3. The program is ./pureproof; another one in its place is named by PUREPROOF.
+# line that was printed. Then a table of the dearest proof of each program that is proved, by its lemmas: the number of
+# the check in the program, the round, the steps of the guess runs, the gates of their circuit beside what the estimate
+# has for this round alone, the clauses of what is asked, and the lemmas. With `--all` it has the proofs of all checks
+# and rounds. It ends with the number of programs that answered as their head says, and of others.
+# It wants python3. The program is ./pureproof; another one in its place is named by PUREPROOF. The second table wants
+# crates/pp_symbolic_cases/out/pp_symbolic_cases, which `rt run` in that crate's folder leaves, or the program that
+# SYMBOLIC names; it is left out where there is none.
 set -eu
 root=$(cd "$(dirname "${BASH_SOURCE[0]}")/.." && pwd)
 program=$(readlink -f "${PUREPROOF:-$root/pureproof}")
 cd "$root"
-python3 - "$program" examples/proofs/*.scala <<'PY'
-import os, statistics, subprocess, sys, time
+symbolic=${SYMBOLIC:-$root/crates/pp_symbolic_cases/out/pp_symbolic_cases}
+python3 - "$program" "$symbolic" "${1:-}" examples/proofs/*.scala <<'PY'
+import os, re, statistics, subprocess, sys, time
 
-PROGRAM, *PROOFS = sys.argv[1:]
+PROGRAM, SYMBOLIC, ASKED, *PROOFS = sys.argv[1:]
 RUNS, SECONDS = 5, 600
 
 
@@ -39,6 +45,24 @@ for path in PROOFS:
     shown = " ".join(words.split()[1:-1])
     line = lines[0] if met else f"OTHER: {lines[0]}"
     print(f"| {name} | {shown} | {statistics.median(seconds):.2f} | {line} |", flush=True)
+
+PROOF = re.compile(r"check (\d+), round (\d+): (\d+) steps, (\d+) gates of (\d+), (\d+) clauses, (.*)")
+if os.access(SYMBOLIC, os.X_OK):
+    print("\n| Program | Check | Round | Steps | Gates | Estimate | Clauses | End |\n|---|---|---|---|---|---|---|---|")
+    rounds = beyond = 0
+    for path in PROOFS:
+        if path.endswith("_wrong.scala"):
+            continue
+        words = [SYMBOLIC, f"guesses {path} 4 10000"]
+        told = PROOF.findall(subprocess.run(words, capture_output=True, text=True, timeout=SECONDS).stdout)
+        rounds, beyond = rounds + len(told), beyond + sum(int(row[3]) > int(row[4]) for row in told)
+        dearest = max(told, key=lambda row: int((re.findall(r"\d+", row[6]) or [0])[0]), default=None)
+        name = os.path.basename(path).removesuffix(".scala")
+        for row in told:
+            if ASKED == "--all" or row is dearest:
+                print("| " + " | ".join((name, *row)) + " |", flush=True)
+    print(f"{rounds} rounds, {beyond} with more gates than their own estimate\n")
+
 print(f"{alike} alike, {others} others")
 sys.exit(others > 0)
 PY
