@@ -1,6 +1,7 @@
 pub mod Once
 pub mod Excluded
 pub mod Counts
+mod Depending
 pub mod Words
 pub mod Lines
 pub mod Alike

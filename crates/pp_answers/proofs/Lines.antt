@@ -1,12 +1,11 @@
 -- What the line of each function tells, by its verdict.
-use Rattle.std.proofs.Common.{◌≡◌, ◌<◌, ◌+◌, ℕ, zero, suc, Bool, true, false, List, [], ◌∷◌, ◌++◌, codes}
+use Rattle.std.proofs.Common.{◌≡◌, ◌<◌, ◌+◌, ℕ, zero, suc, List, [], ◌∷◌, ◌++◌, codes}
 use Rattle.std.proofs.Common.{length, refl, sym, ap, ◌∙◌, subst, arith}
-use Rattle.std.specs.Prelude.{Option, None, Some, nat_eq, slice_get}
-use Rattle.std.proofs.lemmas.Bool.{and_parts, eqb-true}
+use Rattle.std.specs.Prelude.{Option, Some, slice_get}
 use Rattle.std.proofs.lemmas.Option.{slice_get_within}
 use Rattle.pp_answers.specs.Claims.{Says}
 use Rattle.pp_induct.specs.Reports.{AreEnds, IsInvalidIn, IsSearched, IsWhy}
-use Rattle.pp_induct.specs.Verdicts.{IsFirstEnded, IsVerdict, ended, is_invalid, is_of, is_open}
+use Rattle.pp_induct.specs.Verdicts.{EndedSo, IsInvalidEnd, IsOpenEnd, IsVerdict}
 use Rattle.pp_induct.specs.declared.ends.CheckEnd.{CheckEnd}
 use Rattle.pp_induct.specs.declared.ends.CheckEnd.TheVariants as end
 use Rattle.pp_induct.specs.declared.ends.Why.{Why}
@@ -19,7 +18,6 @@ use Rattle.pp_modes.specs.Verdicts.{AnswersVerify, check_text, depending_text, r
 use Rattle.pp_modes.specs.Verdicts.{verdict_text}
 use Rattle.pp_print.specs.Lines.{depends_text, invalid_text, open_text, valid_text}
 use Rattle.pp_prog.specs.Cone.{InCone}
-use Rattle.pp_prog.specs.declared.check.Check.{Check}
 use Rattle.pp_prog.specs.declared.expr.Function.{Function}
 use Rattle.pp_prog.specs.declared.id.CheckId.{CheckId}
 use Rattle.pp_prog.specs.declared.id.FunctionId.{FunctionId}
@@ -29,12 +27,6 @@ use Rattle.pp_sound.specs.Sound.{IsCheckOf}
 
 some_same : {A : Type 0} {x y : A} → Some x ≡ Some y → x ≡ y
 some_same h = cc
-
-none_some : {A : Type 0} {x : A} → None ≡ Some x → ⊥
-none_some h = cc
-
-false_true : false ≡ true → ⊥
-false_true h = cc
 
 pub within : {A : Type 0} (xs : List A) (n : ℕ) → n < length xs → (x : A) × (slice_get xs n ≡ Some x)
 within [] n lt = absurd (omega (arith, lt))
@@ -91,40 +83,14 @@ says_open p limits i f line c t = (_, t.text)
 
 -- ---- the named check
 
--- the check and its end are there, it is one of function number i, and the end passes the test
-record HasEnd (i : ℕ) (test : CheckEnd → Bool) (found : Option Check) (ends : Option CheckEnd) : Type 0 where
-  pub check : Check
-  pub listed : found ≡ Some check
-  pub owner : check.function.0 ≡ i
-  pub end : CheckEnd
-  pub here : ends ≡ Some end
-  pub so : test end ≡ true
-
-has_end : (i : ℕ) (w : _) (found : Option Check) (ends : Option CheckEnd) → ended w i found ends ≡ true
-    → HasEnd i (is_of w) found ends
-has_end i w None ends h = absurd (false_true h)
-has_end i w (Some check) None h = absurd (false_true h)
-has_end i w (Some check) (Some e) h =
-    let both = and_parts (nat_eq check.function.0 i) (is_of w e) h in
-    let owner = eqb-true check.function.0 i both.0 in
-    record { check = check; listed = refl; owner = owner; end = e; here = refl; so = both.1 }
-
-first_end : (checks : List Check) (ends : List CheckEnd) (w : _) (i c : ℕ) → IsFirstEnded checks ends w i c
-    → HasEnd i (is_of w) (slice_get checks c) (slice_get ends c)
-first_end checks ends w i c first = has_end i w (slice_get checks c) (slice_get ends c) first.has
-
 module _ (p : Program) (limits : Limits) (ends : List CheckEnd) (are : AreEnds p limits ends) (i : ℕ) (f : Function)
     (line : List ℕ) where
-  failed : (c : CheckId) (found : HasEnd i is_invalid (slice_get p.checks c.0) (slice_get ends c.0)) (e : CheckEnd)
-      → found.end ≡ e → line ≡ verdict_text p ends i f (Invalid c) → IsFailed p limits i f line c
-  failed c found (end.Proved n) at is =
-      absurd (false_true (ap is_invalid (sym at) ∙ found.so))
-  failed c found (end.Exhausted n) at is =
-      absurd (false_true (ap is_invalid (sym at) ∙ found.so))
-  failed c found (end.Open searched w) at is =
-      absurd (false_true (ap is_invalid (sym at) ∙ found.so))
-  failed c found (end.Invalid args n) at is =
-      let here : slice_get ends c.0 ≡ Some (end.Invalid args n) = found.here ∙ ap Some at in
+  failed : (c : CheckId) → EndedSo p ends IsInvalidEnd i c.0 → line ≡ verdict_text p ends i f (Invalid c)
+      → IsFailed p limits i f line c
+  failed c found is =
+      let args = found.so.0 in
+      let n = found.so.1 in
+      let here : slice_get ends c.0 ≡ Some (end.Invalid args n) = found.at ∙ ap Some found.so.2 in
       record {
         own = record { check = found.check; listed = found.listed; owner = found.owner };
         args = args;
@@ -135,21 +101,19 @@ module _ (p : Program) (limits : Limits) (ends : List CheckEnd) (are : AreEnds p
             ∙ ap (check_text p f (Some found.check)) here;
       }
 
-  left_open : (c : CheckId) (found : HasEnd i is_open (slice_get p.checks c.0) (slice_get ends c.0)) (e : CheckEnd)
-      → found.end ≡ e → line ≡ verdict_text p ends i f (Open c) → IsOpen p limits i f line c
-  left_open c found (end.Proved n) at is = absurd (false_true (ap is_open (sym at) ∙ found.so))
-  left_open c found (end.Exhausted n) at is = absurd (false_true (ap is_open (sym at) ∙ found.so))
-  left_open c found (end.Invalid args n) at is = absurd (false_true (ap is_open (sym at) ∙ found.so))
-  left_open c found (end.Open searched w) at is =
-      let here : slice_get ends c.0 ≡ Some (end.Open searched w) = found.here ∙ ap Some at in
+  left_open : (c : CheckId) → EndedSo p ends IsOpenEnd i c.0 → line ≡ verdict_text p ends i f (Open c)
+      → IsOpen p limits i f line c
+  left_open c found is =
+      let searched = found.so.0 in
+      let w = found.so.1 in
+      let here : slice_get ends c.0 ≡ Some (end.Open searched w) = found.at ∙ ap Some found.so.2 in
+      let holds = are c.0 found.check (end.Open searched w) found.listed here in
       record {
         own = record { check = found.check; listed = found.listed; owner = found.owner };
         searched = searched;
         why = w;
-        ended = subst (λ k. IsSearched p limits k c searched) found.owner
-            (are c.0 found.check (end.Open searched w) found.listed here).0;
-        because = subst (λ k. IsWhy p limits k c searched w) found.owner
-            (are c.0 found.check (end.Open searched w) found.listed here).1;
+        ended = subst (λ k. IsSearched p limits k c searched) found.owner holds.0;
+        because = subst (λ k. IsWhy p limits k c searched w) found.owner holds.1;
         text = is ∙ ap (λ o. check_text p f o (slice_get ends c.0)) found.listed
             ∙ ap (check_text p f (Some found.check)) here;
       }
@@ -157,19 +121,15 @@ module _ (p : Program) (limits : Limits) (ends : List CheckEnd) (are : AreEnds p
   tells : (v : Verdict) → IsVerdict p ends i v → line ≡ verdict_text p ends i f v → Tells p limits i f line v
   tells Valid so is = is
   tells (Depends g) so is =
-      let on = within p.functions g.0 so.2.undone.0 in
+      let on = within p.functions g.0 so.2.has.0.0 in
       record {
         on = on.0;
         here = on.1;
-        cone = so.2.undone.1;
+        cone = so.2.has.0.1;
         text = is ∙ ap (depending_text f (own_checks i p.checks)) on.1;
       }
-  tells (Invalid c) so is =
-      let found = first_end p.checks ends _ i c.0 so in
-      failed c found found.end refl is
-  tells (Open c) so is =
-      let found = first_end p.checks ends _ i c.0 so.1 in
-      left_open c found found.end refl is
+  tells (Invalid c) so is = failed c so.has is
+  tells (Open c) so is = left_open c so.1.has is
 
 -- ---- the line of each function
 

@@ -10,7 +10,8 @@ use Rattle.pp_answers.proofs.Once.{AreAlike, one_program, swapped}
 use Rattle.pp_answers.specs.Answers.{accepted, refused}
 use Rattle.pp_answers.specs.Claims.{IsStatusOf, all_valid, some_invalid, some_open}
 use Rattle.pp_answers.specs.Laws as laws
-use Rattle.pp_answers.specs.Laws.{Agree, IsOnVerdicts, IsVerify, OneStatus, RunsAreRuns, StaysOpen, is_verify}
+use Rattle.pp_answers.specs.Laws.{Agree, FailsListed, IsOnVerdicts, IsVerify, OneStatus, RunsAreRuns, StaysOpen}
+use Rattle.pp_answers.specs.Laws.{is_verify}
 use Rattle.pp_eval.proofs.Lasts.{lasts}
 use Rattle.pp_eval.specs.Runs.{IsGood, run as run_of}
 use Rattle.pp_eval.specs.declared.outcome.Outcome.{Outcome}
@@ -31,7 +32,10 @@ use Rattle.pp_prog.specs.declared.id.CheckId.{CheckId}
 use Rattle.pp_prog.specs.declared.program.Program.{Program}
 use Rattle.pp_prog.specs.declared.types.TypeTable.{TypeTable}
 use Rattle.pp_prog.specs.declared.value.Value.{Value}
+use Rattle.pp_prog.specs.Sorts.{have_sorts, param_sorts}
+use Rattle.pp_sound.proofs.Laws.{fail_listed_checks}
 use Rattle.pp_sound.specs.Counterexample.{IsCounterexample}
+use Rattle.pp_sound.specs.Sound.{IsCalled}
 use Rattle.pp_words.specs.Task.{Task, run}
 
 some_same : {A : Type 0} {x y : A} → Some x ≡ Some y → x ≡ y
@@ -192,7 +196,31 @@ of_run : (p : Program) (name : List ℕ) (fuel : ℕ) {r : Response} → Answers
     → AnswersRun p name fuel r
 of_run p name fuel (run_ends a) = a
 
+-- a function without parameters is called with no arguments
+bare_called : (p : Program) (i : ℕ) (f : Function) → slice_get p.functions i ≡ Some f → f.params ≡ []
+    → IsCalled p i f []
+bare_called p i f at bare =
+    record { function = at; arguments = ap (λ ps. have_sorts p.types.ctors [] (param_sorts ps)) bare }
+
+-- a check that its run fails is listed
+run_listed : (p : Program) (name : List ℕ) (fuel : ℕ) (f : Function) (asked : IsAsked p name fuel f)
+    → FailsListed p asked.place (run_of p.types.ctors p.functions f [] fuel)
+run_listed p name fuel f asked = by (run_of p.types.ctors p.functions f [] fuel) refl
+  where
+    called : IsCalled p asked.place f []
+    called = bare_called p asked.place f asked.here asked.bare
+
+    by : (o : Outcome) → run_of p.types.ctors p.functions f [] fuel ≡ o → FailsListed p asked.place o
+    by (Done v) is = tt
+    by Outside is = tt
+    by (Fails c) is = fail_listed_checks.own p asked.place f [] called fuel c is
+    by (Inner g c) is = fail_listed_checks.inner p asked.place f [] called fuel g c is
+    by Deep is = tt
+
 pub runs_are_runs : RunsAreRuns
 runs_are_runs name fuel sources r (refused {line = line} a) p is f asked = absurd (excluded sources line p a is)
 runs_are_runs name fuel sources r (accepted q also a) p is f asked =
-    run_is q p (one_program sources q p also.program is.program) name fuel (of_run q name fuel a) f asked
+    record {
+      line = run_is q p (one_program sources q p also.program is.program) name fuel (of_run q name fuel a) f asked;
+      listed = run_listed p name fuel f asked;
+    }

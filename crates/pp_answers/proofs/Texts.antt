@@ -4,16 +4,18 @@ use Rattle.std.proofs.Common.{refl, sym, ap, subst, inl, arith, count_by}
 use Rattle.std.specs.List.{concat}
 use Rattle.std.specs.Prelude.{slice_get}
 use Rattle.std.proofs.lemmas.List.Sums.{count_by-le-length}
-use Rattle.std.proofs.lemmas.Option.{slice_get_within}
+use Rattle.std.proofs.lemmas.Option.{same_Some, slice_get_within}
 use Rattle.pp_answers.proofs.Claimed.{of_verify}
 use Rattle.pp_answers.proofs.Counts.{same_count}
+use Rattle.pp_answers.proofs.Depending.{ShowEach, Shows, first_unsettled}
 use Rattle.pp_answers.proofs.Excluded.{excluded}
 use Rattle.pp_answers.proofs.Lines.{Tells, told_by}
 use Rattle.pp_answers.proofs.Once.{AreAlike, one_program, swapped}
 use Rattle.pp_answers.proofs.Readings.{content_of, legible, meant, means_there, printed, prints_there}
 use Rattle.pp_answers.specs.Answers.{accepted, refused}
 use Rattle.pp_answers.specs.Laws.{TextReadBack}
-use Rattle.pp_answers.specs.Readings.{IsTextReadBack, Means, counts_of, is_depending, is_failed, is_left_open, is_valid}
+use Rattle.pp_answers.specs.Readings.{IsFirstUnsettled, IsTextReadBack, Means, counts_of, is_depending, is_failed}
+use Rattle.pp_answers.specs.Readings.{is_left_open, is_valid}
 use Rattle.pp_induct.specs.Reports.{AreLimits}
 use Rattle.pp_induct.specs.declared.ends.CheckEnd.{CheckEnd}
 use Rattle.pp_induct.specs.declared.limits.Limits.{Limits}
@@ -90,6 +92,23 @@ module _ (p : Program) (limits : Limits) where
   has_verdict i f line (Invalid c) t = record { valid = refl; invalid = refl; undecided = refl; depending = refl }
   has_verdict i f line (Open c) t = record { valid = refl; invalid = refl; undecided = refl; depending = refl }
 
+  shows_it : (i : ℕ) (f : Function) (line : List ℕ) (v : Verdict) (t : Tells p limits i f line v)
+      → Shows (content_of p limits i f line v t) v
+  shows_it i f line Valid t = refl
+  shows_it i f line (Depends g) t = refl
+  shows_it i f line (Invalid c) t = refl
+  shows_it i f line (Open c) t = refl
+
+  one_more_shown : (c : Content) (v : Verdict) (cs : List Content) (vs : List Verdict) → Shows c v → ShowEach cs vs
+      → ShowEach (c ∷ cs) (v ∷ vs)
+  one_more_shown c v cs vs one rest = record { size = ap suc rest.size; each = by }
+    where
+      by : (k : ℕ) (d : Content) (w : Verdict) → slice_get (c ∷ cs) k ≡ Some d → slice_get (v ∷ vs) k ≡ Some w
+          → Shows d w
+      by zero d w at here =
+          subst (λ z. Shows z w) (same_Some c d at) (subst (Shows c) (same_Some v w here) one)
+      by (suc k) d w at here = rest.each k d w at here
+
   -- the contents are true of the functions, the first of which has this number
   abbrev AreTrue : ℕ → List Function → List Content → Type 0
   AreTrue n fs cs = (k : ℕ) (f : Function) (c : Content) → slice_get fs k ≡ Some f → slice_get cs k ≡ Some c
@@ -118,6 +137,7 @@ module _ (p : Program) (limits : Limits) (r : Response) (a : AnswersVerify p lim
     pub prints : PrintEach p n fs (verdict_lines p ends n fs vs) contents
     pub are_true : AreTrue p limits n fs contents
     pub counts : HaveVerdicts contents vs
+    pub show : ShowEach contents vs
 
   none_told : (n : ℕ) → AreTold n [] []
   none_told n = record {
@@ -125,6 +145,7 @@ module _ (p : Program) (limits : Limits) (r : Response) (a : AnswersVerify p lim
     prints = no_lines;
     are_true = λ k f c at here. absurd (omega (arith, slice_get_within [] k f at));
     counts = record { size = refl; valid = refl; invalid = refl; undecided = refl; depending = refl };
+    show = record { size = refl; each = λ k c v at here. absurd (omega (arith, slice_get_within [] k c at)) };
   }
 
   all_told : (n : ℕ) (fs : List Function) (vs : List Verdict) → length vs ≡ length fs → AreFrom p.functions n fs
@@ -146,6 +167,7 @@ module _ (p : Program) (limits : Limits) (r : Response) (a : AnswersVerify p lim
         are_true = one_more_true p limits n f fs content rest.contents
             (meant p limits n f line v t (λ is. a.valid n (here ∙ ap Some is) n f (inl refl) at)) rest.are_true;
         counts = one_more content v rest.contents vs (has_verdict p limits n f line v t) rest.counts;
+        show = one_more_shown p limits content v rest.contents vs (shows_it p limits n f line v t) rest.show;
       }
 
   pub told_text : IsLegible p → IsTextReadBack limits p (concat (lines_in r))
@@ -169,6 +191,7 @@ module _ (p : Program) (limits : Limits) (r : Response) (a : AnswersVerify p lim
         true_of = λ i f c at here.
             let same : 0 + i ≡ i = omega arith in
             subst (λ n. Means limits p n f c) same (all.are_true i f c at here);
+        depends = first_unsettled p ends a.found.verdicts a.holds.verdicts all.contents all.show;
         counted = refl;
       }
 
@@ -198,6 +221,8 @@ text_there p q alike limits text h = record {
   true_of = λ i f c at here.
       means_there p q alike i f [] limits c
       (h.true_of i f c (ap (λ fs. slice_get fs i) alike.functions ∙ at) here);
+  depends = λ i g checks at.
+      subst (λ fs. IsFirstUnsettled fs h.content.functions i g.0) alike.functions (h.depends i g checks at);
   counted = h.counted;
 }
 

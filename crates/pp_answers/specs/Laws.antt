@@ -1,10 +1,12 @@
 -- What answers mean. Source: own.
-use Rattle.std.specs.Prelude.{◌≡◌, ◌⊎◌, ℕ, List, [], Some, slice_get}
+use Rattle.std.specs.Prelude.{◌≡◌, ◌⊎◌, ◌<◌, ℕ, List, [], Some, length, slice_get}
 use Rattle.std.specs.List.{concat}
 use Rattle.pp_answers.specs.Answers.{Answers, IsAccepted}
 use Rattle.pp_answers.specs.Claims.{AreLinesOf, Claim, InvalidFails, OpenIsSearched, ValidIsGood}
 use Rattle.pp_answers.specs.Readings.{IsReadBack, IsTextReadBack}
 use Rattle.pp_eval.specs.Runs.{run as run_of}
+use Rattle.pp_eval.specs.declared.outcome.Outcome.{Outcome}
+use Rattle.pp_eval.specs.declared.outcome.Outcome.TheVariants.{Fails, Inner}
 use Rattle.pp_induct.specs.Reports.{AreLimits}
 use Rattle.pp_induct.specs.declared.limits.Limits.{Limits}
 use Rattle.pp_modes.specs.Responses.{Response, lines_in, status_in}
@@ -14,6 +16,7 @@ use Rattle.pp_modes.specs.declared.status.Status.TheVariants as status
 use Rattle.pp_ordinary.specs.Laws.{AreShort}
 use Rattle.pp_prog.specs.declared.expr.Function.{Function}
 use Rattle.pp_prog.specs.declared.program.Program.{Program}
+use Rattle.pp_sound.specs.Sound.{IsCheckOf}
 use Rattle.pp_words.specs.Task.{Task, run, verify}
 
 -- the task to verify within these limits
@@ -95,8 +98,20 @@ TextReadBack = (limits : Limits) (sources : List (List ℕ)) (r : Response) → 
 
 -- ---- mode `run`
 
--- the line of a run is that of the evaluator's outcome
+-- a check that fails is a listed one of function number i, or of the called function that it failed in
+abbrev pub FailsListed : Program → ℕ → Outcome → Type 0
+FailsListed p i (Fails c) = IsCheckOf p i c.0
+FailsListed p i (Inner g c) = (g.0 < length p.functions) × IsCheckOf p g.0 c.0
+FailsListed p i outcome = Unit {0}
+
+-- the response is the line of the evaluator's outcome, and a check that it names is a listed one
+pub record IsRunReport (p : Program) (name : List ℕ) (fuel : ℕ) (f : Function) (asked : IsAsked p name fuel f)
+    (r : Response) : Type 0 where
+  pub line : r ≡ outcome_report p name fuel (run_of p.types.ctors p.functions f [] fuel)
+  pub listed : FailsListed p asked.place (run_of p.types.ctors p.functions f [] fuel)
+
+-- so it is with each run
 abbrev pub RunsAreRuns : Type 0
 RunsAreRuns = (name : List ℕ) (fuel : ℕ) (sources : List (List ℕ)) (r : Response) → Answers (run name fuel) sources r
-    → (p : Program) → IsAccepted sources p → (f : Function) → IsAsked p name fuel f
-    → r ≡ outcome_report p name fuel (run_of p.types.ctors p.functions f [] fuel)
+    → (p : Program) → IsAccepted sources p → (f : Function) (asked : IsAsked p name fuel f)
+    → IsRunReport p name fuel f asked r

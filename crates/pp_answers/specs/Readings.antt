@@ -1,5 +1,5 @@
 -- What is read back from the line of a function, and from the whole text of a report. Source: own.
-use Rattle.std.specs.Prelude.{◌≡◌, ◌⊎◌, ◌<◌, ◌≤◌, ℕ, suc, Bool, true, false, List, Option, Some, None, count_by}
+use Rattle.std.specs.Prelude.{◌≡◌, ◌⊎◌, ◌<◌, ◌≤◌, ℕ, suc, Bool, true, false, ◌||◌, List, Option, Some, None, count_by}
 use Rattle.std.specs.Prelude.{slice_get}
 use Rattle.pp_eval.specs.Runs.{IsGood}
 use Rattle.pp_estimate.specs.Estimates.{estimate}
@@ -14,6 +14,7 @@ use Rattle.pp_print.specs.declared.line.Reason.TheVariants as reason
 use Rattle.pp_prog.specs.Cone.{InCone}
 use Rattle.pp_prog.specs.declared.expr.Function.{Function}
 use Rattle.pp_prog.specs.declared.id.CheckId.{CheckId}
+use Rattle.pp_prog.specs.declared.id.FunctionId.{FunctionId}
 use Rattle.pp_prog.specs.declared.program.Program.{Program}
 use Rattle.pp_sound.specs.Counterexample.{IsCounterexample}
 
@@ -30,8 +31,8 @@ module _ (limits : Limits) (p : Program) (i : ℕ) (f : Function) where
   MeansSpent None c = Unit {0}
   MeansSpent (Some n) c = (suc n ≤ limits.rounds) ⊎ IsNotPlain p c
 
-  -- `rounds`: all asked rounds were searched, and the check is no plain descent. `size`: the estimate of the next round,
-  -- which is asked for, is above the asked number of gates. `lemmas`: a search or a proof has spent them.
+  -- `rounds`: all asked rounds were searched, and the check is no plain descent. `size`: the estimate of the next
+  -- round, which is asked for, is above the asked number of gates. `lemmas`: a search or a proof has spent them.
   abbrev pub MeansReason : Option ℕ → CheckId → Reason → Type 0
   MeansReason searched c reason.Rounds = (searched ≡ Some limits.rounds) × IsNotPlain p c
   MeansReason searched c reason.Size =
@@ -84,12 +85,28 @@ counts_of cs = record {
   depending = count_by is_depending cs;
 }
 
+abbrev pub is_unsettled : Content → Bool
+is_unsettled c = is_failed c || is_left_open c
+
+-- what is said of function number g is that it is invalid or open
+abbrev pub IsUnsettled : List Content → ℕ → Type 0
+IsUnsettled cs g = (c : Content) × (slice_get cs g ≡ Some c) × (is_unsettled c ≡ true)
+
+-- g is the first function, in program order, in the cone of function number i of which it is said so
+pub record IsFirstUnsettled (functions : List Function) (cs : List Content) (i g : ℕ) : Type 0 where
+  pub reached : InCone functions i g
+  pub unsettled : IsUnsettled cs g
+  pub first : (h : ℕ) → h < g → InCone functions i h → IsUnsettled cs h → ⊥
+
 -- The text prints a content of each function, in order, and counts, and no others. What it says of each function is
--- true, and the counts are those of the verdicts.
+-- true, a function that depends on another one depends on the first that it reaches and of which the text says that it
+-- is invalid or open, and the counts are those of the verdicts.
 pub record IsTextReadBack (limits : Limits) (p : Program) (text : List ℕ) : Type 0 where
   pub content : ReportContent
   pub printed : PrintsReport p text content
   pub only : (other : ReportContent) → PrintsReport p text other → other ≡ content
   pub true_of : (i : ℕ) (f : Function) (c : Content) → slice_get p.functions i ≡ Some f
       → slice_get content.functions i ≡ Some c → Means limits p i f c
+  pub depends : (i : ℕ) (g : FunctionId) (checks : ℕ) → slice_get content.functions i ≡ Some (depending g checks)
+      → IsFirstUnsettled p.functions content.functions i g.0
   pub counted : content.counts ≡ counts_of content.functions

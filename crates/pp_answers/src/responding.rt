@@ -1,6 +1,7 @@
 //! The response to a task.
 
 ghost use Rattle.std.specs.Prelude.{◌≤◌, All, IfOk, length, map};
+ghost use Rattle.pp_limits.specs.declared.TheConstants.{MOST_SOURCES};
 ghost use Rattle.pp_answers.specs.Answers.{Answers};
 ghost use Rattle.pp_front.specs.Programs.{IsShort, bytes_of};
 ghost use Rattle.pp_modes.specs.Answers.{IsInRange};
@@ -17,7 +18,7 @@ use std::alloc::Global;
 /// want of memory.
 pub fn respond(alloc: Global, task: Task, sources: &[Vec<u8>]) -> Result<Response, NoMemory>
     requires range { IsInRange (task_told task) }
-    requires few { length sources.now ≤ 16 }
+    requires few { length sources.now ≤ MOST_SOURCES }
     requires short { All IsShort sources.now }
     ensures { IfOk result (λ r. Answers (task_told task.entry) (map bytes_of sources.now) (response_of r)) }
 {

@@ -42,7 +42,8 @@ flat_few types s d = subst (λ (l : List Ctor). flat_among l ≤ 133) (sym own) 
     few (suc (suc (suc (suc zero)))) = omega arith
     few (suc (suc (suc (suc (suc zero))))) = omega arith
     few (suc (suc (suc (suc (suc (suc zero)))))) = omega arith
-    few (suc (suc (suc (suc (suc (suc (suc i))))))) = omega arith
+    few (suc (suc (suc (suc (suc (suc (suc zero))))))) = omega arith
+    few (suc (suc (suc (suc (suc (suc (suc (suc i)))))))) = omega arith
 
 -- ---- few looks
 

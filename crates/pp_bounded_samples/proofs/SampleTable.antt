@@ -1,6 +1,6 @@
 -- The table of the samples is one.
 use Rattle.std.proofs.Common.{◌≡◌, ℕ, zero, suc, ◌+◌, ◌-◌, ◌<◌, ◌≤◌, Bool, true, ◌&&◌, List, [], ◌∷◌, Some, slice_get}
-use Rattle.std.proofs.Common.{nat_le, nat_lt, refl, sym, ap, ◌∙◌, subst, arith, inl, inr}
+use Rattle.std.proofs.Common.{◌++◌, append_assoc, nat_le, nat_lt, refl, sym, ap, ◌∙◌, subst, arith, inl, inr}
 use Rattle.std.proofs.lemmas.Bool.{and_parts, ltb-true}
 use Rattle.std.proofs.lemmas.Bool.Decides.{leb_tells}
 use Rattle.std.specs.List.{list_all}
@@ -12,7 +12,7 @@ use Rattle.pp_prog.specs.declared.value.Value.TheOpen as value
 use Rattle.pp_prog.specs.declared.value.Value.TheVariants.{Tree, rolls-Tree}
 use Rattle.pp_prog.specs.Sorts.{has_sort, has_step, tree_has}
 use Rattle.pp_prog.specs.Table.{HasValue, IsTable, in_block, in_block_of, is_of, is_sort}
-use Rattle.pp_bounded_samples.specs.Sample.{sample_ctors, sample_datatypes, tree_of}
+use Rattle.pp_bounded_samples.specs.Sample.{bare_ctors, ctor_of, sample_ctors, sample_datatypes, tree_of}
 
 -- each item passes the test at its place, counted from n
 abbrev all_at : {A : Type 0} → (ℕ → A → Bool) → ℕ → List A → Bool
@@ -73,6 +73,18 @@ module _ (ds : List Datatype) (cs : List Ctor) where
       (below_passes (λ i. is_of d (slice_get cs (t.first.0 + i))) t.count (c - t.first.0) (passes blocks_at ds d t h at)
       (omega (arith, from, to)))
 
+-- one more of the constructors without fields
+bare_end : (n : List ℕ) (k : ℕ) → bare_ctors n k ++ ctor_of n 7 [] ∷ [] ≡ bare_ctors n (suc k)
+bare_end n zero = refl
+bare_end n (suc k) = ap (λ cs. ctor_of n 7 [] ∷ cs) (bare_end n k)
+
+pub bare_turn : (n : List ℕ) (i : ℕ) (old xs ys : List Ctor) → xs ≡ old ++ bare_ctors n i
+    → ys ≡ xs ++ ctor_of n 7 [] ∷ [] → ys ≡ old ++ bare_ctors n (i + 1)
+bare_turn n i old xs ys so push =
+    let next : suc i ≡ i + 1 = omega arith in
+    push ∙ ap (λ cs. cs ++ ctor_of n 7 [] ∷ []) so ∙ append_assoc old (bare_ctors n i) (ctor_of n 7 [] ∷ [])
+    ∙ ap (λ cs. old ++ cs) (bare_end n i ∙ ap (bare_ctors n) next)
+
 -- a constructor without fields
 bare : (cs : List Ctor) (c d : ℕ) → tree_has (slice_get cs c) [] (tree_of d) ≡ true → HasValue cs (tree_of d)
 bare cs c d h = (
@@ -98,7 +110,7 @@ sample_is_table n =
       inhabited = value_of;
     }
   where
-    value_of : (d : ℕ) → d < 7 → HasValue (sample_ctors n) (tree_of d)
+    value_of : (d : ℕ) → d < 8 → HasValue (sample_ctors n) (tree_of d)
     value_of zero lt = bare (sample_ctors n) 0 0 refl
     value_of (suc zero) lt = bare (sample_ctors n) 2 1 refl
     value_of (suc (suc zero)) lt = bare (sample_ctors n) 4 2 refl
@@ -106,4 +118,5 @@ sample_is_table n =
     value_of (suc (suc (suc (suc zero)))) lt = bare (sample_ctors n) 11 4 refl
     value_of (suc (suc (suc (suc (suc zero))))) lt = bare (sample_ctors n) 13 5 refl
     value_of (suc (suc (suc (suc (suc (suc zero)))))) lt = bare (sample_ctors n) 15 6 refl
-    value_of (suc (suc (suc (suc (suc (suc (suc d))))))) lt = absurd (omega (arith, lt))
+    value_of (suc (suc (suc (suc (suc (suc (suc zero))))))) lt = bare (sample_ctors n) 17 7 refl
+    value_of (suc (suc (suc (suc (suc (suc (suc (suc d)))))))) lt = absurd (omega (arith, lt))

@@ -1,5 +1,5 @@
 -- The table of the samples, and the trees at which each call of the domain has its room. Source: own.
-use Rattle.std.specs.Prelude.{◌≡◌, ◌≤◌, ◌⊎◌, ℕ, false, List, [], ◌∷◌}
+use Rattle.std.specs.Prelude.{◌≡◌, ◌≤◌, ◌⊎◌, ℕ, zero, suc, false, List, [], ◌∷◌, ◌++◌}
 use Rattle.pp_prog.specs.declared.id.DataId.{DataId}
 use Rattle.pp_prog.specs.declared.sort.Sort.{Sort}
 use Rattle.pp_prog.specs.declared.sort.Sort.TheVariants as sort
@@ -21,10 +21,15 @@ ctor_of name d fields = record { name = name; of = record { 0 = d }; fields = fi
 
 abbrev pub sample_datatypes : List ℕ → List Datatype
 sample_datatypes n = datatype_of n 0 2 ∷ datatype_of n 2 2 ∷ datatype_of n 4 3 ∷ datatype_of n 7 4
-    ∷ datatype_of n 11 2 ∷ datatype_of n 13 2 ∷ datatype_of n 15 2 ∷ []
+    ∷ datatype_of n 11 2 ∷ datatype_of n 13 2 ∷ datatype_of n 15 2 ∷ datatype_of n 17 64 ∷ []
+
+-- so many constructors without fields, of the datatype that has many
+abbrev pub bare_ctors : List ℕ → ℕ → List Ctor
+bare_ctors n zero = []
+bare_ctors n (suc k) = ctor_of n 7 [] ∷ bare_ctors n k
 
 -- lists of numbers, trees with a truth value at each fork, a datatype with fields of another, four constructors with
--- three recursive fields, two datatypes that hold each other, and two truth values
+-- three recursive fields, two datatypes that hold each other, two truth values, and 64 constructors
 abbrev pub sample_ctors : List ℕ → List Ctor
 sample_ctors n =
     ctor_of n 0 [] ∷ ctor_of n 0 (sort.Int ∷ tree_of 0 ∷ [])
@@ -33,7 +38,8 @@ sample_ctors n =
     ∷ ctor_of n 3 [] ∷ ctor_of n 3 (sort.Bool ∷ []) ∷ ctor_of n 3 (sort.Int ∷ [])
     ∷ ctor_of n 3 (tree_of 3 ∷ tree_of 3 ∷ tree_of 3 ∷ [])
     ∷ ctor_of n 4 [] ∷ ctor_of n 4 (tree_of 5 ∷ tree_of 4 ∷ []) ∷ ctor_of n 5 [] ∷ ctor_of n 5 (tree_of 4 ∷ [])
-    ∷ ctor_of n 6 [] ∷ ctor_of n 6 (sort.Bool ∷ sort.Bool ∷ []) ∷ []
+    ∷ ctor_of n 6 [] ∷ ctor_of n 6 (sort.Bool ∷ sort.Bool ∷ [])
+    ∷ (bare_ctors n 63 ++ ctor_of n 7 (sort.Int ∷ tree_of 7 ∷ []) ∷ [])
 
 -- the table of the samples, all with one name
 pub record IsSample (types : TypeTable) : Type 0 where

@@ -1,4 +1,4 @@
-//! Samples of bounded trees: a table of four datatypes, and the calls of the domain at trees that are low enough for
+//! Samples of bounded trees: a table of eight datatypes, and the calls of the domain at trees that are low enough for
 //! each to have its room.
 //!
 //! `specs/Sample` has the table and what is low enough, `specs/Kept` what a tree keeps from call to call. Programs that

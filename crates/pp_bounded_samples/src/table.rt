@@ -2,8 +2,8 @@
 
 ghost use Rattle.std.specs.Prelude.{◌≡◌, ◌++◌, ◌∷◌, [], IfOk, IsTrue, OnOk, ◌^◌, ◌≤◌, ◌<◌, length};
 ghost use Rattle.pp_prog.specs.Table.{IsTable};
-ghost use Rattle.pp_bounded_samples.specs.Sample.{IsLow, IsSample, IsSmall, ctor_of, datatype_of, sample_ctors};
-ghost use Rattle.pp_bounded_samples.specs.Sample.{sample_datatypes};
+ghost use Rattle.pp_bounded_samples.specs.Sample.{IsLow, IsSample, IsSmall, bare_ctors, ctor_of, datatype_of};
+ghost use Rattle.pp_bounded_samples.specs.Sample.{sample_ctors, sample_datatypes};
 
 use crate::NoMemory;
 use pp_list::Items;
@@ -32,6 +32,12 @@ pub const ROSE: u32 = 5;
 /// Two truth values: `Neither`, and `Both` of them.
 pub const PAIR: u32 = 6;
 
+/// Lists with 64 constructors: 63 without fields, and `Next` of a number and a list.
+pub const MANY: u32 = 7;
+
+/// How many of those have no fields.
+const BARE: u32 = 63;
+
 /// The height up to which each call has its room.
 const LOW: u32 = 4;
 
@@ -58,6 +64,7 @@ fn datatypes(alloc: Global, name: &str) -> Result<Datatypes, NoMemory>
     add_datatype(alloc, &mut datatypes, name, 11, 2)?;
     add_datatype(alloc, &mut datatypes, name, 13, 2)?;
     add_datatype(alloc, &mut datatypes, name, 15, 2)?;
+    add_datatype(alloc, &mut datatypes, name, 17, BARE + 1)?;
     Ok(datatypes)
 }
 
@@ -89,6 +96,7 @@ fn ctors(alloc: Global, name: &str) -> Result<Ctors, NoMemory>
     let wide = Sort::Tree(DataId(WIDE));
     let forest = Sort::Tree(DataId(FOREST));
     let rose = Sort::Tree(DataId(ROSE));
+    let many = Sort::Tree(DataId(MANY));
     add_ctor(alloc, &mut ctors, name, LIST, &[])?;
     add_ctor(alloc, &mut ctors, name, LIST, &[Sort::Int, list])?;
     add_ctor(alloc, &mut ctors, name, TREE, &[])?;
@@ -106,7 +114,19 @@ fn ctors(alloc: Global, name: &str) -> Result<Ctors, NoMemory>
     add_ctor(alloc, &mut ctors, name, ROSE, &[forest])?;
     add_ctor(alloc, &mut ctors, name, PAIR, &[])?;
     add_ctor(alloc, &mut ctors, name, PAIR, &[Sort::Bool, Sort::Bool])?;
+    add_bare(alloc, &mut ctors, name)?;
+    add_ctor(alloc, &mut ctors, name, MANY, &[Sort::Int, many])?;
     Ok(ctors)
+}
+
+/// Adds the constructors without fields of the datatype that has many.
+fn add_bare(alloc: Global, ctors: &mut Ctors, name: &str) -> Result<(), NoMemory>
+    ensures { OnOk result (ctors.new ≡ ctors.old ++ bare_ctors name.now 63) }
+{
+    for _place in 0..BARE {
+        add_ctor(alloc, ctors, name, MANY, &[])?;
+    }
+    Ok(())
 }
 
 /// Adds a constructor of the datatype, with fields of these sorts.

@@ -12,7 +12,7 @@ ghost use Rattle.pp_bounded_trees.specs.Meaning.{BoundedFits, bounded_sense};
 use crate::NoMemory;
 use crate::arena::{Alternative, BoundedTree, Node, Trees};
 use crate::look::place_of;
-use pp_domain::Symbol;
+use pp_domain::{Symbol, blank_plain};
 use pp_gate::Circuit;
 use pp_list::{Items, at};
 use pp_prog::{CtorId, Sort, TypeTable};
@@ -106,12 +106,8 @@ impl Trees {
         ensures answer { IfOk result (λ r. (s : SortSpec) → HasField table.now ctor place s
             → IsBlank self.new circuit.new height s r) }
     {
-        match field_sort(table, ctor, place) {
-            Sort::Int => {
-                let word = pp_wordgate::constant(circuit, 0)?;
-                Ok(Symbol::Word(word))
-            }
-            Sort::Bool => Ok(Symbol::Bit(circuit.truth().negated())),
+        let sort = field_sort(table, ctor, place);
+        match sort {
             Sort::Tree(of) => {
                 let alternatives = Items::new(circuit.allocator());
                 let tree = self.push(Node {
@@ -120,6 +116,10 @@ impl Trees {
                     alternatives,
                 })?;
                 Ok(Symbol::Tree(tree))
+            }
+            _ => {
+                let plain = blank_plain(circuit, sort)?;
+                Ok(plain)
             }
         }
     }

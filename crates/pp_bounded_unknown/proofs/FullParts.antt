@@ -1,9 +1,7 @@
 -- A number, a truth value, and constructors with fields that can have any values up to a height.
-use Rattle.std.proofs.Common.{◌≡◌, ℕ, zero, suc, ◌+◌, ◌≤◌, Bool, true, List, [], ◌∷◌, ◌++◌, length, take, Some, refl}
-use Rattle.std.proofs.Common.{sym, ap, ◌∙◌, subst, arith, slice_get, inl, inr, length-append}
+use Rattle.std.proofs.Common.{◌≡◌, ℕ, zero, suc, ◌+◌, ◌*◌, ◌≤◌, Bool, true, List, [], ◌∷◌, ◌++◌, length, take, Some}
+use Rattle.std.proofs.Common.{refl, sym, ap, ◌∙◌, subst, arith, slice_get, inl, inr, length-append}
 use Rattle.std.proofs.lemmas.Bool.{and_parts}
-use Rattle.std.specs.Int.{w32}
-use Rattle.std.specs.Int.RustNames.{FitsSigned}
 use Rattle.std.specs.List.{list_all}
 use Rattle.std.proofs.lemmas.Option.{same_Some}
 use Rattle.pp_prog.specs.declared.id.CtorId.{CtorId}
@@ -11,31 +9,29 @@ use Rattle.pp_prog.specs.declared.sort.Sort.{Sort}
 use Rattle.pp_prog.specs.declared.sort.Sort.TheVariants as sort
 use Rattle.pp_prog.specs.declared.types.Ctor.{Ctor}
 use Rattle.pp_prog.specs.declared.types.TypeTable.{TypeTable}
-use Rattle.pp_prog.specs.declared.value.Value.TheVariants as value
-use Rattle.pp_prog.specs.Sizes.{height_at}
-use Rattle.pp_prog.specs.Sorts.{is_int}
-use Rattle.pp_prog.proofs.Values.{height_of_bool, height_of_int}
-use Rattle.pp_clause.specs.Literal.{Literal, lit_value}
+use Rattle.pp_prog.specs.declared.value.Value.{Value}
+use Rattle.pp_prog.specs.Cone.{is_word}
+use Rattle.pp_prog.specs.Sizes.{bits, height_at}
+use Rattle.pp_clause.specs.Literal.{Literal}
 use Rattle.pp_gate.specs.declared.gate.Gate.{Gate}
-use Rattle.pp_gate.specs.Circuit.{Gives, IsCircuit, IsInput, IsOf}
+use Rattle.pp_gate.specs.Circuit.{IsCircuit}
 use Rattle.pp_gate.specs.Growth.{Grows}
-use Rattle.pp_gate.proofs.Extension.{growth_extends}
 use Rattle.pp_gate.proofs.Places.{at_left, at_next, at_push}
-use Rattle.pp_bits.specs.Inputs.{AreInputs}
-use Rattle.pp_bits.specs.Number.{nat_of}
-use Rattle.pp_bits.proofs.Numbers.{nat_of_within}
-use Rattle.pp_word.proofs.Ranges.{IsWord-cast_signed}
-use Rattle.pp_wordgate.specs.Meaning.{ChosenWord, word_of}
+use Rattle.pp_domain.specs.declared.symbol.Symbol.{Symbol}
 use Rattle.pp_domain.specs.declared.symbol.Symbol.TheVariants as symbol
+use Rattle.pp_domain.specs.Plain.{IsPlain, IsUnknownPlain, PlainStands, plain_gates}
+use Rattle.pp_domain.proofs.PlainSymbols.{plain_value, value_is_plain}
+use Rattle.pp_domain.proofs.UnknownSymbols.{plain_symbol}
 use Rattle.pp_domain.specs.Moves.{Moves}
 use Rattle.pp_bounded_trees.specs.declared.arena.Alternative.{Alternative}
+use Rattle.pp_bounded_trees.specs.declared.arena.BoundedTree.{BoundedTree}
 use Rattle.pp_bounded_trees.specs.declared.arena.Trees.{Trees}
+use Rattle.pp_bounded_trees.specs.Arena.{height_of}
+use Rattle.pp_bounded_trees.specs.Values.{symbol_value, values_of}
 use Rattle.pp_bounded_unknown.specs.Full.{AreFull, AreFullAlternatives, IsFull, IsFullAlternative}
 use Rattle.pp_bounded_trees.specs.Meaning.{bounded_sense}
-use Rattle.pp_bounded_trees.proofs.Candidates.{take_next}
+use Rattle.pp_bounded_trees.proofs.Candidates.{bits_of_bool, bits_of_int, take_next}
 use Rattle.pp_bounded_unknown.proofs.Full.{AreFull_from, AreFull_later}
-use Rattle.pp_prog.proofs.ValueSorts.{bool_value, int_has, int_value, truth_has}
-use Rattle.pp_eval.proofs.Ranges.{int_fits, int_from}
 
 pub height_within : (h : ℕ) (s : Sort) → height_at h s ≤ h
 height_within h sort.Int = omega arith
@@ -49,61 +45,43 @@ all_at p (y ∷ xs) zero x all at =
     ap p (same_Some x y (sym at)) ∙ (and_parts (p y) _ all).0
 all_at p (y ∷ xs) (suc j) x all at = all_at p xs j x (and_parts (p y) _ all).1 at
 
-word_is_int : (a : ℕ → Bool) (w : List Literal) → length w ≡ 32
-    → is_int (word_of w32 a w) ≡ true
-unfolding word_of
-word_is_int a w len = int_from (word_of w32 a w) (IsWord-cast_signed w32 (nat_of a w) (nat_of_within a w 32 len))
+-- the inputs of a number or a truth value
+pub plain_few : (types : TypeTable) (h : ℕ) (s : Sort) → is_word s ≡ true → plain_gates s ≤ 4 * bits types h s
+plain_few types h sort.Int plain = omega (arith, bits_of_int types h)
+plain_few types h sort.Bool plain = omega (arith, bits_of_bool types h)
+plain_few types h (sort.Tree of) plain = absurd (cc)
 
+-- a number or a truth value of inputs
 module _ (types : TypeTable) (d : Trees) (gs hs : List Gate) (h : ℕ) where
-  pub word_full : (w : List Literal) → AreInputs gs hs 32 w
-      → ((s : ℕ → Bool) → Gives s gs → (v : _) → FitsSigned w32 v → ChosenWord w32 gs hs s w v)
-      → IsFull types gs d hs h sort.Int (symbol.Word w)
-  word_full w inputs chosen = record {
-    of = (inputs.len, inputs.of);
-    height = refl;
-    chosen = λ a v gives is.
-        let n = int_value types.ctors v is.sort in
-        let c = chosen a gives n.number (int_fits n.number n.fits) in
-        record {
-          next = c.assignment;
-          gives = c.gives;
-          keeps = c.keeps;
-          value = ap (λ z. Some (value.Int z)) c.value ∙ ap Some (sym n.is);
-        };
-    bounded = λ a gives. record {
-      value = value.Int (word_of w32 a w);
-      stands = refl;
-      up_to = record {
-        sort = int_has types.ctors (word_of w32 a w) (word_is_int a w inputs.len);
-        most = (let e = height_of_int (word_of w32 a w) in omega arith);
-      };
-    };
-  }
+  plain_height : (s : Sort) (x : Symbol BoundedTree) → IsPlain hs s x → height_of x ≡ height_at h s
+  plain_height sort.Int (symbol.Word w) is = refl
+  plain_height sort.Bool (symbol.Bit l) is = refl
+  plain_height sort.Int (symbol.Bit l) is = absurd is
+  plain_height sort.Int (symbol.Tree t) is = absurd is
+  plain_height sort.Bool (symbol.Word w) is = absurd is
+  plain_height sort.Bool (symbol.Tree t) is = absurd is
+  plain_height (sort.Tree of) x is = absurd is
 
-  pub bit_full : (l : Literal) → Grows gs hs 1 → IsCircuit hs → IsOf hs l → IsInput hs l.var
-      → l.var ≡ length gs + 1 → ((s : ℕ → Bool) → lit_value s l ≡ s (length gs + 1))
-      → IsFull types gs d hs h sort.Bool (symbol.Bit l)
-  bit_full l grows is of input var means = record {
-    of = of;
-    height = refl;
-    chosen = λ a v gives has.
-        let b = bool_value types.ctors v has.sort in
-        let x = growth_extends gs hs 1 grows is a (λ n. b.truth) gives in
-        record {
-          next = x.assignment;
-          gives = x.gives;
-          keeps = x.keeps;
-          value = ap (λ z. Some (value.Bool z)) (means x.assignment ∙ ap x.assignment (sym var)
-              ∙ sym (x.inputs l.var (omega arith) input)) ∙ ap Some (sym b.is);
+  plain_is : (a : ℕ → Bool) (x : Symbol BoundedTree) (v : Value) → PlainStands a x v
+      → symbol_value a (values_of a d.nodes) x ≡ Some v
+  plain_is a (symbol.Word w) v is = ap Some (sym is)
+  plain_is a (symbol.Bit l) v is = ap Some (sym is)
+  plain_is a (symbol.Tree t) v is = absurd is
+
+  pub plain_full : (s : Sort) (x : Symbol BoundedTree) → is_word s ≡ true → IsUnknownPlain gs hs s x
+      → IsFull types gs d hs h s x
+  plain_full s x plain unknown = record {
+    of = plain_symbol bounded_sense d hs s x unknown.of;
+    height = plain_height s x unknown.of;
+    chosen = λ a v gives is.
+        let c = unknown.chosen a v gives (value_is_plain types s v plain is.sort) in
+        record { next = c.next; gives = c.gives; keeps = c.keeps; value = plain_is c.next x v c.stands };
+    bounded = λ a gives.
+        let v = plain_value types hs a h s x unknown.of in record {
+          value = v.value;
+          stands = plain_is a x v.value v.stands;
+          up_to = record { sort = v.is.sorted; most = v.is.low };
         };
-    bounded = λ a gives. record {
-      value = value.Bool (lit_value a l);
-      stands = refl;
-      up_to = record {
-        sort = truth_has types.ctors (lit_value a l);
-        most = (let e = height_of_bool (lit_value a l) in omega arith);
-      };
-    };
   }
 
 -- constructors

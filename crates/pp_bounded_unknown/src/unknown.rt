@@ -18,7 +18,7 @@ use pp_bounded_trees::arena::{Alternative, BoundedTree, Node, Trees};
 use pp_bounded_trees::choices::choices;
 use pp_bounded_trees::possible::{has_value, possible};
 use pp_clause::Lit;
-use pp_domain::{Symbol, Symbols};
+use pp_domain::{Symbol, Symbols, unknown_plain};
 use pp_gate::Circuit;
 use pp_list::Items;
 use pp_prog::{CtorId, DataId, Sort, TypeTable};
@@ -171,17 +171,13 @@ fn full_symbol(
     ensures full { IfOk result (λ x. IsFull table.now circuit.old trees.new circuit.new height sort x) }
 {
     match sort {
-        Sort::Int => {
-            let word = pp_wordgate::unknown(circuit)?;
-            Ok(Symbol::Word(word))
-        }
-        Sort::Bool => {
-            let input = circuit.input()?;
-            Ok(Symbol::Bit(input))
-        }
         Sort::Tree(of) => {
             let tree = full_tree(trees, circuit, table, of, height)?;
             Ok(Symbol::Tree(tree))
+        }
+        _ => {
+            let plain = unknown_plain(circuit, sort)?;
+            Ok(plain)
         }
     }
 }

@@ -18,7 +18,8 @@ use Rattle.pp_prog.proofs.ValueSorts.{one_sort}
 use Rattle.pp_gate.specs.declared.gate.Gate.{Gate}
 use Rattle.pp_domain.specs.declared.symbol.Symbol.{Symbol}
 use Rattle.pp_domain.specs.declared.symbol.Symbol.TheVariants as symbol
-use Rattle.pp_domain.specs.Allowance.{bits_at, look_at_gates, nodes_at, construct_gates, expand_gates_of}
+use Rattle.pp_domain.specs.Allowance.{bits_at, construct_gates, equality_gates, expand_gates_of, look_at_gates}
+use Rattle.pp_domain.specs.Allowance.{nodes_at}
 use Rattle.pp_domain.specs.AnySort.{choose_gates, compare_gates}
 use Rattle.pp_domain.specs.Sense.{Sense}
 use Rattle.pp_domain.specs.Symbols.{IsSymbol, symbol_height}
@@ -74,14 +75,14 @@ module _ {D T : Type 0} (m : Sense D T) (types : TypeTable) where
   pub operator_gates_are : (op : BinaryOp) (d : D) (gs : List Gate) (s t u : Sort) (x y : Symbol T)
       → IsSymbol m d gs s x → IsSymbol m d gs t y → operated_sort op (Some s) (Some t) ≡ Some u
       → operator_gates m types op d x y ≡ (if is_equality op
-      then by_sort 64 1 (λ of. 4 * (32 + bits_at m types of (min (symbol_height m d x) (symbol_height m d y)))) s
+      then by_sort 64 1 (λ of. equality_gates m types of (min (symbol_height m d x) (symbol_height m d y))) s
       else binary_gates types op 0 s)
   operator_gates_are op d gs s t u x y is other sorted = by op sorted
     where
       h : ℕ
       h = min (symbol_height m d x) (symbol_height m d y)
 
-      compared : (s ≡ t) → compare_gates m types d x y ≡ by_sort 64 1 (λ of. 4 * (32 + bits_at m types of h)) s
+      compared : (s ≡ t) → compare_gates m types d x y ≡ by_sort 64 1 (λ of. equality_gates m types of h) s
       compared same =
           compare_gates_are m types d gs s x y is (subst (λ q. IsSymbol m d gs q y) (sym same) other)
 
@@ -90,7 +91,7 @@ module _ {D T : Type 0} (m : Sense D T) (types : TypeTable) where
 
       by : (o : BinaryOp) → operated_sort o (Some s) (Some t) ≡ Some u
           → operator_gates m types o d x y ≡ (if is_equality o
-          then by_sort 64 1 (λ of. 4 * (32 + bits_at m types of h)) s else binary_gates types o 0 s)
+          then by_sort 64 1 (λ of. equality_gates m types of h) s else binary_gates types o 0 s)
       by Equal sorted = compared (equal_sorts s t u sorted)
       by Differ sorted = compared (equal_sorts s t u sorted)
       by Add sorted = plain Add

@@ -6,11 +6,11 @@ pub mod StepLists
 pub mod StepGates
 pub mod Told
 pub mod TruthSteps
+pub mod Expanded
 pub mod Fields
 pub mod TreeSteps
 pub mod Reading
 pub mod OperatorSteps
 pub mod WordSteps
-pub mod UnknownSymbols
 pub mod ManyUnknown
 pub mod Progress

@@ -29,7 +29,8 @@ use Rattle.pp_domain.proofs.Composition.{Extended_none, Moves_more, Moves_none}
 use Rattle.pp_domain.proofs.Symbols.{AreSymbols_later, SymbolsStand_later, symbol_height_later}
 use Rattle.pp_build.specs.StepGates.{opened_gates}
 use Rattle.pp_prog.proofs.ValueSorts.{have_more, have_one}
-use Rattle.pp_build.specs.Unknown.{AreUnknown, AreUpTo, IsUnknownSymbol, IsUpTo}
+use Rattle.pp_domain.specs.AnySort.{IsUnknownSymbol, IsUpTo}
+use Rattle.pp_build.specs.Unknown.{AreUnknown, AreUpTo}
 use Rattle.pp_build.proofs.Kept.{agree_self}
 
 -- ---- values
@@ -288,7 +289,8 @@ module _ {D T : Type 0} (m : Sense D T) (types : TypeTable) where
         ≡ sum (map (opened_gates m types h) (take i ss)) + opened_gates m types h s
     gates_next =
         sum-map (opened_gates m types h) (take (i + 1) ss) ∙ sum_by_more (opened_gates m types h) ss i sort.Int lt
-        ∙ ap (λ k. k + opened_gates m types h (get_or ss i sort.Int)) (sym (sum-map (opened_gates m types h) (take i ss)))
+        ∙ ap (λ k. k + opened_gates m types h (get_or ss i sort.Int))
+        (sym (sum-map (opened_gates m types h) (take i ss)))
         ∙ ap (λ r. sum (map (opened_gates m types h) (take i ss)) + opened_gates m types h r) at
 
     gates_within : sum (map (opened_gates m types h) (take i ss)) + opened_gates m types h s
@@ -314,12 +316,13 @@ module _ {D T : Type 0} (m : Sense D T) (types : TypeTable) where
         → Moves m types e hs f is (opened_gates m types h s) → IsUnknownSymbol m types e hs f is s h x
         → ys ≡ xs ++ x ∷ [] → OpenedTo d gs ss h (i + 1) f is ys
     opened_turn f is x ys some moves unknown push = record {
-      moves = Moves_more m types d e f gs hs is (sum (map (opened_gates m types h) (take i ss))) (opened_gates m types h s)
-          (sum (map (opened_gates m types h) (take (i + 1) ss))) opened.moves moves (omega (arith, gates_next));
+      moves = Moves_more m types d e f gs hs is (sum (map (opened_gates m types h) (take i ss)))
+          (opened_gates m types h s) (sum (map (opened_gates m types h) (take (i + 1) ss))) opened.moves moves
+          (omega (arith, gates_next));
       unknown = subst (λ ts. AreUnknown m types d gs f is ts h ys)
           (sym (take_more ss i sort.Int lt ∙ ap (λ r. take i ss ++ r ∷ []) at))
-          (AreUnknown_push d e f gs hs is h (sum (map (opened_gates m types h) (take i ss))) (opened_gates m types h s) some
-          opened.moves moves (take i ss) s xs ys x opened.unknown unknown push);
+          (AreUnknown_push d e f gs hs is h (sum (map (opened_gates m types h) (take i ss)))
+          (opened_gates m types h s) some opened.moves moves (take i ss) s xs ys x opened.unknown unknown push);
     }
 
   -- all of them

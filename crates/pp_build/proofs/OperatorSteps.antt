@@ -1,5 +1,6 @@
 -- Performed steps that are operators, and steps of which nothing is known.
-use Rattle.std.proofs.Common.{◌≡◌, ◌+◌, ◌*◌, if◌then◌else◌, ℕ, min, true, false, List, [], ◌∷◌, arith, length, Some}
+use Rattle.std.proofs.Common.{◌≡◌, ◌+◌, ◌*◌, if◌then◌else◌, ℕ, min, true, false, List, [], ◌∷◌, ◌++◌, arith, length}
+use Rattle.std.proofs.Common.{Some}
 use Rattle.std.proofs.Common.{slice_get, refl, sym, ap, ◌∙◌, subst}
 use Rattle.pp_prog.specs.declared.expr.BinaryOp.{BinaryOp}
 use Rattle.pp_prog.specs.declared.expr.UnaryOp.{UnaryOp}
@@ -10,7 +11,7 @@ use Rattle.pp_prog.specs.declared.value.Value.TheVariants.{Bool as Truth}
 use Rattle.pp_prog.specs.Sizes.{by_sort, height_at}
 use Rattle.pp_gate.specs.declared.gate.Gate.{Gate}
 use Rattle.pp_domain.specs.declared.symbol.Symbol.{Symbol}
-use Rattle.pp_domain.specs.AnySort.{AreOfOneSort}
+use Rattle.pp_domain.specs.AnySort.{AreOfOneSort, IsUnknownSymbol}
 use Rattle.pp_domain.specs.Sense.{Sense}
 use Rattle.pp_domain.specs.Symbols.{IsSymbol, SymbolStands, symbol_height}
 use Rattle.pp_domain.specs.Moves.{Moves}
@@ -23,15 +24,18 @@ use Rattle.pp_steps.specs.declared.step.Step.TheVariants as steps
 use Rattle.pp_steps.specs.Gates.{Heights, binary_gates, height_of}
 use Rattle.pp_steps.specs.Known.{Tells}
 use Rattle.pp_steps.specs.Sorted.{Sorts}
-use Rattle.pp_domain.specs.Allowance.{bits_at, nodes_at}
+use Rattle.pp_domain.specs.Allowance.{bits_at, equality_gates, nodes_at}
+use Rattle.pp_build.specs.Registers.{AreExpanded}
+use Rattle.pp_build.specs.StepGates.{looked_trees}
+use Rattle.pp_build.proofs.Expanded.{none_expanded}
 use Rattle.pp_build.proofs.StepGates.{keeps_compared, keeps_same}
 use Rattle.pp_steps.specs.Meaning.{Values, applied, value_or}
 use Rattle.pp_build_operators.specs.Budget.{goes_down_gates, is_equality, operator_gates}
 use Rattle.pp_build_operators.specs.Operated.{IsBinary, IsDescent, IsUnary, StandsAs}
 use Rattle.pp_build.specs.Performed.{CanPerform, Performs}
-use Rattle.pp_build.specs.Unknown.{IsUnknownSymbol}
 use Rattle.pp_build.proofs.Operands.{operand_stands, step_known}
-use Rattle.pp_build.proofs.Performing.{IsCount, exactly}
+use Rattle.pp_domain.proofs.Composition.{exactly}
+use Rattle.pp_build.proofs.Performing.{IsCount}
 use Rattle.pp_build.proofs.Told.{performed}
 use Rattle.pp_build.proofs.Gates.{goes_down_gates_are, operator_gates_are}
 
@@ -42,19 +46,20 @@ module _ {D T : Type 0} (m : Sense D T) (types : TypeTable) (d : D) (gs : List G
   nothing_told : (step : Step) (s : Sort)
       → ((can : CanPerform m types d gs rs step) → can.sorts (length rs) ≡ s)
       → ((σ : Sorts) (η : Heights) → height_of types σ η (length rs) step ≡ 0)
-      → ((ρ : Values) (K : ℕ → Type 0) → Tells ρ K step (length rs))
+      → ((ρ : Values) (K : ℕ → Type 0) → Tells ρ K step (length rs)) → looked_trees (length rs) step ≡ []
       → (e : D) (hs : List Gate) (r : Symbol T)
       → IsUnknownSymbol m types d gs e hs s 0 r → Performs m types d gs rs step e hs r
-  nothing_told step s of_sort low tells e hs r unknown can = record {
+  nothing_told step s of_sort low tells none e hs r unknown can = record {
     of = subst (λ q. IsSymbol m e hs q r) (sym (of_sort can)) unknown.of;
     high = unknown.height ∙ no_height s ∙ sym (low can.sorts can.heights);
     extends = λ exact n a good. unknown.extends exact refl n a good;
-    looks = keeps_same m types d e can.sorts (length rs) step (λ inexact. unknown.looks);
+    looks = keeps_same m types d e can.sorts can.seen (length rs) step (λ inexact. unknown.looks);
+    expanded = subst (AreExpanded m e (rs ++ r ∷ [])) (sym none) (none_expanded m e (rs ++ r ∷ []));
     follows = λ inexact n a ρ missing follow.
         let k = length rs in
         unknown.named inexact n a (ρ k) follow.good
         (subst (λ q. has_sort types.ctors (ρ k) q ≡ true) (of_sort can) (follow.are.sorted k (omega arith)))
-        (follow.are.named k (omega arith)).whole;
+        (follow.are.named k (omega arith));
     known = λ n a ρ missing good compared is. tells ρ _;
   }
     where
@@ -65,16 +70,16 @@ module _ {D T : Type 0} (m : Sense D T) (types : TypeTable) (d : D) (gs : List G
 
   pub unknown_performed : (s : Sort) (e : D) (hs : List Gate) (r : Symbol T)
       → IsUnknownSymbol m types d gs e hs s 0 r → Performs m types d gs rs (steps.Open s) e hs r
-  unknown_performed s = nothing_told (steps.Open s) s (λ can. can.sorted.0) (λ σ η. refl) (λ ρ K. tt)
+  unknown_performed s = nothing_told (steps.Open s) s (λ can. can.sorted.0) (λ σ η. refl) (λ ρ K. tt) refl
 
   pub has_answer_performed : (c : OpenCall) (e : D) (hs : List Gate) (r : Symbol T)
       → IsUnknownSymbol m types d gs e hs sort.Bool 0 r → Performs m types d gs rs (steps.HasAnswer c) e hs r
   has_answer_performed c =
-      nothing_told (steps.HasAnswer c) sort.Bool (λ can. can.sorted.2) (λ σ η. refl) (λ ρ K. tt)
+      nothing_told (steps.HasAnswer c) sort.Bool (λ can. can.sorted.2) (λ σ η. refl) (λ ρ K. tt) refl
 
   pub answer_performed : (c : OpenCall) (e : D) (hs : List Gate) (r : Symbol T)
       → IsUnknownSymbol m types d gs e hs c.result 0 r → Performs m types d gs rs (steps.Answer c) e hs r
-  answer_performed c = nothing_told (steps.Answer c) c.result (λ can. can.sorted.1) (λ σ η. refl) (λ ρ K. tt)
+  answer_performed c = nothing_told (steps.Answer c) c.result (λ can. can.sorted.1) (λ σ η. refl) (λ ρ K. tt) refl
 
   -- ---- one operand
 
@@ -84,7 +89,8 @@ module _ {D T : Type 0} (m : Sense D T) (types : TypeTable) (d : D) (gs : List G
   unary_performed op i x e hs g moves r at unary can =
       let made = unary (can.sorts i) (can.sorts (length rs)) (can.registers.of i x at) can.sorted in
       performed m types d e gs hs g moves rs (steps.Unary op i) can r tt
-      (keeps_same m types d e can.sorts (length rs) (steps.Unary op i) made.0.looks) made.0.of made.0.low
+      (keeps_same m types d e can.sorts can.seen (length rs) (steps.Unary op i) made.2)
+      (none_expanded m e (rs ++ r ∷ [])) made.0.of made.0.low
       (λ exact n a good. made.0.extends n a good (exactly m _ exact))
       (λ inexact n a ρ missing follow. made.0.extends n a follow.good
       (λ _. (ρ i ∷ [], (follow.stand i x at, tt))))
@@ -100,11 +106,11 @@ module _ {D T : Type 0} (m : Sense D T) (types : TypeTable) (d : D) (gs : List G
     binary_count op can =
         operator_gates_are m types op d gs (can.sorts i) (can.sorts j) (can.sorts (length rs)) x y
         (can.registers.of i x left) (can.registers.of j y right) can.sorted
-        ∙ ap (λ h. if is_equality op then by_sort 64 1 (λ of. 4 * (32 + bits_at m types of
-        (min h (symbol_height m d y)))) (can.sorts i) else binary_gates types op 0 (can.sorts i))
+        ∙ ap (λ h. if is_equality op then by_sort 64 1 (λ of. equality_gates m types of
+        (min h (symbol_height m d y))) (can.sorts i) else binary_gates types op 0 (can.sorts i))
         (can.registers.high i x left)
-        ∙ ap (λ h. if is_equality op then by_sort 64 1 (λ of. 4 * (32 + bits_at m types of
-        (min (can.heights i) h))) (can.sorts i) else binary_gates types op 0 (can.sorts i))
+        ∙ ap (λ h. if is_equality op then by_sort 64 1 (λ of. equality_gates m types of
+        (min (can.heights i) h)) (can.sorts i) else binary_gates types op 0 (can.sorts i))
         (can.registers.high j y right)
 
     pub binary_performed : (op : BinaryOp) (e : D) (hs : List Gate) (g : ℕ) → Moves m types d gs e hs g
@@ -113,7 +119,8 @@ module _ {D T : Type 0} (m : Sense D T) (types : TypeTable) (d : D) (gs : List G
         let made = binary (can.sorts i) (can.sorts j) (can.sorts (length rs)) (can.registers.of i x left)
         (can.registers.of j y right) can.sorted in
         performed m types d e gs hs g moves rs (steps.Binary op i j) can r tt
-        (keeps_same m types d e can.sorts (length rs) (steps.Binary op i j) made.0.looks) made.0.of made.0.low
+        (keeps_same m types d e can.sorts can.seen (length rs) (steps.Binary op i j) made.2)
+        (none_expanded m e (rs ++ r ∷ [])) made.0.of made.0.low
         (λ exact n a good. made.0.extends n a good (exactly m _ exact))
         (λ inexact n a ρ missing follow. made.0.extends n a follow.good
         (λ _. (ρ i ∷ ρ j ∷ [], (follow.stand i x left, (follow.stand j y right, tt)))))
@@ -149,7 +156,8 @@ module _ {D T : Type 0} (m : Sense D T) (types : TypeTable) (d : D) (gs : List G
           of = subst (λ s. IsSymbol m e hs s r) (sym can.sorted.1) made.0.of;
           high = made.0.low;
           extends = λ exact n a good. made.0.extends n a good (exactly m _ exact);
-          looks = keeps_compared m types d e can.sorts (length rs) i j made.0.looks made.0.compares;
+          looks = keeps_compared m types d e can.sorts can.seen (length rs) i j made.3;
+          expanded = none_expanded m e (rs ++ r ∷ []);
           follows = λ inexact n a ρ missing follow.
               let lt = can.reads.0 in
               let less = can.reads.1 in

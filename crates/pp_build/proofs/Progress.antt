@@ -23,7 +23,7 @@ use Rattle.pp_domain.proofs.Composition.{Extended_more, Extended_none, Moves_mor
 use Rattle.pp_steps.specs.declared.step.Step.{Step}
 use Rattle.pp_steps.specs.Gates.{Heights}
 use Rattle.pp_prog.specs.declared.id.DataId.{DataId}
-use Rattle.pp_build.specs.StepGates.{all_step_gates, compared, looked, step_gates}
+use Rattle.pp_build.specs.StepGates.{all_step_gates, compared, looked, looked_trees, step_gates}
 use Rattle.pp_build.proofs.StepGates.{left_gates, step_gates_at}
 use Rattle.pp_steps.specs.Known.{Tells}
 use Rattle.pp_steps.specs.Meaning.{Does, Missing, Values}
@@ -31,7 +31,8 @@ use Rattle.pp_steps.specs.Sorted.{Sorts}
 use Rattle.pp_build.specs.Built.{CanBuild, IsBuilt}
 use Rattle.pp_build.specs.Followed.{AllStand, CanFollow, CanFollowAll, Compares, GoesAll}
 use Rattle.pp_build.specs.Performed.{CanPerform, IsPerformed, Leaves, Performs}
-use Rattle.pp_build.specs.Registers.{AreRegisters, IsKnown}
+use Rattle.pp_build.specs.Registers.{AreExpanded, AreRegisters, IsKnown}
+use Rattle.pp_build.proofs.Expanded.{both_expanded, expanded_later, none_expanded}
 use Rattle.pp_build.specs.Words.{AreWords, KeepsDomain}
 use Rattle.pp_build.proofs.Kept.{agree_self, AreRegisters_later, AreRegisters_push, IsKnown_earlier, IsKnown_later}
 use Rattle.pp_build.proofs.StepLists.{all_tell, at_dropped, dropped_at, high_at, reads_at, sorted_at}
@@ -49,7 +50,9 @@ module _ {D T : Type 0} (m : Sense D T) (types : TypeTable) (d : D) (gs : List G
     where
       pub spent : ℕ
       pub moves : Moves m types d gs e hs spent
-      pub few : spent + all_step_gates m types σ η (m.looks e) (m.compares e) (length rs) (drop (length rs) steps)
+      pub seen : List ℕ
+      pub expanded : AreExpanded m e rs seen
+      pub few : spent + all_step_gates m types σ η (m.looks e) (m.compares e) seen (length rs) (drop (length rs) steps)
           ≤ most
       pub words : AreWords σ (length steps) → e ≡ d
       pub longer : length qs ≤ length rs
@@ -71,6 +74,8 @@ module _ {D T : Type 0} (m : Sense D T) (types : TypeTable) (d : D) (gs : List G
   building_start law fits most can = record {
     spent = 0;
     moves = Moves_none m types law d gs fits;
+    seen = [];
+    expanded = none_expanded m d qs;
     few = let f = can.few in omega arith;
     words = λ are. refl;
     longer = omega arith;
@@ -99,10 +104,13 @@ module _ {D T : Type 0} (m : Sense D T) (types : TypeTable) (d : D) (gs : List G
       registers = built.registers;
       reads = reads_at 0 steps (length rs) (length rs) s can.reads at (omega arith);
       sorted = sorted_at types can.sorts 0 steps (length rs) (length rs) s can.sorted at (omega arith);
+      seen = built.seen;
+      expanded = built.expanded;
       room =
           let grown = (length-Grows gs hs built.spent built.moves.grows).1 in
           let few = built.few in
-          let here = step_gates_at m types can.sorts can.heights (m.looks e) (m.compares e) steps (length rs) s at in
+          let here = step_gates_at m types can.sorts can.heights (m.looks e) (m.compares e) built.seen steps
+          (length rs) s at in
           let room = can.room in
           omega arith;
     }
@@ -113,10 +121,11 @@ module _ {D T : Type 0} (m : Sense D T) (types : TypeTable) (d : D) (gs : List G
     unfolding can_perform
     building_left f is building leaves most can =
         let built = building most can in
-        let here = step_gates_at m types can.sorts can.heights (m.looks e) (m.compares e) steps (length rs) s at in
+        let here = step_gates_at m types can.sorts can.heights (m.looks e) (m.compares e) built.seen steps
+        (length rs) s at in
         let few = built.few in
         Moves_more m types d e f gs hs is built.spent
-        (step_gates m types can.sorts can.heights (m.looks e) (m.compares e) (length rs) s) most built.moves
+        (step_gates m types can.sorts can.heights (m.looks e) (m.compares e) built.seen (length rs) s) most built.moves
         (leaves (can_perform most can built)) (omega arith)
 
     -- on words it leaves the domain that there was before all steps
@@ -137,6 +146,10 @@ module _ {D T : Type 0} (m : Sense D T) (types : TypeTable) (d : D) (gs : List G
           spent = built.spent + here;
           moves = Moves_more m types d e f gs hs is built.spent here (built.spent + here) built.moves moves
               (omega arith);
+          seen = seen_after;
+          expanded = both_expanded m f (rs ++ r ∷ []) (looked_trees (length rs) s) built.seen done.expanded
+              (expanded_later m types e f hs is here can.sorts can.heights rs r built.seen moves built.registers
+              built.expanded);
           few = (let few = built.few in let all = gates_here in omega (arith, gates_next, gates_left));
           words = λ are. building_kept f building keeps most can are;
           longer = (let l = built.longer in omega (arith, next));
@@ -171,43 +184,48 @@ module _ {D T : Type 0} (m : Sense D T) (types : TypeTable) (d : D) (gs : List G
         step = can_perform most can built
 
         here : ℕ
-        here = step_gates m types can.sorts can.heights (m.looks e) (m.compares e) (length rs) s
+        here = step_gates m types can.sorts can.heights (m.looks e) (m.compares e) built.seen (length rs) s
 
         moves : Moves m types e hs f is here
         moves = leaves step
 
-        done : IsPerformed m types e hs rs s can.sorts can.heights f is r
+        done : IsPerformed m types e hs rs s can.sorts can.heights built.seen f is r
         done = performs step
 
         next : length (rs ++ r ∷ []) ≡ suc (length rs)
         next = let e = length-append rs (r ∷ []) in omega arith
 
         after : List DataId
-        after = looked can.sorts (length rs) s ++ m.looks e
+        after = looked can.sorts built.seen (length rs) s ++ m.looks e
+
+        seen_after : List ℕ
+        seen_after = looked_trees (length rs) s ++ built.seen
 
         compares_after : ℕ
         compares_after = compared can.sorts s + m.compares e
 
-        gates_here : all_step_gates m types can.sorts can.heights (m.looks e) (m.compares e) (length rs)
+        gates_here : all_step_gates m types can.sorts can.heights (m.looks e) (m.compares e) built.seen (length rs)
             (drop (length rs) steps)
-            ≡ here + all_step_gates m types can.sorts can.heights after compares_after (suc (length rs))
+            ≡ here + all_step_gates m types can.sorts can.heights after compares_after seen_after (suc (length rs))
             (drop (suc (length rs)) steps)
-        gates_here = step_gates_at m types can.sorts can.heights (m.looks e) (m.compares e) steps (length rs) s at
+        gates_here =
+            step_gates_at m types can.sorts can.heights (m.looks e) (m.compares e) built.seen steps (length rs) s at
 
         -- after the step no more is left than was counted
-        gates_left : all_step_gates m types can.sorts can.heights (m.looks f) (m.compares f) (suc (length rs))
+        gates_left : all_step_gates m types can.sorts can.heights (m.looks f) (m.compares f) seen_after
+            (suc (length rs)) (drop (suc (length rs)) steps)
+            ≤ all_step_gates m types can.sorts can.heights after compares_after seen_after (suc (length rs))
             (drop (suc (length rs)) steps)
-            ≤ all_step_gates m types can.sorts can.heights after compares_after (suc (length rs))
-            (drop (suc (length rs)) steps)
-        gates_left = left_gates m types can.sorts can.heights e f (length rs) s (suc (length rs))
+        gates_left = left_gates m types can.sorts can.heights e f built.seen (length rs) s seen_after (suc (length rs))
             (drop (suc (length rs)) steps) done.looks
 
-        gates_next : all_step_gates m types can.sorts can.heights (m.looks f) (m.compares f) (length (rs ++ r ∷ []))
-            (drop (length (rs ++ r ∷ [])) steps)
-            ≡ all_step_gates m types can.sorts can.heights (m.looks f) (m.compares f) (suc (length rs))
+        gates_next : all_step_gates m types can.sorts can.heights (m.looks f) (m.compares f) seen_after
+            (length (rs ++ r ∷ [])) (drop (length (rs ++ r ∷ [])) steps)
+            ≡ all_step_gates m types can.sorts can.heights (m.looks f) (m.compares f) seen_after (suc (length rs))
             (drop (suc (length rs)) steps)
         gates_next =
-            ap (λ n. all_step_gates m types can.sorts can.heights (m.looks f) (m.compares f) n (drop n steps)) next
+            ap (λ n. all_step_gates m types can.sorts can.heights (m.looks f) (m.compares f) seen_after n
+            (drop n steps)) next
 
         place : ℕ
         place = length rs - length qs
@@ -229,7 +247,7 @@ module _ {D T : Type 0} (m : Sense D T) (types : TypeTable) (d : D) (gs : List G
             sorted = λ k below. all.are.sorted k (omega (arith, within));
             named = λ k below. all.are.named k (omega (arith, within));
           };
-          default = all.defaults (length rs) s built.longer at;
+          looked = all.looked (length rs) s built.longer at;
           does = all.does (length rs) s built.longer at;
         }
 

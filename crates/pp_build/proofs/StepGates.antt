@@ -1,8 +1,9 @@
 -- The gates of steps: in an exact domain those by heights, in another one no more after fewer looks.
-use Rattle.std.proofs.Common.{◌≡◌, ℕ, suc, ◌+◌, ◌*◌, ◌≤◌, max, min, nat_eq, Bool, true, false, ◌&&◌, if◌then◌else◌}
+use Rattle.std.proofs.Common.{◌≡◌, ℕ, suc, ◌+◌, ◌*◌, ◌≤◌, max, min, nat_eq, Bool, true, false, if◌then◌else◌}
 use Rattle.std.proofs.Common.{List, []}
 use Rattle.std.proofs.Common.{◌∷◌, ◌++◌, drop, length, map, sum, Some, slice_get, refl, sym, ap, ◌∙◌, subst, arith}
 use Rattle.std.proofs.Common.{inl, inr, ◌⊎◌}
+use Rattle.std.proofs.lemmas.Bool.{eq-eqb, eqb-true}
 use Rattle.pp_prog.specs.declared.expr.BinaryOp.{BinaryOp}
 use Rattle.pp_prog.specs.declared.expr.BinaryOp.TheVariants.{Add, Sub, Mul, Div, Rem, Equal, Differ, Less, AtMost}
 use Rattle.pp_prog.specs.declared.expr.BinaryOp.TheVariants.{More}
@@ -12,9 +13,9 @@ use Rattle.pp_prog.specs.declared.sort.Sort.{Sort}
 use Rattle.pp_prog.specs.declared.sort.Sort.TheVariants as sort
 use Rattle.pp_prog.specs.declared.types.TypeTable.{TypeTable}
 use Rattle.pp_prog.specs.Sizes.{bits, by_sort, flat, nodes}
-use Rattle.pp_domain.specs.Allowance.{bits_at, look_gates, nodes_at, times}
+use Rattle.pp_domain.specs.Allowance.{bits_at, equality_gates, look_gates, nodes_at, times}
 use Rattle.pp_domain.specs.Moves.{FirstLook, LooksAt, SameLooks}
-use Rattle.pp_domain.specs.Sense.{Sense}
+use Rattle.pp_domain.specs.Sense.{Inexact, Sense}
 use Rattle.pp_gate.specs.declared.gate.Gate.{Gate}
 use Rattle.pp_steps.specs.declared.step.Step.{Step}
 use Rattle.pp_steps.specs.declared.step.Step.TheVariants as steps
@@ -22,7 +23,8 @@ use Rattle.pp_steps.specs.Gates.{Heights, all_gates, gates_of, open_gates}
 use Rattle.pp_steps.specs.Sorted.{Sorts}
 use Rattle.pp_build.proofs.StepLists.{drop_at}
 use Rattle.pp_build.specs.StepGates.{AtMostIn, KeepsLooks, all_step_gates, compared, looked, one_look}
-use Rattle.pp_build.specs.StepGates.{opened_gates, step_gates}
+use Rattle.pp_build.specs.StepGates.{is_seen, looked_trees, opened_gates, step_gates}
+use Rattle.pp_build_operators.specs.Operated.{CountsOne}
 
 -- ---- fewer looks
 
@@ -33,6 +35,11 @@ more_times d e xs = by (nat_eq e.0 d.0)
     by true = omega arith
     by false = omega arith
 
+pub more_times_all : (d : DataId) (fs xs ys : List DataId) → times d xs ≤ times d ys → times d xs ≤ times d (fs ++ ys)
+more_times_all d [] xs ys le = le
+more_times_all d (f ∷ fs) xs ys le =
+    let rest = more_times_all d fs xs ys le in let one = more_times d f (fs ++ ys) in omega arith
+
 same_times : (d e : DataId) (xs ys : List DataId) → times d xs ≤ times d ys → times d (e ∷ xs) ≤ times d (e ∷ ys)
 same_times d e xs ys le = by (nat_eq e.0 d.0)
   where
@@ -40,11 +47,64 @@ same_times d e xs ys le = by (nat_eq e.0 d.0)
     by true = omega arith
     by false = le
 
+-- the list without the first of these datatypes
+abbrev without_one : DataId → List DataId → List DataId
+without_one d [] = []
+without_one d (y ∷ ys) = if nat_eq y.0 d.0 then ys else y ∷ without_one d ys
+
+without_shorter : (d : DataId) (ys : List DataId) → 1 ≤ times d ys → length ys ≡ suc (length (without_one d ys))
+without_shorter d [] has = omega (arith, has)
+without_shorter d (y ∷ ys) has = by (nat_eq y.0 d.0) has (without_shorter d ys)
+  where
+    by : (b : Bool) → 1 ≤ (if b then 1 + times d ys else times d ys)
+        → (1 ≤ times d ys → length ys ≡ suc (length (without_one d ys)))
+        → suc (length ys) ≡ suc (length (if b then ys else y ∷ without_one d ys))
+    by true has rest = refl
+    by false has rest = ap suc (rest has)
+
+-- it stood there
+without_times : (d e : DataId) (ys : List DataId) → times e ys ≤ times e (d ∷ without_one d ys)
+without_times d e [] = omega arith
+without_times d e (y ∷ ys) = by (nat_eq y.0 d.0) refl (without_times d e ys)
+  where
+    next : (a c : Bool) (n m : ℕ) → n ≤ (if a then 1 + m else m)
+        → (if c then 1 + n else n) ≤ (if a then 1 + (if c then 1 + m else m) else (if c then 1 + m else m))
+    next true true n m le = omega arith
+    next true false n m le = omega arith
+    next false true n m le = omega arith
+    next false false n m le = omega arith
+
+    by : (b : Bool) → nat_eq y.0 d.0 ≡ b → times e ys ≤ times e (d ∷ without_one d ys)
+        → times e (y ∷ ys) ≤ times e (d ∷ (if b then ys else y ∷ without_one d ys))
+    by true same rest =
+        subst (λ k. times e (y ∷ ys) ≤ (if nat_eq k e.0 then 1 + times e ys else times e ys)) (eqb-true y.0 d.0 same)
+        (omega arith)
+    by false other rest =
+        next (nat_eq d.0 e.0) (nat_eq y.0 e.0) (times e ys) (times e (without_one d ys)) rest
+
+-- so the first list isn't longer
+fewer_long : (xs ys : List DataId) → AtMostIn xs ys → length xs ≤ length ys
+fewer_long [] ys fewer = omega arith
+fewer_long (x ∷ xs) ys fewer =
+    let has : 1 ≤ times x ys = one x (times x xs) (fewer x) in
+    let rest = fewer_long xs (without_one x ys)
+    (λ d. cancelled (nat_eq x.0 d.0) _ _ _ (fewer d) (without_times x d ys)) in
+    let shorter = without_shorter x ys has in
+    omega (arith, rest, shorter)
+  where
+    cancelled : (b : Bool) (k m n : ℕ) → (if b then 1 + k else k) ≤ m → m ≤ (if b then 1 + n else n) → k ≤ n
+    cancelled true k m n le more = omega arith
+    cancelled false k m n le more = omega arith
+
+    one : (d : DataId) (k : ℕ) → (if nat_eq d.0 d.0 then 1 + k else k) ≤ times d ys → 1 ≤ times d ys
+    one d k le =
+        subst (λ (b : Bool). (if b then 1 + k else k) ≤ times d ys → 1 ≤ times d ys) (sym (eq-eqb d.0 d.0 refl))
+        (λ more. omega (arith, more)) le
+
 pub fewer_after : (fs xs ys : List DataId) → AtMostIn xs ys → AtMostIn (fs ++ xs) (fs ++ ys)
 fewer_after [] xs ys fewer = fewer
 fewer_after (f ∷ fs) xs ys fewer =
-    let rest = fewer_after fs xs ys fewer in
-    record { each = λ d. same_times d f (fs ++ xs) (fs ++ ys) (rest.each d); all = omega (arith, rest.all) }
+    let rest = fewer_after fs xs ys fewer in λ d. same_times d f (fs ++ xs) (fs ++ ys) (rest d)
 
 product_le : (a b c : ℕ) → a ≤ b → a * c ≤ b * c
 product_le a b c le = grind (arith)
@@ -52,7 +112,7 @@ product_le a b c le = grind (arith)
 look_le : (types : TypeTable) (xs ys : List DataId) (j k : ℕ) (d : DataId) → AtMostIn xs ys → j ≤ k
     → look_gates types xs j d ≤ look_gates types ys k d
 look_le types xs ys j k d fewer le =
-    let p = product_le (times d xs) (times d ys) (64 + 4 * flat types d) (fewer.each d) in omega arith
+    let p = product_le (times d xs) (times d ys) (64 + 4 * flat types d) (fewer d) in omega arith
 
 module _ {D T : Type 0} (m : Sense D T) (types : TypeTable) where
   one_look_le : (xs ys : List DataId) (j k : ℕ) (d : DataId) → AtMostIn xs ys → j ≤ k
@@ -69,6 +129,10 @@ module _ {D T : Type 0} (m : Sense D T) (types : TypeTable) where
   sort_look_le xs ys j k sort.Bool fewer le = omega arith
   sort_look_le xs ys j k (sort.Tree d) fewer le = one_look_le xs ys j k d fewer le
 
+  new_look_le : (b : Bool) (x y : ℕ) → x ≤ y → (if b then 0 else x) ≤ (if b then 0 else y)
+  new_look_le true x y le = omega arith
+  new_look_le false x y le = le
+
   compare_le : (xs ys : List DataId) (one : DataId → ℕ) (s : Sort) → AtMostIn xs ys
       → by_sort 1024 0 (λ of. if m.exact then one of else 194 + 128 * length xs) s
       ≤ by_sort 1024 0 (λ of. if m.exact then one of else 194 + 128 * length ys) s
@@ -78,36 +142,40 @@ module _ {D T : Type 0} (m : Sense D T) (types : TypeTable) where
     where
       by : (b : Bool) → (if b then one of else 194 + 128 * length xs) ≤ (if b then one of else 194 + 128 * length ys)
       by true = omega arith
-      by false = (let all = fewer.all in omega arith)
+      by false = (let all = fewer_long xs ys fewer in omega arith)
 
   module _ (σ : Sorts) (η : Heights) where
-    pub step_gates_le : (xs ys : List DataId) (j k i : ℕ) (s : Step) → AtMostIn xs ys → j ≤ k
-        → step_gates m types σ η xs j i s ≤ step_gates m types σ η ys k i s
-    step_gates_le xs ys j k i (steps.Open s) fewer le = omega arith
-    step_gates_le xs ys j k i (steps.Int n) fewer le = omega arith
-    step_gates_le xs ys j k i (steps.Bool b) fewer le = omega arith
-    step_gates_le xs ys j k i (steps.Not a) fewer le = omega arith
-    step_gates_le xs ys j k i (steps.Both a b) fewer le = omega arith
-    step_gates_le xs ys j k i (steps.Choose c a b) fewer le = omega arith
-    step_gates_le xs ys j k i (steps.Unary op a) fewer le = omega arith
-    step_gates_le xs ys j k i (steps.Binary op a b) fewer le = omega arith
-    step_gates_le xs ys j k i (steps.Construct c fields) fewer le = sort_look_le xs ys j k (σ i) fewer le
-    step_gates_le xs ys j k i (steps.IsCtor c n a) fewer le = sort_look_le xs ys j k (σ a) fewer le
-    step_gates_le xs ys j k i (steps.CtorField c n a) fewer le = sort_look_le xs ys j k (σ a) fewer le
-    step_gates_le xs ys j k i (steps.Field a n) fewer le = sort_look_le xs ys j k (σ a) fewer le
-    step_gates_le xs ys j k i (steps.IsAlike a b) fewer le = omega arith
-    step_gates_le xs ys j k i (steps.GoesDown a b) fewer le =
+    pub step_gates_le : (xs ys : List DataId) (j k : ℕ) (seen : List ℕ) (i : ℕ) (s : Step) → AtMostIn xs ys → j ≤ k
+        → step_gates m types σ η xs j seen i s ≤ step_gates m types σ η ys k seen i s
+    step_gates_le xs ys j k seen i (steps.Open s) fewer le = omega arith
+    step_gates_le xs ys j k seen i (steps.Int n) fewer le = omega arith
+    step_gates_le xs ys j k seen i (steps.Bool b) fewer le = omega arith
+    step_gates_le xs ys j k seen i (steps.Not a) fewer le = omega arith
+    step_gates_le xs ys j k seen i (steps.Both a b) fewer le = omega arith
+    step_gates_le xs ys j k seen i (steps.Choose c a b) fewer le = omega arith
+    step_gates_le xs ys j k seen i (steps.Unary op a) fewer le = omega arith
+    step_gates_le xs ys j k seen i (steps.Binary op a b) fewer le = omega arith
+    step_gates_le xs ys j k seen i (steps.Construct c fields) fewer le = sort_look_le xs ys j k (σ i) fewer le
+    step_gates_le xs ys j k seen i (steps.IsCtor c n a) fewer le =
+        new_look_le (is_seen seen a) _ _ (sort_look_le xs ys j k (σ a) fewer le)
+    step_gates_le xs ys j k seen i (steps.CtorField c n a) fewer le =
+        new_look_le (is_seen seen a) _ _ (sort_look_le xs ys j k (σ a) fewer le)
+    step_gates_le xs ys j k seen i (steps.Field a n) fewer le =
+        new_look_le (is_seen seen a) _ _ (sort_look_le xs ys j k (σ a) fewer le)
+    step_gates_le xs ys j k seen i (steps.IsAlike a b) fewer le = omega arith
+    step_gates_le xs ys j k seen i (steps.GoesDown a b) fewer le =
         compare_le xs ys (λ of. 64 + 4 * (32 + bits_at m types of (η a)) * (1 + nodes_at m types of (η b))) (σ a) fewer
-    step_gates_le xs ys j k i (steps.HasAnswer c) fewer le = omega arith
-    step_gates_le xs ys j k i (steps.Answer c) fewer le = omega arith
+    step_gates_le xs ys j k seen i (steps.HasAnswer c) fewer le = omega arith
+    step_gates_le xs ys j k seen i (steps.Answer c) fewer le = omega arith
 
-    pub all_step_gates_le : (xs ys : List DataId) (j k i : ℕ) (ss : List Step) → AtMostIn xs ys → j ≤ k
-        → all_step_gates m types σ η xs j i ss ≤ all_step_gates m types σ η ys k i ss
-    all_step_gates_le xs ys j k i [] fewer le = omega arith
-    all_step_gates_le xs ys j k i (s ∷ ss) fewer le =
-        let one = step_gates_le xs ys j k i s fewer le in
-        let rest = all_step_gates_le (looked σ i s ++ xs) (looked σ i s ++ ys) (compared σ s + j) (compared σ s + k)
-        (suc i) ss (fewer_after (looked σ i s) xs ys fewer) (omega arith) in
+    pub all_step_gates_le : (xs ys : List DataId) (j k : ℕ) (seen : List ℕ) (i : ℕ) (ss : List Step) → AtMostIn xs ys
+        → j ≤ k → all_step_gates m types σ η xs j seen i ss ≤ all_step_gates m types σ η ys k seen i ss
+    all_step_gates_le xs ys j k seen i [] fewer le = omega arith
+    all_step_gates_le xs ys j k seen i (s ∷ ss) fewer le =
+        let one = step_gates_le xs ys j k seen i s fewer le in
+        let rest = all_step_gates_le (looked σ seen i s ++ xs) (looked σ seen i s ++ ys) (compared σ s + j)
+        (compared σ s + k) (looked_trees i s ++ seen) (suc i) ss (fewer_after (looked σ seen i s) xs ys fewer)
+        (omega arith) in
         omega arith
 
   -- what a call that looks at a tree leaves
@@ -116,60 +184,65 @@ module _ {D T : Type 0} (m : Sense D T) (types : TypeTable) where
   looked_once d e gs hs t of at = by at.once
     where
       by : (SameLooks m d e × (hs ≡ gs)) ⊎ FirstLook m d e t of → AtMostIn (m.looks e) (of ∷ m.looks d)
-      by (inl same) = record {
-        each = λ x. subst (λ l. times x l ≤ times x (of ∷ m.looks d)) (sym same.0.looks) (more_times x of (m.looks d));
-        all = subst (λ l. length l ≤ length (of ∷ m.looks d)) (sym same.0.looks) (omega arith);
-      }
-      by (inr first) = record {
-        each = λ x. subst (λ l. times x l ≤ times x (of ∷ m.looks d)) (sym first.looks) (omega arith);
-        all = subst (λ l. length l ≤ length (of ∷ m.looks d)) (sym first.looks) (omega arith);
-      }
-
-  more_times_all : (d : DataId) (fs xs ys : List DataId) → times d xs ≤ times d ys → times d xs ≤ times d (fs ++ ys)
-  more_times_all d [] xs ys le = le
-  more_times_all d (f ∷ fs) xs ys le =
-      let rest = more_times_all d fs xs ys le in let one = more_times d f (fs ++ ys) in omega arith
-
-  longer : (fs ys : List DataId) → length ys ≤ length (fs ++ ys)
-  longer [] ys = omega arith
-  longer (f ∷ fs) ys = (let rest = longer fs ys in omega arith)
+      by (inl same) = λ x.
+          subst (λ l. times x l ≤ times x (of ∷ m.looks d)) (sym same.0.looks) (more_times x of (m.looks d))
+      by (inr first) = λ x. subst (λ l. times x l ≤ times x (of ∷ m.looks d)) (sym first.looks) (omega arith)
 
   -- a step that looks at no tree
-  pub keeps_same : (d e : D) (σ : Sorts) (k : ℕ) (s : Step) → (m.exact ≡ false → SameLooks m d e)
-      → KeepsLooks m d e σ k s
-  keeps_same d e σ k s same = record {
-    looks = λ inexact. record {
-      each = λ x. more_times_all x (looked σ k s) (m.looks e) (m.looks d)
-          (subst (λ l. times x l ≤ times x (m.looks d)) (sym (same inexact).looks) (omega arith));
-      all = subst (λ l. length l ≤ length (looked σ k s ++ m.looks d)) (sym (same inexact).looks)
-          (longer (looked σ k s) (m.looks d));
-    };
+  pub keeps_same : (d e : D) (σ : Sorts) (seen : List ℕ) (k : ℕ) (s : Step) → (m.exact ≡ false → SameLooks m d e)
+      → KeepsLooks m d e σ seen k s
+  keeps_same d e σ seen k s same = record {
+    looks = λ inexact x. more_times_all x (looked σ seen k s) (m.looks e) (m.looks d)
+        (subst (λ l. times x l ≤ times x (m.looks d)) (sym (same inexact).looks) (omega arith));
     compares = λ inexact. (let c = (same inexact).compares in omega arith);
   }
 
   -- a step that compares two
-  pub keeps_compared : (d e : D) (σ : Sorts) (k i j : ℕ) → (m.exact ≡ false → m.looks e ≡ m.looks d)
-      → (m.exact ≡ false → m.compares e ≤ by_sort 0 0 (λ of. 1) (σ i) + m.compares d)
-      → KeepsLooks m d e σ k (steps.GoesDown i j)
-  keeps_compared d e σ k i j same once = record {
-    looks = λ inexact. record {
-      each = λ x. subst (λ l. times x l ≤ times x (m.looks d)) (sym (same inexact)) (omega arith);
-      all = subst (λ l. length l ≤ length (m.looks d)) (sym (same inexact)) (omega arith);
-    };
-    compares = once;
+  pub keeps_compared : (d e : D) (σ : Sorts) (seen : List ℕ) (k i j : ℕ) → Inexact m (CountsOne m d e (σ i))
+      → KeepsLooks m d e σ seen k (steps.GoesDown i j)
+  keeps_compared d e σ seen k i j once = record {
+    looks = λ inexact x. subst (λ l. times x l ≤ times x (m.looks d)) (sym (once inexact).looks) (omega arith);
+    compares = λ inexact. (once inexact).compares;
   }
 
-  -- a step that looks at one
-  pub keeps_look : (d e : D) (gs hs : List Gate) (t : T) (of : DataId) (σ : Sorts) (k : ℕ) (s : Step)
-      → LooksAt m d gs e hs t of → looked σ k s ≡ of ∷ [] → KeepsLooks m d e σ k s
-  keeps_look d e gs hs t of σ k s at is = record {
-    looks = λ inexact. subst (λ l. AtMostIn (m.looks e) (l ++ m.looks d)) (sym is) (looked_once d e gs hs t of at);
-    compares = λ inexact. by at.once;
-  }
+  -- a look counts no comparison
+  looks_alone : (d e : D) (gs hs : List Gate) (t : T) (of : DataId) (σ : Sorts) (s : Step) → LooksAt m d gs e hs t of
+      → m.compares e ≤ compared σ s + m.compares d
+  looks_alone d e gs hs t of σ s at = by at.once
     where
       by : (SameLooks m d e × (hs ≡ gs)) ⊎ FirstLook m d e t of → m.compares e ≤ compared σ s + m.compares d
       by (inl same) = (let c = same.0.compares in omega arith)
       by (inr first) = (let c = first.compares in omega arith)
+
+  -- a step that looks at a new tree
+  pub keeps_look : (d e : D) (gs hs : List Gate) (t : T) (of : DataId) (σ : Sorts) (seen : List ℕ) (k : ℕ) (s : Step)
+      → LooksAt m d gs e hs t of → looked σ seen k s ≡ of ∷ [] → KeepsLooks m d e σ seen k s
+  keeps_look d e gs hs t of σ seen k s at is = record {
+    looks = λ inexact. subst (λ l. AtMostIn (m.looks e) (l ++ m.looks d)) (sym is) (looked_once d e gs hs t of at);
+    compares = λ inexact. looks_alone d e gs hs t of σ s at;
+  }
+
+  -- nothing is looked at where the tree is expanded
+  looked_again : (d e : D) (gs hs : List Gate) (t : T) (of : DataId) → LooksAt m d gs e hs t of → m.Expanded d t
+      → AtMostIn (m.looks e) (m.looks d)
+  looked_again d e gs hs t of at there = by at.once
+    where
+      by : (SameLooks m d e × (hs ≡ gs)) ⊎ FirstLook m d e t of → AtMostIn (m.looks e) (m.looks d)
+      by (inl same) = λ x. subst (λ l. times x l ≤ times x (m.looks d)) (sym same.0.looks) (omega arith)
+      by (inr first) = absurd (first.before there)
+
+  -- a step that looks at the tree of an earlier one
+  pub keeps_look_at : (d e : D) (gs hs : List Gate) (t : T) (of : DataId) (σ : Sorts) (seen : List ℕ) (k i : ℕ)
+      (s : Step) → LooksAt m d gs e hs t of → (is_seen seen i ≡ true → m.Expanded d t)
+      → looked σ seen k s ≡ (if is_seen seen i then [] else of ∷ []) → KeepsLooks m d e σ seen k s
+  keeps_look_at d e gs hs t of σ seen k i s at there is = record {
+    looks = λ inexact. subst (λ l. AtMostIn (m.looks e) (l ++ m.looks d)) (sym is) (by (is_seen seen i) refl);
+    compares = λ inexact. looks_alone d e gs hs t of σ s at;
+  }
+    where
+      by : (b : Bool) → is_seen seen i ≡ b → AtMostIn (m.looks e) ((if b then [] else of ∷ []) ++ m.looks d)
+      by true found = looked_again d e gs hs t of at (there found)
+      by false found = looked_once d e gs hs t of at
 
 -- ---- an exact domain
 
@@ -178,8 +251,7 @@ module _ {D T : Type 0} (m : Sense D T) (types : TypeTable) (exact : m.exact ≡
   exact_opened h sort.Int = refl
   exact_opened h sort.Bool = refl
   exact_opened h (sort.Tree of) =
-      ap (λ (b : Bool). if b && nat_eq h 0 then 0
-      else 4 * (32 + (if b then bits types h (sort.Tree of) else 0))) exact
+      ap (λ (b : Bool). if b then (if nat_eq h 0 then 0 else 4 * (32 + bits types h (sort.Tree of))) else 32) exact
 
   -- and of all arguments
   each_opened : (h : ℕ) (ss : List Sort) → map (opened_gates m types h) ss ≡ map (open_gates types h) ss
@@ -201,36 +273,42 @@ module _ {D T : Type 0} (m : Sense D T) (types : TypeTable) (exact : m.exact ≡
   bits_are : (of : DataId) (h : ℕ) → bits_at m types of h ≡ bits types h (sort.Tree of)
   bits_are of h = ap (λ (b : Bool). if b then bits types h (sort.Tree of) else 0) exact
 
-  pub exact_gates : (looks : List DataId) (compares k : ℕ) (s : Step)
-      → step_gates m types σ η looks compares k s ≡ gates_of types σ η k s
-  exact_gates looks compares k (steps.Open s) = exact_opened 0 s
-  exact_gates looks compares k (steps.HasAnswer c) = refl
-  exact_gates looks compares k (steps.Answer c) = exact_opened 0 c.result
-  exact_gates looks compares k (steps.Int n) = refl
-  exact_gates looks compares k (steps.Bool b) = refl
-  exact_gates looks compares k (steps.Not a) = refl
-  exact_gates looks compares k (steps.Both a b) = refl
-  exact_gates looks compares k (steps.Choose c a b) = chosen (σ k)
+  no_new_look : (looks : List DataId) (compares : ℕ) (b : Bool) (s : Sort)
+      → (if b then 0 else by_sort 0 0 (one_look m types looks compares) s) ≡ 0
+  no_new_look looks compares true s = refl
+  no_new_look looks compares false s = no_look looks compares s
+
+  pub exact_gates : (looks : List DataId) (compares : ℕ) (seen : List ℕ) (k : ℕ) (s : Step)
+      → step_gates m types σ η looks compares seen k s ≡ gates_of types σ η k s
+  exact_gates looks compares seen k (steps.Open s) = exact_opened 0 s
+  exact_gates looks compares seen k (steps.HasAnswer c) = refl
+  exact_gates looks compares seen k (steps.Answer c) = exact_opened 0 c.result
+  exact_gates looks compares seen k (steps.Int n) = refl
+  exact_gates looks compares seen k (steps.Bool b) = refl
+  exact_gates looks compares seen k (steps.Not a) = refl
+  exact_gates looks compares seen k (steps.Both a b) = refl
+  exact_gates looks compares seen k (steps.Choose c a b) = chosen (σ k)
     where
       chosen : (q : Sort) → by_sort 32 1 (λ of. 32 + bits_at m types of (max (η a) (η b))) q
           ≡ by_sort 32 1 (λ of. 32 + bits types (max (η a) (η b)) (sort.Tree of)) q
       chosen sort.Int = refl
       chosen sort.Bool = refl
       chosen (sort.Tree of) = ap (λ n. 32 + n) (bits_are of (max (η a) (η b)))
-  exact_gates looks compares k (steps.Unary op a) = refl
-  exact_gates looks compares k (steps.Binary op a b) = by op
+  exact_gates looks compares seen k (steps.Unary op a) = refl
+  exact_gates looks compares seen k (steps.Binary op a b) = by op
     where
       h : ℕ
       h = min (η a) (η b)
 
-      compared : (q : Sort) → by_sort 64 1 (λ of. 4 * (32 + bits_at m types of h)) q
+      compared : (q : Sort) → by_sort 64 1 (λ of. equality_gates m types of h) q
           ≡ by_sort 64 1 (λ of. 4 * (32 + bits types h (sort.Tree of))) q
       compared sort.Int = refl
       compared sort.Bool = refl
-      compared (sort.Tree of) = ap (λ n. 4 * (32 + n)) (bits_are of h)
+      compared (sort.Tree of) = ap (λ (b : Bool). if b then 4 * (32 + bits types h (sort.Tree of)) else 64) exact
 
       by : (o : BinaryOp)
-          → step_gates m types σ η looks compares k (steps.Binary o a b) ≡ gates_of types σ η k (steps.Binary o a b)
+          → step_gates m types σ η looks compares seen k (steps.Binary o a b)
+          ≡ gates_of types σ η k (steps.Binary o a b)
       by Equal = compared (σ a)
       by Differ = compared (σ a)
       by Add = refl
@@ -250,12 +328,12 @@ module _ {D T : Type 0} (m : Sense D T) (types : TypeTable) (exact : m.exact ≡
       by Shl = refl
       by Shr = refl
       by Ushr = refl
-  exact_gates looks compares k (steps.Construct c fields) = no_look looks compares (σ k)
-  exact_gates looks compares k (steps.IsCtor c n a) = no_look looks compares (σ a)
-  exact_gates looks compares k (steps.CtorField c i a) = no_look looks compares (σ a)
-  exact_gates looks compares k (steps.Field a i) = no_look looks compares (σ a)
-  exact_gates looks compares k (steps.IsAlike a b) = refl
-  exact_gates looks compares k (steps.GoesDown a b) = down (σ a)
+  exact_gates looks compares seen k (steps.Construct c fields) = no_look looks compares (σ k)
+  exact_gates looks compares seen k (steps.IsCtor c n a) = no_new_look looks compares (is_seen seen a) (σ a)
+  exact_gates looks compares seen k (steps.CtorField c i a) = no_new_look looks compares (is_seen seen a) (σ a)
+  exact_gates looks compares seen k (steps.Field a i) = no_new_look looks compares (is_seen seen a) (σ a)
+  exact_gates looks compares seen k (steps.IsAlike a b) = refl
+  exact_gates looks compares seen k (steps.GoesDown a b) = down (σ a)
     where
       down : (q : Sort) → by_sort 1024 0 (λ of.
           if m.exact then 64 + 4 * (32 + bits_at m types of (η a)) * (1 + nodes_at m types of (η b))
@@ -270,38 +348,41 @@ module _ {D T : Type 0} (m : Sense D T) (types : TypeTable) (exact : m.exact ≡
           * (1 + (if z then nodes types (η b) (sort.Tree of) else 0)) else 194 + 128 * length looks) exact
 
   -- so are those of all steps
-  pub exact_all_gates : (looks : List DataId) (compares k : ℕ) (ss : List Step)
-      → all_step_gates m types σ η looks compares k ss ≡ all_gates types σ η k ss
-  exact_all_gates looks compares k [] = refl
-  exact_all_gates looks compares k (s ∷ ss) =
-      ap (λ n. n + all_step_gates m types σ η (looked σ k s ++ looks) (compared σ s + compares) (suc k) ss)
-      (exact_gates looks compares k s)
+  pub exact_all_gates : (looks : List DataId) (compares : ℕ) (seen : List ℕ) (k : ℕ) (ss : List Step)
+      → all_step_gates m types σ η looks compares seen k ss ≡ all_gates types σ η k ss
+  exact_all_gates looks compares seen k [] = refl
+  exact_all_gates looks compares seen k (s ∷ ss) =
+      ap (λ n. n + all_step_gates m types σ η (looked σ seen k s ++ looks) (compared σ s + compares)
+      (looked_trees k s ++ seen) (suc k) ss) (exact_gates looks compares seen k s)
       ∙ ap (λ n. gates_of types σ η k s + n)
-      (exact_all_gates (looked σ k s ++ looks) (compared σ s + compares) (suc k) ss)
+      (exact_all_gates (looked σ seen k s ++ looks) (compared σ s + compares) (looked_trees k s ++ seen) (suc k) ss)
 
 -- ---- a step at a time
 
 module _ {D T : Type 0} (m : Sense D T) (types : TypeTable) (σ : Sorts) (η : Heights) where
   -- the gates of the steps from a place on
-  pub step_gates_at : (looks : List DataId) (compares : ℕ) (ss : List Step) (i : ℕ) (s : Step)
+  pub step_gates_at : (looks : List DataId) (compares : ℕ) (seen : List ℕ) (ss : List Step) (i : ℕ) (s : Step)
       → slice_get ss i ≡ Some s
-      → all_step_gates m types σ η looks compares i (drop i ss) ≡ step_gates m types σ η looks compares i s
-      + all_step_gates m types σ η (looked σ i s ++ looks) (compared σ s + compares) (suc i) (drop (suc i) ss)
-  step_gates_at looks compares ss i s at = ap (all_step_gates m types σ η looks compares i) (drop_at ss i s at)
+      → all_step_gates m types σ η looks compares seen i (drop i ss) ≡ step_gates m types σ η looks compares seen i s
+      + all_step_gates m types σ η (looked σ seen i s ++ looks) (compared σ s + compares) (looked_trees i s ++ seen)
+      (suc i) (drop (suc i) ss)
+  step_gates_at looks compares seen ss i s at =
+      ap (all_step_gates m types σ η looks compares seen i) (drop_at ss i s at)
 
   -- after a step no more is left than was counted before it
-  pub left_gates : (d e : D) (k : ℕ) (s : Step) (i : ℕ) (ss : List Step) → KeepsLooks m d e σ k s
-      → all_step_gates m types σ η (m.looks e) (m.compares e) i ss
-      ≤ all_step_gates m types σ η (looked σ k s ++ m.looks d) (compared σ s + m.compares d) i ss
-  left_gates d e k s i ss keeps = by m.exact refl
+  pub left_gates : (d e : D) (seen : List ℕ) (k : ℕ) (s : Step) (more : List ℕ) (i : ℕ) (ss : List Step)
+      → KeepsLooks m d e σ seen k s
+      → all_step_gates m types σ η (m.looks e) (m.compares e) more i ss
+      ≤ all_step_gates m types σ η (looked σ seen k s ++ m.looks d) (compared σ s + m.compares d) more i ss
+  left_gates d e seen k s more i ss keeps = by m.exact refl
     where
-      by : (b : Bool) → m.exact ≡ b → all_step_gates m types σ η (m.looks e) (m.compares e) i ss
-          ≤ all_step_gates m types σ η (looked σ k s ++ m.looks d) (compared σ s + m.compares d) i ss
+      by : (b : Bool) → m.exact ≡ b → all_step_gates m types σ η (m.looks e) (m.compares e) more i ss
+          ≤ all_step_gates m types σ η (looked σ seen k s ++ m.looks d) (compared σ s + m.compares d) more i ss
       by true exact =
-          let one = exact_all_gates m types exact σ η (m.looks e) (m.compares e) i ss in
-          let other = exact_all_gates m types exact σ η (looked σ k s ++ m.looks d) (compared σ s + m.compares d) i ss
-          in
+          let one = exact_all_gates m types exact σ η (m.looks e) (m.compares e) more i ss in
+          let other = exact_all_gates m types exact σ η (looked σ seen k s ++ m.looks d) (compared σ s + m.compares d)
+          more i ss in
           omega arith
       by false inexact =
-          all_step_gates_le m types σ η (m.looks e) (looked σ k s ++ m.looks d) (m.compares e)
-          (compared σ s + m.compares d) i ss (keeps.looks inexact) (keeps.compares inexact)
+          all_step_gates_le m types σ η (m.looks e) (looked σ seen k s ++ m.looks d) (m.compares e)
+          (compared σ s + m.compares d) more i ss (keeps.looks inexact) (keeps.compares inexact)

@@ -21,9 +21,9 @@ use Rattle.pp_steps.specs.Meaning.{Does, Missing, Values}
 use Rattle.pp_steps.specs.Reads.{Below, Reads}
 use Rattle.pp_steps.specs.Sorted.{Sorts}
 use Rattle.std.proofs.lemmas.Option.{same_Some}
-use Rattle.pp_build.specs.StepGates.{KeepsLooks}
-use Rattle.pp_build.specs.Registers.{AreRegisters, IsKnown}
-use Rattle.pp_build.specs.Followed.{CanFollow, Compares, Goes, HasDefault}
+use Rattle.pp_build.specs.StepGates.{KeepsLooks, looked_trees}
+use Rattle.pp_build.specs.Registers.{AreExpanded, AreRegisters, IsKnown}
+use Rattle.pp_build.specs.Followed.{CanFollow, Compares, Goes}
 use Rattle.pp_build.specs.Performed.{CanPerform, IsPerformed}
 use Rattle.pp_domain.specs.Symbols.{IsSymbol, symbol_height}
 use Rattle.pp_steps.specs.Gates.{height_of}
@@ -118,30 +118,30 @@ all_compared m types σ (steps.GoesDown a b) exact = λ of same. exact
 all_compared m types σ (steps.HasAnswer c) exact = tt
 all_compared m types σ (steps.Answer c) exact = tt
 
-determined : (n : Naming) (σ : Sorts) (ρ : Values) (missing : Missing) (k : ℕ) (s : Step) → IsPlain s
-    → HasDefault n σ ρ missing k s → IsDetermined ρ s
-determined n σ ρ missing k (steps.Open s) plain default = absurd plain
-determined n σ ρ missing k (steps.Int z) plain default = tt
-determined n σ ρ missing k (steps.Bool b) plain default = tt
-determined n σ ρ missing k (steps.Not a) plain default = tt
-determined n σ ρ missing k (steps.Both a b) plain default = tt
-determined n σ ρ missing k (steps.Choose c a b) plain default = tt
-determined n σ ρ missing k (steps.Unary op a) plain default = tt
-determined n σ ρ missing k (steps.Binary op a b) plain default = tt
-determined n σ ρ missing k (steps.Construct c fields) plain default = tt
-determined n σ ρ missing k (steps.IsCtor c i a) plain default = tt
-determined n σ ρ missing k (steps.CtorField c i a) plain default = absurd plain
-determined n σ ρ missing k (steps.Field a i) plain default = tt
-determined n σ ρ missing k (steps.IsAlike a b) plain default = tt
-determined n σ ρ missing k (steps.GoesDown a b) plain default = absurd plain
-determined n σ ρ missing k (steps.HasAnswer c) plain default = absurd plain
-determined n σ ρ missing k (steps.Answer c) plain default = absurd plain
+determined : (ρ : Values) (s : Step) → IsPlain s → IsDetermined ρ s
+determined ρ (steps.Open s) plain = absurd plain
+determined ρ (steps.Int z) plain = tt
+determined ρ (steps.Bool b) plain = tt
+determined ρ (steps.Not a) plain = tt
+determined ρ (steps.Both a b) plain = tt
+determined ρ (steps.Choose c a b) plain = tt
+determined ρ (steps.Unary op a) plain = tt
+determined ρ (steps.Binary op a b) plain = tt
+determined ρ (steps.Construct c fields) plain = tt
+determined ρ (steps.IsCtor c i a) plain = tt
+determined ρ (steps.CtorField c i a) plain = absurd plain
+determined ρ (steps.Field a i) plain = tt
+determined ρ (steps.IsAlike a b) plain = tt
+determined ρ (steps.GoesDown a b) plain = absurd plain
+determined ρ (steps.HasAnswer c) plain = absurd plain
+determined ρ (steps.Answer c) plain = absurd plain
 
 module _ {D T : Type 0} (m : Sense D T) (types : TypeTable) (d e : D) (gs hs : List Gate) (k : ℕ)
     (moves : Moves m types d gs e hs k) (rs : List (Symbol T)) (step : Step) (can : CanPerform m types d gs rs step)
     (r : Symbol T) where
   -- a step whose register is known where its operands are: so it follows wherever a good assignment goes on
-  pub performed : IsPlain step → KeepsLooks m d e can.sorts (length rs) step → IsSymbol m e hs (can.sorts (length rs)) r
+  pub performed : IsPlain step → KeepsLooks m d e can.sorts can.seen (length rs) step
+      → AreExpanded m e (rs ++ r ∷ []) (looked_trees (length rs) step) → IsSymbol m e hs (can.sorts (length rs)) r
       → symbol_height m e r ≡ height_of types can.sorts can.heights (length rs) step
       → (m.exact ≡ true → (n : Naming) (a : ℕ → Bool) → Good m types d gs n a → Extended m types gs n a e hs)
       → (m.exact ≡ false → (n : Naming) (a : ℕ → Bool) (ρ : Values) (missing : Missing)
@@ -149,15 +149,16 @@ module _ {D T : Type 0} (m : Sense D T) (types : TypeTable) (d e : D) (gs hs : L
       → ((n : Naming) (a : ℕ → Bool) (ρ : Values) (missing : Missing) → Good m types e hs n a
       → Does types.ctors missing ρ step (ρ (length rs))
       → Tells ρ (IsKnown m types e a n can.sorts ρ (rs ++ r ∷ [])) step (length rs))
-      → IsPerformed m types d gs rs step can.sorts can.heights e hs r
-  performed plain looks of high extends goes known = record {
+      → IsPerformed m types d gs rs step can.sorts can.heights can.seen e hs r
+  performed plain looks expanded of high extends goes known = record {
     of = of;
     high = high;
     extends = extends;
     looks = looks;
+    expanded = expanded;
     follows = λ inexact n a ρ missing follow.
         goes_on m types d e gs hs k moves can.sorts can.heights rs can.registers r step n a ρ missing follow can.reads
-        (determined n can.sorts ρ missing (length rs) step plain follow.default)
+        (determined ρ step plain)
         (goes inexact n a ρ missing follow)
         (λ good does. known n (goes inexact n a ρ missing follow).next ρ missing good does);
     known = λ n a ρ missing good compared does. known n a ρ missing good does;

@@ -1,5 +1,6 @@
 -- Performed steps on trees.
-use Rattle.std.proofs.Common.{◌≡◌, ℕ, ◌+◌, ◌-◌, ◌<◌, Bool, true, false, List, [], ◌∷◌, ◌++◌, length, map, All, Some}
+use Rattle.std.proofs.Common.{◌≡◌, ℕ, ◌+◌, ◌-◌, ◌<◌, Bool, true, false, if◌then◌else◌, List, [], ◌∷◌, ◌++◌, length}
+use Rattle.std.proofs.Common.{map, All, Some}
 use Rattle.std.proofs.Common.{slice_get, refl, sym, ap, ◌∙◌, subst, arith}
 use Rattle.std.proofs.lemmas.Bool.{false≢true}
 use Rattle.std.specs.Prelude.{IsTrue}
@@ -26,7 +27,7 @@ use Rattle.pp_domain.specs.declared.symbol.Symbol.TheVariants as symbol
 use Rattle.pp_domain.specs.Answers.{CanConstruct, HasField, IsConstruct, IsCtorOf, IsCtorTest, IsFieldRead}
 use Rattle.pp_domain.specs.Naming.{IsFieldOf, Names, NamesFields, Naming, own}
 use Rattle.pp_domain.specs.Moves.{Moves}
-use Rattle.pp_domain.proofs.Composition.{Stands_later}
+use Rattle.pp_domain.proofs.Composition.{Stands_later, exactly}
 use Rattle.pp_domain.specs.Sense.{Sense, Good}
 use Rattle.pp_domain.specs.Symbols.{AreSymbols, IsSymbol, SymbolsStand, symbol_height}
 use Rattle.pp_steps.specs.declared.step.Step.TheVariants as steps
@@ -40,13 +41,13 @@ use Rattle.pp_build.specs.Registers.{AreAt, AreRegisters, IsKnown}
 use Rattle.pp_prog.proofs.Fields.{OnlyCtor, datatype_within, fields_sorted, only_ctor}
 use Rattle.pp_build.proofs.Fields.{ctor_field_is, field_is, field_is_of, has_ctor_is}
 use Rattle.pp_build.proofs.Told.{performed}
-use Rattle.pp_build.proofs.StepGates.{keeps_look}
+use Rattle.pp_build.proofs.StepGates.{keeps_look, keeps_look_at}
+use Rattle.pp_build.proofs.Expanded.{one_expanded, own_expanded}
 use Rattle.pp_build.proofs.Gates.{construct_gates_are, look_gates_are}
-use Rattle.pp_build.proofs.Performing.{IsCount}
-use Rattle.pp_build.specs.StepGates.{tree_of as tree_of_sort}
+use Rattle.pp_build.proofs.Performing.{IsCount, IsLookCount}
+use Rattle.pp_build.specs.StepGates.{is_seen, tree_of as tree_of_sort}
 use Rattle.pp_domain.specs.Allowance.{construct_gates, look_at_gates}
 use Rattle.pp_build.proofs.Operands.{operand_stands, step_known, tree_of, truth_known}
-use Rattle.pp_build.proofs.Performing.{exactly}
 
 same_bool : (x y : Bool) → (x ≡ true → y ≡ true) → (y ≡ true → x ≡ true) → x ≡ y
 same_bool true y f g = sym (f refl)
@@ -62,20 +63,23 @@ module _ {D T : Type 0} (m : Sense D T) (types : TypeTable) (d : D) (gs : List G
       → σ i ≡ sort.Tree (m.data_of d t)
   tree_sort σ η are i t at of is = is ∙ ap sort.Tree (sym (tree_of m d gs σ η rs i of t are at is).1)
 
-  pub test_performed : (e : D) (hs : List Gate) (g : ℕ) → Moves m types d gs e hs g → (c : CtorId) (n i : ℕ) (t : T) (l : Literal)
+  pub test_performed : (e : D) (hs : List Gate) (g : ℕ) → Moves m types d gs e hs g
+      → (c : CtorId) (n i : ℕ) (t : T) (l : Literal)
       → slice_get rs i ≡ Some (symbol.Tree t) → IsCtorTest m types d gs e hs t c l
       → Performs m types d gs rs (steps.IsCtor c n i) e hs (symbol.Bit l)
   test_performed e hs g moves c n i t l at test can =
       performed m types d e gs hs g moves rs (steps.IsCtor c n i) can (symbol.Bit l) tt
-      (keeps_look m types d e gs hs t (m.data_of d t) can.sorts (length rs) (steps.IsCtor c n i) test.looks
-      (ap tree_of_sort (tree_sort can.sorts can.heights can.registers i t at can.sorted.0.ctor.of
-      can.sorted.0.operand)))
+      (keeps_look_at m types d e gs hs t (m.data_of d t) can.sorts can.seen (length rs) i (steps.IsCtor c n i)
+      test.looks (λ found. can.expanded.expanded i found t at)
+      (ap (λ s. if is_seen can.seen i then [] else tree_of_sort s)
+      (tree_sort can.sorts can.heights can.registers i t at can.sorted.0.ctor.of can.sorted.0.operand)))
+      (one_expanded m e rs (symbol.Bit l) i t at test.looks.expanded)
       (subst (λ s. IsSymbol m e hs s (symbol.Bit l)) (sym can.sorted.1) test.of) refl
       (λ exact k a good. test.extends k a good (exactly m _ exact))
       (λ inexact k a ρ missing follow. test.extends k a follow.good (λ _. (
         ρ i,
         follow.stand i (symbol.Tree t) at,
-        (follow.are.named i (let lt = can.reads in omega arith)).fields,
+        follow.looked,
       )))
       (λ k a ρ missing good is known.
       let s = operand_stands m types e a k can.sorts ρ rs (symbol.Bit l) i (symbol.Tree t) at known in
@@ -148,15 +152,16 @@ module _ {D T : Type 0} (m : Sense D T) (types : TypeTable) (d : D) (gs : List G
       let of : m.data_of e t ≡ can.sorted.ctor.of = sym made.data_of.2
       ∙ ap (λ (k : Ctor). k.of) (same_Some made.data_of.0 can.sorted.ctor (sym made.data_of.1 ∙ can.sorted.stands)) in
       performed m types d e gs hs g moves rs (steps.Construct c ks) can (symbol.Tree t) tt
-      (keeps_look m types d e gs hs t (m.data_of e t) can.sorts (length rs) (steps.Construct c ks) made.looks
+      (keeps_look m types d e gs hs t (m.data_of e t) can.sorts can.seen (length rs) (steps.Construct c ks) made.looks
       (ap tree_of_sort (can.sorted.result ∙ ap sort.Tree (sym of))))
+      (own_expanded m e rs t made.looks.expanded)
       (subst (λ s. IsSymbol m e hs s (symbol.Tree t)) (sym can.sorted.result) (made.node, of))
       (made.height ∙ ap (λ hs. 1 + greatest hs) (heights_at can.sorts can.heights ks xs can.registers at))
       (λ exact k a good. made.extends k a good (exactly m _ exact))
       (λ inexact k a ρ missing follow. made.extends k a follow.good (λ _. (
         map ρ ks,
         all_stand a k ρ follow.stand ks xs at,
-        subst (Names types k) follow.does (follow.are.named (length rs) (omega arith)).whole,
+        subst (Names types k) follow.does (follow.are.named (length rs) (omega arith)),
       )))
       (λ k a ρ missing good is known.
       step_known m types e a k can.sorts ρ rs (symbol.Tree t) (Tree c (map ρ ks)) is (record {
@@ -212,8 +217,8 @@ module _ {D T : Type 0} (m : Sense D T) (types : TypeTable) (d : D) (gs : List G
       → (s : Sort) × HasField types c place s
   has_field c place i can = (can.sorts (length rs), (can.sorted.ctor, can.sorted.stands, can.sorted.field))
 
-  pub ctor_field_performed : (e : D) (hs : List Gate) (g : ℕ) → Moves m types d gs e hs g → (c : CtorId) (place i : ℕ) (t : T)
-      (r : Symbol T) → slice_get rs i ≡ Some (symbol.Tree t)
+  pub ctor_field_performed : (e : D) (hs : List Gate) (g : ℕ) → Moves m types d gs e hs g
+      → (c : CtorId) (place i : ℕ) (t : T) (r : Symbol T) → slice_get rs i ≡ Some (symbol.Tree t)
       → ((s : Sort) → HasField types c place s → IsFieldRead m types d gs e hs t c place s r)
       → Performs m types d gs rs (steps.CtorField c place i) e hs r
   ctor_field_performed e hs g moves c place i t r at given can =
@@ -224,18 +229,20 @@ module _ {D T : Type 0} (m : Sense D T) (types : TypeTable) (d : D) (gs : List G
         high = field_height can.sorts can.heights can.registers i t at e hs c k place can.sorted.stands
             can.sorted.operand can.sorted.field r read;
         extends = λ exact n a good. read.extends n a good (exactly m _ exact);
-        looks = keeps_look m types d e gs hs t (m.data_of d t) can.sorts (length rs) (steps.CtorField c place i)
-            read.looks (ap tree_of_sort (tree_sort can.sorts can.heights can.registers i t at k.of
-            can.sorted.operand));
+        looks = keeps_look_at m types d e gs hs t (m.data_of d t) can.sorts can.seen (length rs) i
+            (steps.CtorField c place i) read.looks (λ found. can.expanded.expanded i found t at)
+            (ap (λ s. if is_seen can.seen i then [] else tree_of_sort s)
+            (tree_sort can.sorts can.heights can.registers i t at k.of can.sorted.operand));
+        expanded = one_expanded m e rs r i t at read.looks.expanded;
         follows = λ inexact n a ρ missing follow.
             let lt : i < length rs = can.reads in
             field_follows can.sorts can.heights can.registers i t at e hs c k place can.sorted.stands
             can.sorted.operand can.sorted.field r read g moves inexact n a ρ follow.good
-            (follow.stand i (symbol.Tree t) at) (follow.are.named i (omega arith)).fields
+            (follow.stand i (symbol.Tree t) at) follow.looked.fields
             (field_is_of types.ctors n missing c k place (can.sorts (length rs)) (ρ i) (ρ (length rs))
             can.sorted.stands can.sorted.field
             (subst (λ s. has_sort types.ctors (ρ i) s ≡ true) can.sorted.operand
-            (follow.are.sorted i (omega arith))) follow.does follow.default);
+            (follow.are.sorted i (omega arith))) follow.does follow.looked.default);
         known = λ n a ρ missing good compared is known fields tree.
             field_known can.sorts can.heights can.registers i t at e hs c k place can.sorted.stands can.sorted.operand
             can.sorted.field r read n a ρ good known fields tree
@@ -285,9 +292,11 @@ module _ {D T : Type 0} (m : Sense D T) (types : TypeTable) (d : D) (gs : List G
             high = field_height can.sorts can.heights can.registers i t at e hs b.first c.entry place c.at operand
                 c.field r read;
             extends = λ exact n a good. read.extends n a good (exactly m _ exact);
-            looks = keeps_look m types d e gs hs t (m.data_of d t) can.sorts (length rs) (steps.Field i place)
-                read.looks (ap tree_of_sort (tree_sort can.sorts can.heights can.registers i t at
-                can.sorted.datatype can.sorted.operand));
+            looks = keeps_look_at m types d e gs hs t (m.data_of d t) can.sorts can.seen (length rs) i
+                (steps.Field i place) read.looks (λ found. can.expanded.expanded i found t at)
+                (ap (λ s. if is_seen can.seen i then [] else tree_of_sort s)
+                (tree_sort can.sorts can.heights can.registers i t at can.sorted.datatype can.sorted.operand));
+            expanded = one_expanded m e rs r i t at read.looks.expanded;
             follows = λ inexact n a ρ missing follow.
                 let lt : i < length rs = can.reads in
                 let sorted = follow.are.sorted i (omega arith) in
@@ -296,8 +305,7 @@ module _ {D T : Type 0} (m : Sense D T) (types : TypeTable) (d : D) (gs : List G
                 (fields_sorted types.ctors b.first c.entry c.entry.of (ρ i) tree.0 c.at
                 (subst (λ s. has_sort types.ctors (ρ i) s ≡ true) operand sorted) tree.1) c.field in
                 field_follows can.sorts can.heights can.registers i t at e hs b.first c.entry place c.at operand
-                c.field r read g moves inexact n a ρ follow.good (follow.stand i (symbol.Tree t) at)
-                (follow.are.named i (omega arith)).fields
+                c.field r read g moves inexact n a ρ follow.good (follow.stand i (symbol.Tree t) at) follow.looked
                 (own tree.0 tree.1 (f.1 ∙ ap Some (sym (follow.does ∙ field_is b.first place (ρ i) f.0 tree.0 tree.1
                 f.1))));
             known = λ n a ρ missing good compared is known.
@@ -315,19 +323,19 @@ module _ {D T : Type 0} (m : Sense D T) (types : TypeTable) (d : D) (gs : List G
       construct_gates_are m types d c can.sorted.ctor (can.sorts (length rs)) can.sorted.stands can.sorted.result
 
   pub test_count : (c : CtorId) (n i : ℕ) (t : T) → slice_get rs i ≡ Some (symbol.Tree t)
-      → IsCount m types d gs rs (steps.IsCtor c n i) (look_at_gates m types d t)
+      → IsLookCount m types d gs rs (steps.IsCtor c n i) i t
   test_count c n i t at can =
-      look_gates_are m types d t (can.sorts i)
-      (tree_sort can.sorts can.heights can.registers i t at can.sorted.0.ctor.of can.sorted.0.operand)
+      ap (λ (g : ℕ). if is_seen can.seen i then 0 else g) (look_gates_are m types d t (can.sorts i)
+      (tree_sort can.sorts can.heights can.registers i t at can.sorted.0.ctor.of can.sorted.0.operand))
 
   pub ctor_field_count : (c : CtorId) (place i : ℕ) (t : T) → slice_get rs i ≡ Some (symbol.Tree t)
-      → IsCount m types d gs rs (steps.CtorField c place i) (look_at_gates m types d t)
+      → IsLookCount m types d gs rs (steps.CtorField c place i) i t
   ctor_field_count c place i t at can =
-      look_gates_are m types d t (can.sorts i)
-      (tree_sort can.sorts can.heights can.registers i t at can.sorted.ctor.of can.sorted.operand)
+      ap (λ (g : ℕ). if is_seen can.seen i then 0 else g) (look_gates_are m types d t (can.sorts i)
+      (tree_sort can.sorts can.heights can.registers i t at can.sorted.ctor.of can.sorted.operand))
 
   pub only_field_count : (i place : ℕ) (t : T) → slice_get rs i ≡ Some (symbol.Tree t)
-      → IsCount m types d gs rs (steps.Field i place) (look_at_gates m types d t)
+      → IsLookCount m types d gs rs (steps.Field i place) i t
   only_field_count i place t at can =
-      look_gates_are m types d t (can.sorts i)
-      (tree_sort can.sorts can.heights can.registers i t at can.sorted.datatype can.sorted.operand)
+      ap (λ (g : ℕ). if is_seen can.seen i then 0 else g) (look_gates_are m types d t (can.sorts i)
+      (tree_sort can.sorts can.heights can.registers i t at can.sorted.datatype can.sorted.operand))

@@ -1,5 +1,6 @@
 -- Performed steps on values of any sort and on truth values.
-use Rattle.std.proofs.Common.{◌≡◌, ◌+◌, ℕ, max, Bool, true, false, not, ◌&&◌, if◌then◌else◌, List, [], ◌∷◌, ◌++◌, length}
+use Rattle.std.proofs.Common.{◌≡◌, ◌+◌, ℕ, max, Bool, true, false, not, ◌&&◌, if◌then◌else◌, List, [], ◌∷◌, ◌++◌}
+use Rattle.std.proofs.Common.{length}
 use Rattle.std.proofs.Common.{Some, slice_get, refl, sym, ap, ◌∙◌, subst, arith}
 use Rattle.std.specs.Prelude.{ℤ, IsTrue}
 use Rattle.std.specs.Int.{w32}
@@ -21,7 +22,7 @@ use Rattle.pp_domain.specs.Laws.{Lawful}
 use Rattle.pp_domain.specs.Naming.{Naming, Names}
 use Rattle.pp_domain.specs.Sense.{Sense, Good}
 use Rattle.pp_domain.specs.Symbols.{IsSymbol, SymbolStands, symbol_height}
-use Rattle.pp_domain.proofs.Composition.{Extended_grown}
+use Rattle.pp_domain.proofs.Composition.{Extended_grown, exactly}
 use Rattle.pp_eval.specs.Measure.{one_sort}
 use Rattle.pp_steps.specs.declared.step.Step.{Step}
 use Rattle.pp_steps.specs.declared.step.Step.TheVariants as steps
@@ -37,10 +38,12 @@ use Rattle.pp_domain.specs.Moves.{Moves, SameLooks}
 use Rattle.pp_domain.specs.Allowance.{bits_at}
 use Rattle.pp_prog.specs.Sizes.{by_sort}
 use Rattle.pp_build.proofs.StepGates.{keeps_same}
-use Rattle.pp_build.specs.Registers.{IsKnown, IsLiteralAt}
+use Rattle.pp_build.specs.Registers.{AreExpanded, IsKnown, IsLiteralAt}
+use Rattle.pp_build.specs.StepGates.{looked_trees}
+use Rattle.pp_build.proofs.Expanded.{none_expanded}
 use Rattle.pp_build.proofs.Operands.{bit_known, literal_of, operand_stands, step_known, truth_known}
 use Rattle.pp_build.proofs.Gates.{choose_gates_are}
-use Rattle.pp_build.proofs.Performing.{IsCount, exactly}
+use Rattle.pp_build.proofs.Performing.{IsCount}
 use Rattle.pp_eval.proofs.Alike.{alike}
 use Rattle.pp_steps.proofs.Bits.{bit_truth}
 use Rattle.pp_prog.proofs.ValueSorts.{int_has}
@@ -49,15 +52,18 @@ module _ {D T : Type 0} (m : Sense D T) (types : TypeTable) (law : Lawful m) (d 
     (rs : List (Symbol T)) (fits : m.Fits types d gs) where
   -- gates that aren't inputs
   pub by_gates : (step : Step) (hs : List Gate) (k : ℕ) (can : CanPerform m types d gs rs step) (r : Symbol T)
-      → AddsGates gs hs k → IsPlain step → IsSymbol m d hs (can.sorts (length rs)) r
+      → AddsGates gs hs k → IsPlain step → looked_trees (length rs) step ≡ []
+      → IsSymbol m d hs (can.sorts (length rs)) r
       → symbol_height m d r ≡ height_of types can.sorts can.heights (length rs) step
       → ((n : Naming) (a : ℕ → Bool) (ρ : Values) (missing : Missing) → Good m types d hs n a
       → Does types.ctors missing ρ step (ρ (length rs))
       → Tells ρ (IsKnown m types d a n can.sorts ρ (rs ++ r ∷ [])) step (length rs))
-      → IsPerformed m types d gs rs step can.sorts can.heights d hs r
-  by_gates step hs k can r adds plain of high known =
+      → IsPerformed m types d gs rs step can.sorts can.heights can.seen d hs r
+  by_gates step hs k can r adds plain none of high known =
       performed m types d d gs hs k (Moves_gates m types law d gs hs k fits adds) rs step can r plain
-      (keeps_same m types d d can.sorts (length rs) step (λ inexact. record { looks = refl; compares = refl })) of high
+      (keeps_same m types d d can.sorts can.seen (length rs) step
+      (λ inexact. record { looks = refl; compares = refl }))
+      (subst (AreExpanded m d (rs ++ r ∷ [])) (sym none) (none_expanded m d (rs ++ r ∷ []))) of high
       (λ exact n a good. Extended_grown m types law d gs hs k n a a fits adds.grows adds.circuit good)
       (λ inexact n a ρ missing follow. Extended_grown m types law d gs hs k n a a fits adds.grows adds.circuit
       follow.good) known
@@ -69,7 +75,7 @@ module _ {D T : Type 0} (m : Sense D T) (types : TypeTable) (law : Lawful m) (d 
       → AddsGates gs hs 0 → StandsForWord w32 hs w (λ s. z)
       → Performs m types d gs rs (steps.Int n) d hs (symbol.Word w)
   int_performed n z w hs same adds stands can =
-      by_gates (steps.Int n) hs 0 can (symbol.Word w) adds tt
+      by_gates (steps.Int n) hs 0 can (symbol.Word w) adds tt refl
       (subst (λ s. IsSymbol m d hs s (symbol.Word w)) (sym can.sorted.0) (stands.len, stands.of)) refl
       (λ k a ρ missing good is.
       step_known m types d a k can.sorts ρ rs (symbol.Word w) (Int n) is (record {
@@ -80,7 +86,7 @@ module _ {D T : Type 0} (m : Sense D T) (types : TypeTable) (law : Lawful m) (d 
   pub bool_performed : (b : Bool) (l : Literal) → StandsFor gs l (λ s. b)
       → Performs m types d gs rs (steps.Bool b) d gs (symbol.Bit l)
   bool_performed b l stands can =
-      by_gates (steps.Bool b) gs 0 can (symbol.Bit l) none tt
+      by_gates (steps.Bool b) gs 0 can (symbol.Bit l) none tt refl
       (subst (λ s. IsSymbol m d gs s (symbol.Bit l)) (sym can.sorted) stands.of) refl
       (λ k a ρ missing good is.
       truth_known m types d a k can.sorts ρ rs l b can.sorted is (stands.value a good.gates))
@@ -88,7 +94,7 @@ module _ {D T : Type 0} (m : Sense D T) (types : TypeTable) (law : Lawful m) (d 
   pub not_performed : (i : ℕ) (l r : Literal) → IsLiteralAt rs i l → r ≡ opposite l
       → Performs m types d gs rs (steps.Not i) d gs (symbol.Bit r)
   not_performed i l r read turned can =
-      by_gates (steps.Not i) gs 0 can (symbol.Bit r) none tt
+      by_gates (steps.Not i) gs 0 can (symbol.Bit r) none tt refl
       (subst (λ s. IsSymbol m d gs s (symbol.Bit r)) (sym can.sorted.1)
       (subst (IsOf gs) (sym turned) (IsOf_opposite gs l
       (literal_of m d gs can.sorts can.heights rs i l can.registers can.sorted.0 can.reads read)))) refl
@@ -102,7 +108,7 @@ module _ {D T : Type 0} (m : Sense D T) (types : TypeTable) (law : Lawful m) (d 
   pub alike_performed : (i j : ℕ) (l : Literal) → StandsFor gs l (λ s. true)
       → Performs m types d gs rs (steps.IsAlike i j) d gs (symbol.Bit l)
   alike_performed i j l stands can =
-      by_gates (steps.IsAlike i j) gs 0 can (symbol.Bit l) none tt
+      by_gates (steps.IsAlike i j) gs 0 can (symbol.Bit l) none tt refl
       (subst (λ s. IsSymbol m d gs s (symbol.Bit l)) (sym can.sorted.1) stands.of) refl
       (λ k a ρ missing good is left right.
       truth_known m types d a k can.sorts ρ rs l (one_sort types.ctors (out-Value (ρ i)) (out-Value (ρ j)))
@@ -124,7 +130,7 @@ module _ {D T : Type 0} (m : Sense D T) (types : TypeTable) (law : Lawful m) (d 
       → AddsGates gs hs 1 → StandsFor hs r (λ s. lit_value s l && lit_value s o)
       → Performs m types d gs rs (steps.Both i j) d hs (symbol.Bit r)
   both_performed i j l o r hs left right adds stands can =
-      by_gates (steps.Both i j) hs 1 can (symbol.Bit r) adds tt
+      by_gates (steps.Both i j) hs 1 can (symbol.Bit r) adds tt refl
       (subst (λ s. IsSymbol m d hs s (symbol.Bit r)) (sym can.sorted.2) stands.of) refl
       (λ k a ρ missing good is known more.
       let one = bit_known m types d a k can.sorts ρ rs (symbol.Bit r) gs d can.heights i l can.registers
@@ -164,15 +170,18 @@ module _ {D T : Type 0} (m : Sense D T) (types : TypeTable) (law : Lawful m) (d 
       choose_gates_are m types d gs s x y
       (subst (λ r. IsSymbol m d gs r x) can.sorted.1 (can.registers.of i x left))
       (subst (λ r. IsSymbol m d gs r y) can.sorted.2 (can.registers.of j y right))
-      ∙ ap (λ h. by_sort 32 1 (λ of. 32 + bits_at m types of (max h (symbol_height m d y))) s) (can.registers.high i x left)
+      ∙ ap (λ h. by_sort 32 1 (λ of. 32 + bits_at m types of (max h (symbol_height m d y))) s)
+      (can.registers.high i x left)
       ∙ ap (λ h. by_sort 32 1 (λ of. 32 + bits_at m types of (max (can.heights i) h)) s) (can.registers.high j y right)
 
-  pub choice_performed : (e : D) (hs : List Gate) (g : ℕ) → Moves m types d gs e hs g → SameLooks m d e → (c i j : ℕ) (l : Literal) (x y r : Symbol T)
+  pub choice_performed : (e : D) (hs : List Gate) (g : ℕ) → Moves m types d gs e hs g → SameLooks m d e
+      → (c i j : ℕ) (l : Literal) (x y r : Symbol T)
       → IsLiteralAt rs c l → slice_get rs i ≡ Some x → slice_get rs j ≡ Some y
       → IsChoice m types d gs e hs l x y r → Performs m types d gs rs (steps.Choose c i j) e hs r
   choice_performed e hs g moves looks c i j l x y r read left right choice can =
       performed m types d e gs hs g moves rs (steps.Choose c i j) can r tt
-      (keeps_same m types d e can.sorts (length rs) (steps.Choose c i j) (λ inexact. looks))
+      (keeps_same m types d e can.sorts can.seen (length rs) (steps.Choose c i j) (λ inexact. looks))
+      (none_expanded m e (rs ++ r ∷ []))
       (choice.of (can.sorts (length rs))
       (subst (λ s. IsSymbol m d gs s x) can.sorted.1 (can.registers.of i x left)))
       (choice.height ∙ ap (λ h. max h (symbol_height m d y)) (can.registers.high i x left)
@@ -195,10 +204,10 @@ module _ {D T : Type 0} (m : Sense D T) (types : TypeTable) (law : Lawful m) (d 
           → Names types k (if lit_value a l then ρ i else ρ j)
       one_named k a ρ missing follow true e =
           subst (λ (z : Bool). Names types k (if z then ρ i else ρ j)) (sym e)
-          (follow.are.named i (let lt = can.reads.1 in omega arith)).whole
+          (follow.are.named i (let lt = can.reads.1 in omega arith))
       one_named k a ρ missing follow false e =
           subst (λ (z : Bool). Names types k (if z then ρ i else ρ j)) (sym e)
-          (follow.are.named j (let lt = can.reads.2 in omega arith)).whole
+          (follow.are.named j (let lt = can.reads.2 in omega arith))
 
       known_by : (k : Naming) (a : ℕ → Bool) (ρ : Values) (q : ℕ) → ρ (length rs) ≡ ρ q
           → can.sorts q ≡ can.sorts (length rs) → IsTrue (has_sort types.ctors (ρ q) (can.sorts q))

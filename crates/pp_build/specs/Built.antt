@@ -1,5 +1,6 @@
 -- Which steps can be built on given registers, and what the registers of all steps are. Source: own.
-use Rattle.std.specs.Prelude.{◌≡◌, ℕ, ◌+◌, ◌^◌, ◌≤◌, Bool, true, false, List, Some, drop, take, length, slice_get}
+use Rattle.std.specs.Prelude.{◌≡◌, ℕ, ◌+◌, ◌^◌, ◌≤◌, Bool, true, false, List, [], Some, drop, take, length}
+use Rattle.std.specs.Prelude.{slice_get}
 use Rattle.pp_prog.specs.declared.types.TypeTable.{TypeTable}
 use Rattle.pp_gate.specs.declared.gate.Gate.{Gate}
 use Rattle.pp_domain.specs.declared.symbol.Symbol.{Symbol}
@@ -26,12 +27,13 @@ module _ {D T : Type 0} (m : Sense D T) (types : TypeTable) where
     pub registers : AreRegisters m d gs sorts heights qs
     pub fewer : length qs ≤ length steps
     pub high : AllHigh types sorts heights (length qs) (drop (length qs) steps)
-    pub few : all_step_gates m types sorts heights (m.looks d) (m.compares d) (length qs) (drop (length qs) steps)
+    pub few : all_step_gates m types sorts heights (m.looks d) (m.compares d) [] (length qs) (drop (length qs) steps)
         ≤ most
     pub room : length gs + most ≤ 2 ^ 30
 
-  -- each step has a register, the old ones stand first, and each good assignment extends. Where values obey the new
-  -- steps, what is known of them goes from the operands of each to its own.
+  -- each step has a register, and the old ones stand first. In an exact domain each good assignment extends; in another
+  -- one those do under which the registers stand for their steps' values, and then so does each new one. Where values
+  -- obey the new steps, what is known of them goes from the operands of each to its own.
   pub record IsBuilt (d : D) (gs : List Gate) (steps : List Step) (qs : List (Symbol T)) (σ : Sorts) (η : Heights)
       (e : D) (hs : List Gate) (rs : List (Symbol T)) : Type 0 where
     pub many : length rs ≡ length steps

@@ -1,6 +1,7 @@
 -- What a performed step leaves over a domain that isn't exact: where each register stands for its step's value, dead
 -- ones too, a good assignment goes on to one under which the new register does. Source: own.
 use Rattle.std.specs.Prelude.{◌≡◌, ℕ, ◌<◌, ◌≤◌, suc, Bool, true, false, List, Some, length, slice_get}
+use Rattle.pp_prog.specs.declared.sort.Sort.{Sort}
 use Rattle.pp_prog.specs.declared.types.TypeTable.{TypeTable}
 use Rattle.pp_prog.specs.declared.value.Value.{Value}
 use Rattle.pp_prog.specs.Sorts.{has_sort}
@@ -15,20 +16,23 @@ use Rattle.pp_steps.specs.declared.step.Step.TheVariants as steps
 use Rattle.pp_steps.specs.Meaning.{Does, Missing, Values}
 use Rattle.pp_steps.specs.Sorted.{Sorts}
 
--- the naming names the value and its fields
-pub record IsNamed (types : TypeTable) (n : Naming) (v : Value) : Type 0 where
-  pub whole : Names types n v
+-- the naming names the fields of the value, and what stands for a field that it hasn't is the default of the sort
+pub record IsRead (types : TypeTable) (n : Naming) (v : Value) (s : Sort) (missing : Value) : Type 0 where
   pub fields : NamesFields types n v
+  pub default : IsDefault n s missing
 
--- what stands for the missing field that step number k reads is the default of its sort
-abbrev pub HasDefault : Naming → Sorts → Values → Missing → ℕ → Step → Type 0
-HasDefault n σ ρ missing k (steps.CtorField c i a) = IsDefault n (σ k) (missing.field c i)
-HasDefault n σ ρ missing k s = Unit {0}
+-- where step number k looks at a tree, the naming names the fields of the tree's value; and what stands for a missing
+-- field that the step reads is the default of its sort
+abbrev pub LooksNamed : TypeTable → Naming → Sorts → Values → Missing → ℕ → Step → Type 0
+LooksNamed types n σ ρ missing k (steps.IsCtor c m a) = NamesFields types n (ρ a)
+LooksNamed types n σ ρ missing k (steps.CtorField c i a) = IsRead types n (ρ a) (σ k) (missing.field c i)
+LooksNamed types n σ ρ missing k (steps.Field a i) = NamesFields types n (ρ a)
+LooksNamed types n σ ρ missing k s = Unit {0}
 
--- the values of the first steps have their sorts, and the naming names them and their fields
+-- the values of the first steps have their sorts, and the naming names them
 pub record AreNamed (types : TypeTable) (n : Naming) (σ : Sorts) (ρ : Values) (many : ℕ) : Type 0 where
   pub sorted : (k : ℕ) → k < many → has_sort types.ctors (ρ k) (σ k) ≡ true
-  pub named : (k : ℕ) → k < many → IsNamed types n (ρ k)
+  pub named : (k : ℕ) → k < many → Names types n (ρ k)
 
 module _ {D T : Type 0} (m : Sense D T) (types : TypeTable) where
   -- each register stands for its step's value
@@ -41,7 +45,7 @@ module _ {D T : Type 0} (m : Sense D T) (types : TypeTable) where
     pub good : Good m types d gs n a
     pub stand : AllStand d a n ρ rs
     pub are : AreNamed types n σ ρ (suc (length rs))
-    pub default : HasDefault n σ ρ missing (length rs) step
+    pub looked : LooksNamed types n σ ρ missing (length rs) step
     pub does : Does types.ctors missing ρ step (ρ (length rs))
 
   -- what is supposed of the values, in front of the steps behind those that have registers
@@ -50,7 +54,8 @@ module _ {D T : Type 0} (m : Sense D T) (types : TypeTable) where
     pub good : Good m types d gs n a
     pub stand : AllStand d a n ρ qs
     pub are : AreNamed types n σ ρ (length steps)
-    pub defaults : (k : ℕ) (s : Step) → length qs ≤ k → slice_get steps k ≡ Some s → HasDefault n σ ρ missing k s
+    pub looked : (k : ℕ) (s : Step) → length qs ≤ k → slice_get steps k ≡ Some s
+        → LooksNamed types n σ ρ missing k s
     pub does : (k : ℕ) (s : Step) → length qs ≤ k → slice_get steps k ≡ Some s
         → Does types.ctors missing ρ s (ρ k)
 

@@ -1,5 +1,5 @@
 -- Registers: the symbols of the first steps, by number, and what they tell of the steps' values. Source: own.
-use Rattle.std.specs.Prelude.{◌≡◌, ℕ, Bool, List, Some, IsTrue, slice_get}
+use Rattle.std.specs.Prelude.{◌≡◌, ℕ, ◌<◌, Bool, true, List, Some, IsTrue, length, slice_get}
 use Rattle.std.specs.List.{AllZip}
 use Rattle.pp_prog.specs.declared.types.TypeTable.{TypeTable}
 use Rattle.pp_prog.specs.Sorts.{has_sort}
@@ -13,12 +13,18 @@ use Rattle.pp_domain.specs.Symbols.{IsSymbol, SymbolStands, symbol_height}
 use Rattle.pp_steps.specs.Gates.{Heights}
 use Rattle.pp_steps.specs.Meaning.{Values}
 use Rattle.pp_steps.specs.Sorted.{Sorts}
+use Rattle.pp_build.specs.StepGates.{is_seen}
 
 module _ {D T : Type 0} (m : Sense D T) where
   -- each register is a symbol of its step's sort, and has its step's height
   pub record AreRegisters (d : D) (gs : List Gate) (σ : Sorts) (η : Heights) (rs : List (Symbol T)) : Type 0 where
     pub of : (k : ℕ) (r : Symbol T) → slice_get rs k ≡ Some r → IsSymbol m d gs (σ k) r
     pub high : (k : ℕ) (r : Symbol T) → slice_get rs k ≡ Some r → symbol_height m d r ≡ η k
+
+  -- the steps with these numbers have registers, of which the trees are expanded
+  pub record AreExpanded (d : D) (rs : List (Symbol T)) (ks : List ℕ) : Type 0 where
+    pub within : (k : ℕ) → is_seen ks k ≡ true → k < length rs
+    pub expanded : (k : ℕ) → is_seen ks k ≡ true → (t : T) → slice_get rs k ≡ Some (symbol.Tree t) → m.Expanded d t
 
   -- the value of step number k is known: it has the step's sort, and under the assignment the register stands for it
   pub record IsKnown (types : TypeTable) (e : D) (a : ℕ → Bool) (n : Naming) (σ : Sorts) (ρ : Values)

@@ -11,7 +11,7 @@
 //! - `registers`: a register by its number, and literals of truth values.
 //! - `choice`: the choice between two registers.
 //! - `trees`: constructors, and what is read of trees.
-//! - `unknown`: `open_all`, and a symbol of any sort of which nothing is known.
+//! - `unknown`: `open_all`, symbols of which nothing is known for the parameters of a function.
 //!
 //! What operators make of symbols, and whether a measure goes down, stands in `pp_build_operators`.
 #![tactic(auto)]

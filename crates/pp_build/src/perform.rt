@@ -10,7 +10,6 @@ use crate::NoMemory;
 use crate::choice::choose;
 use crate::registers::{constant, literal, register};
 use crate::trees::{construct, ctor_field, has_ctor, only_field};
-use crate::unknown::unknown_symbol;
 use pp_domain::{Domain, Symbol, Symbols};
 use pp_gate::Circuit;
 use pp_prog::{Sort, TypeTable};
@@ -76,15 +75,15 @@ fn perform<D: Domain>(
 {
     match step {
         Step::Open(sort) => {
-            let symbol = unknown_symbol(domain, circuit, table, *sort, 0)?;
+            let symbol = pp_domain::unknown(domain, circuit, table, *sort, 0)?;
             Ok(symbol)
         }
         Step::HasAnswer(_) => {
-            let has = unknown_symbol(domain, circuit, table, Sort::Bool, 0)?;
+            let has = pp_domain::unknown(domain, circuit, table, Sort::Bool, 0)?;
             Ok(has)
         }
         Step::Answer(call) => {
-            let answer = unknown_symbol(domain, circuit, table, call.result, 0)?;
+            let answer = pp_domain::unknown(domain, circuit, table, call.result, 0)?;
             Ok(answer)
         }
         Step::Int(n) => {

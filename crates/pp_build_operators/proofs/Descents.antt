@@ -32,7 +32,7 @@ use Rattle.pp_domain.specs.Answers.{IsComparison}
 use Rattle.pp_domain.specs.Laws.{Lawful}
 use Rattle.pp_domain.specs.Moves.{Moves, OneComparison}
 use Rattle.pp_domain.specs.Naming.{Naming}
-use Rattle.pp_domain.specs.Sense.{Extended, Good, Sense}
+use Rattle.pp_domain.specs.Sense.{Extended, Good, Inexact, Sense}
 use Rattle.pp_domain.proofs.AnySort.{Moves_gates}
 use Rattle.pp_domain.proofs.Composition.{Extended_grown, Extended_more, Extended_none, Moves_grown, Moves_more}
 use Rattle.pp_domain.proofs.Composition.{Moves_none, Moves_weaker, Stands_later}
@@ -43,8 +43,7 @@ use Rattle.pp_domain.specs.Symbols.{IsSymbol, SymbolsStand}
 use Rattle.pp_eval.specs.Equality.{below}
 use Rattle.pp_eval.specs.Measure.{goes_down, layer_down}
 use Rattle.pp_eval.proofs.Trees.{one_answer, trees}
-use Rattle.pp_build_operators.specs.Operated.{ChoosesDescent, IsCompared, IsDescent, IsDescentMade, IsMade}
-use Rattle.pp_build_operators.specs.Operated.{MeansDescent}
+use Rattle.pp_build_operators.specs.Operated.{ChoosesDescent, CountsOne, IsCompared, IsDescent, IsMade, MeansDescent}
 use Rattle.pp_build_operators.specs.Operated.{StandsAs}
 use Rattle.pp_build_operators.proofs.Results.{truth_made, truth_stands}
 use Rattle.pp_build_operators.proofs.Values.{number_down, truth_stays}
@@ -86,16 +85,9 @@ module _ {D T : Type 0} (m : Sense D T) (types : TypeTable) where
     sorted = stands.sorted;
   }
 
-  -- a literal that was made without a comparison of trees
-  without_comparison : (d e : D) (gs hs : List Gate) (new old r : Symbol T) (s : Sort)
-      → IsMade m types d gs (new ∷ old ∷ []) e hs sort.Bool r → IsDescentMade m types d gs new old e hs s r
-  without_comparison d e gs hs new old r s made = record {
-    of = made.of;
-    low = made.low;
-    looks = λ inexact. (made.looks inexact).looks;
-    compares = λ inexact. (let c = (made.looks inexact).compares in omega arith);
-    extends = made.extends;
-  }
+  -- without a comparison of trees
+  CountsOne_none : (d : D) (s : Sort) → CountsOne m d d s
+  CountsOne_none d s = record { looks = refl; compares = omega arith }
 
   -- a comparison without trees tells as well as it is chosen
   told_descent : (d e : D) (gs hs : List Gate) (k : ℕ) (s : Sort) (new old r : Symbol T) → Moves m types d gs e hs k
@@ -114,8 +106,7 @@ module _ {D T : Type 0} (m : Sense D T) (types : TypeTable) where
       → StandsFor hs r (λ s. int_le (pos 0) (word_of w32 s a) && int_lt (word_of w32 s a) (word_of w32 s b))
       → IsDescent m types d gs d hs (symbol.Word a) (symbol.Word b) (symbol.Bit r)
   number_descent law d gs hs k a b r fits adds is = λ s one two.
-      let made = without_comparison d d gs hs (symbol.Word a) (symbol.Word b) (symbol.Bit r) s
-      (truth_made m types law (symbol.Word a ∷ symbol.Word b ∷ []) d gs hs k r fits adds is.of) in
+      let made = truth_made m types law (symbol.Word a ∷ symbol.Word b ∷ []) d gs hs k r fits adds is.of in
       let means : MeansDescent m types d hs s (symbol.Word a) (symbol.Word b) (symbol.Bit r) = λ n a' v w good first
       second.
       truth_stands m types d a' n r (Truth (goes_down v w))
@@ -127,6 +118,7 @@ module _ {D T : Type 0} (m : Sense D T) (types : TypeTable) where
         told_descent d d gs hs k s (symbol.Word a) (symbol.Word b) (symbol.Bit r)
             (Moves_gates m types law d gs hs k fits adds) one two
             (λ n a' good. Extended_grown m types law d gs hs k n a' a' fits adds.grows adds.circuit good) means,
+        λ inexact. CountsOne_none d s,
       )
 
   -- a truth value never goes down
@@ -135,9 +127,8 @@ module _ {D T : Type 0} (m : Sense D T) (types : TypeTable) where
       → IsDescent m types d gs d gs (symbol.Bit a) (symbol.Bit b) (symbol.Bit r)
   truth_descent law d gs a b t r fits is turned = λ s one two.
       let none = AddsGates_none gs 0 (law.circuit types d gs fits) in
-      let made = without_comparison d d gs gs (symbol.Bit a) (symbol.Bit b) (symbol.Bit r) s
-      (truth_made m types law (symbol.Bit a ∷ symbol.Bit b ∷ []) d gs gs 0 r fits none
-      (subst (λ (l : Literal). IsOf gs l) (sym turned) (IsOf_opposite gs t is.of))) in
+      let made = truth_made m types law (symbol.Bit a ∷ symbol.Bit b ∷ []) d gs gs 0 r fits none
+      (subst (λ (l : Literal). IsOf gs l) (sym turned) (IsOf_opposite gs t is.of)) in
       let means : MeansDescent m types d gs s (symbol.Bit a) (symbol.Bit b) (symbol.Bit r) = λ n a' v w good first
       second.
       truth_stands m types d a' n r (Truth (goes_down v w))
@@ -148,6 +139,7 @@ module _ {D T : Type 0} (m : Sense D T) (types : TypeTable) where
         told_descent d d gs gs 0 s (symbol.Bit a) (symbol.Bit b) (symbol.Bit r)
             (Moves_none m types law d gs fits) one two
             (λ n a' good. Extended_none m types d gs n a' good) means,
+        λ inexact. CountsOne_none d s,
       )
 
   -- the gates of a comparison of trees
@@ -190,17 +182,12 @@ module _ {D T : Type 0} (m : Sense D T) (types : TypeTable) where
       never inexact = absurd (false≢true (sym inexact ∙ exact))
 
       at : (s : Sort) → IsSymbol m d gs s (symbol.Tree t)
-          → IsDescentMade m types d gs (symbol.Tree t) (symbol.Tree u) e hs s (symbol.Bit l)
+          → IsMade m types d gs (symbol.Tree t ∷ symbol.Tree u ∷ []) e hs sort.Bool (symbol.Bit l)
           × (IsCompared m types s → MeansDescent m types e hs s (symbol.Tree t) (symbol.Tree u) (symbol.Bit l))
           × ChoosesDescent m types d gs e hs s (symbol.Tree t) (symbol.Tree u) (symbol.Bit l)
+          × Inexact m (CountsOne m d e s)
       at (sort.Tree of) one = (
-        record {
-          of = is.of;
-          low = refl;
-          looks = never;
-          compares = never;
-          extends = λ n a good any. is.extends n a good never;
-        },
+        record { of = is.of; low = refl; extends = λ n a good any. is.extends n a good never },
         λ compared n a v w good first second.
             truth_stands m types e a n l (Truth (goes_down v w))
             (ap Truth (tree_down types.ctors of v w first.sorted second.sorted
@@ -208,6 +195,7 @@ module _ {D T : Type 0} (m : Sense D T) (types : TypeTable) where
               is.sound n a v w good first.stands second.stands,
               is.exact exact n a v w good first.stands second.stands,
             ))),
+        never,
         never,
       )
       at sort.Int one = absurd one
@@ -240,15 +228,14 @@ module _ {D T : Type 0} (m : Sense D T) (types : TypeTable) where
 
       at : StandsFor hs l (λ s. lit_value s told || lit_value s free) → (s : Sort)
           → IsSymbol m d gs s (symbol.Tree t) → IsSymbol m d gs s (symbol.Tree u)
-          → IsDescentMade m types d gs (symbol.Tree t) (symbol.Tree u) e hs s (symbol.Bit l)
+          → IsMade m types d gs (symbol.Tree t ∷ symbol.Tree u ∷ []) e hs sort.Bool (symbol.Bit l)
           × (IsCompared m types s → MeansDescent m types e hs s (symbol.Tree t) (symbol.Tree u) (symbol.Bit l))
           × ChoosesDescent m types d gs e hs s (symbol.Tree t) (symbol.Tree u) (symbol.Bit l)
+          × Inexact m (CountsOne m d e s)
       at either (sort.Tree o) one two = (
         record {
           of = either.of;
           low = refl;
-          looks = λ not_exact. once.looks;
-          compares = λ not_exact. once.compares;
           extends = λ n a good any.
               let x = is.extends n a good (λ i. two_values d a n t u (any i).0 (any i).1) in
               Extended_more m types e e gs fs hs k n a moves.grows x
@@ -292,6 +279,7 @@ module _ {D T : Type 0} (m : Sense D T) (types : TypeTable) where
                   (sym (lit_agree (length ps) over.next last.next free of last.agree) ∙ means over.next
                   ∙ ap over.next (sym var) ∙ sym (y.inputs free.var (omega arith) input)))),
             ),
+        λ not_exact. record { looks = once.looks; compares = once.compares },
       )
       at either sort.Int one two = absurd one
       at either sort.Bool one two = absurd one

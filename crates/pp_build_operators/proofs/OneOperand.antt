@@ -17,6 +17,7 @@ use Rattle.pp_domain.specs.declared.symbol.Symbol.TheVariants as symbol
 use Rattle.pp_domain.specs.Laws.{Lawful}
 use Rattle.pp_domain.specs.Sense.{Sense}
 use Rattle.pp_domain.specs.Symbols.{IsSymbol}
+use Rattle.pp_domain.proofs.AnySort.{SameLooks_none}
 use Rattle.pp_eval.specs.Operators.{unary}
 use Rattle.pp_steps.specs.Meaning.{value_or}
 use Rattle.pp_build_operators.specs.Operated.{IsMade, StandsAs, IsUnary}
@@ -38,6 +39,7 @@ module _ {D T : Type 0} (m : Sense D T) (types : TypeTable) (law : Lawful m) whe
             subst (λ t. StandsAs m types d e n t (symbol.Word r) (value_or (Truth false) (unary op v))) same
             (number_of_part m types d e n hs r _ (unary op v) is good.gates
             (unary_makes_number op u (word_of w32 e a) sorted) (ap (unary op) stands.stands)),
+        λ inexact. SameLooks_none m types law d,
       )
 
   pub truth_unary : (op : UnaryOp) (d : D) (gs : List Gate) (a r : Literal) → m.Fits types d gs → r ≡ opposite a
@@ -46,13 +48,15 @@ module _ {D T : Type 0} (m : Sense D T) (types : TypeTable) (law : Lawful m) whe
       let sorted = operand_sorted m types op d gs s u (symbol.Bit a) of h in
       let same = sym (unary_truth_sort op u sorted) in (
         subst (λ t. IsMade m types d gs (symbol.Bit a ∷ []) d gs t (symbol.Bit r)) same
-            (truth_made m types law (symbol.Bit a ∷ []) d gs gs 0 r fits (AddsGates_none gs 0 (law.circuit types d gs fits))
+            (truth_made m types law (symbol.Bit a ∷ []) d gs gs 0 r fits
+            (AddsGates_none gs 0 (law.circuit types d gs fits))
             (subst (λ (l : Literal). IsOf gs l) (sym is) (IsOf_opposite gs a (bit_of_circuit d gs s a of)))),
         λ n e v good stands.
             let part = ap (unary op) stands.stands ∙ unary_makes_truth op u (lit_value e a) sorted in
             subst (λ t. StandsAs m types d e n t (symbol.Bit r) (value_or (Truth false) (unary op v))) same
             (truth_stands m types d e n r (value_or (Truth false) (unary op v))
             (ap (value_or (Truth false)) part ∙ ap Truth (sym (lit_value_negated e r a is)))),
+        λ inexact. SameLooks_none m types law d,
       )
     where
       bit_of_circuit : (d : D) (gs : List Gate) (s : Sort) (a : Literal) → IsSymbol m d gs s (symbol.Bit a) → IsOf gs a

@@ -1,25 +1,16 @@
 -- Symbols without a tree: what they stand for has their sort, and good assignments extend over them.
-use Rattle.std.proofs.Common.{◌≡◌, ℕ, ℤ, List, length, All, Bool, true, false, refl, sym, ap, ◌∙◌, arith}
-use Rattle.std.specs.Prelude.{◌≤ℤ◌, ◌<ℤ◌, int_le, int_lt}
+use Rattle.std.proofs.Common.{◌≡◌, ℕ, List, length, All, Bool, false, refl, sym, ap, ◌∙◌}
 use Rattle.std.specs.Int.{w32}
-use Rattle.std.proofs.lemmas.Bool.{and_from}
-use Rattle.std.proofs.lemmas.Int.{ints}
-use Rattle.pp_word.proofs.Ranges.{IsWord-cast_signed}
-use Rattle.pp_prog.specs.declared.sort.Sort.{Sort}
 use Rattle.pp_prog.specs.declared.sort.Sort.TheVariants as sort
-use Rattle.pp_prog.specs.declared.types.Ctor.{Ctor}
 use Rattle.pp_prog.specs.declared.types.TypeTable.{TypeTable}
 use Rattle.pp_prog.specs.declared.value.Value.{Value}
-use Rattle.pp_prog.specs.declared.value.Value.TheFolds.{fold-roll-Value}
-use Rattle.pp_prog.specs.declared.value.Value.TheOpen as layer
-use Rattle.pp_prog.specs.declared.value.Value.TheVariants.{Int, Bool as Truth, rolls-Int, rolls-Bool}
-use Rattle.pp_prog.specs.Sorts.{has_sort, has_step, is_int}
+use Rattle.pp_prog.specs.declared.value.Value.TheVariants.{Int, Bool as Truth}
+use Rattle.pp_prog.specs.Sorts.{has_sort}
+use Rattle.pp_prog.proofs.ValueSorts.{int_has, truth_has}
 use Rattle.pp_clause.specs.Literal.{Literal, lit_value}
 use Rattle.pp_gate.specs.declared.gate.Gate.{Gate}
 use Rattle.pp_gate.specs.Circuit.{IsOf, Gives}
 use Rattle.pp_gate.specs.Growth.{AddsGates}
-use Rattle.pp_bits.specs.Number.{nat_of}
-use Rattle.pp_bits.proofs.Numbers.{nat_of_within}
 use Rattle.pp_wordgate.specs.Meaning.{word_of}
 use Rattle.pp_domain.specs.declared.symbol.Symbol.{Symbol}
 use Rattle.pp_domain.specs.declared.symbol.Symbol.TheVariants as symbol
@@ -27,37 +18,12 @@ use Rattle.pp_domain.specs.Laws.{Lawful}
 use Rattle.pp_domain.specs.Naming.{Naming}
 use Rattle.pp_domain.specs.Sense.{Sense}
 use Rattle.pp_domain.proofs.Composition.{Extended_grown}
+pub use Rattle.pp_domain.proofs.PlainSymbols.{word_is_int}
 use Rattle.pp_eval.specs.Part.{Part}
 use Rattle.pp_steps.specs.Meaning.{value_or}
 use Rattle.pp_build_operators.specs.Operated.{IsMade, StandsAs}
 use Rattle.pp_build_operators.specs.Plain.{IsNumberOf, IsTruthOf}
 use Rattle.pp_build_operators.proofs.Values.{MakesNumber, MakesTruth}
-
--- ---- values of words and literals have their sorts
-
-at_most_true : (a b : ℤ) → a ≤ℤ b → int_le a b ≡ true
-at_most_true a b h = grind (arith, ints)
-
-less_true : (a b : ℤ) → a <ℤ b → int_lt a b ≡ true
-less_true a b h = grind (arith, ints)
-
--- a word of 32 literals stands for a number in the range of Int
-pub word_is_int : (a : ℕ → Bool) (w : List Literal) → length w ≡ 32 → is_int (word_of w32 a w) ≡ true
-unfolding word_of
-word_is_int a w len =
-    let h = IsWord-cast_signed w32 (nat_of a w) (nat_of_within a w 32 len) in
-    and_from _ _ (at_most_true _ _ h.0) (less_true _ _ h.1)
-
-module _ (ctors : List Ctor) where
-  int_sorted : (n : ℤ) → is_int n ≡ true → has_sort ctors (Int n) sort.Int ≡ true
-  int_sorted n h =
-      ap (λ (v : Value). has_sort ctors v sort.Int) (sym (rolls-Int n))
-      ∙ ap (λ (f : Sort → Bool). f sort.Int) (fold-roll-Value (Sort → Bool) (has_step ctors) (layer.Int n)) ∙ h
-
-  truth_sorted : (b : Bool) → has_sort ctors (Truth b) sort.Bool ≡ true
-  truth_sorted b =
-      ap (λ (v : Value). has_sort ctors v sort.Bool) (sym (rolls-Bool b))
-      ∙ ap (λ (f : Sort → Bool). f sort.Bool) (fold-roll-Value (Sort → Bool) (has_step ctors) (layer.Bool b))
 
 module _ {D T : Type 0} (m : Sense D T) (types : TypeTable) where
   number_stands : (e : D) (a : ℕ → Bool) (n : Naming) (r : List Literal) (v : Value) → length r ≡ 32
@@ -65,14 +31,14 @@ module _ {D T : Type 0} (m : Sense D T) (types : TypeTable) where
   number_stands e a n r v len is = record {
     stands = is;
     sorted = ap (λ (w : Value). has_sort types.ctors w sort.Int) is
-        ∙ int_sorted types.ctors (word_of w32 a r) (word_is_int a r len);
+        ∙ int_has types.ctors (word_of w32 a r) (word_is_int a r len);
   }
 
   pub truth_stands : (e : D) (a : ℕ → Bool) (n : Naming) (r : Literal) (v : Value) → v ≡ Truth (lit_value a r)
       → StandsAs m types e a n sort.Bool (symbol.Bit r) v
   truth_stands e a n r v is = record {
     stands = is;
-    sorted = ap (λ (w : Value). has_sort types.ctors w sort.Bool) is ∙ truth_sorted types.ctors (lit_value a r);
+    sorted = ap (λ (w : Value). has_sort types.ctors w sort.Bool) is ∙ truth_has types.ctors (lit_value a r);
   }
 
   -- what the part comes to
@@ -92,20 +58,19 @@ module _ {D T : Type 0} (m : Sense D T) (types : TypeTable) where
       (ap (λ (p : Part Value). value_or (Truth false) p) (same ∙ made.is)
       ∙ ap Truth (sym (is.value a made.truth gives made.is)))
 
-  pub number_made : Lawful m → (xs : List (Symbol T)) (d : D) (gs hs : List Gate) (k : ℕ) (r : List Literal) → m.Fits types d gs
-      → AddsGates gs hs k → length r ≡ 32 → All (IsOf hs) r → IsMade m types d gs xs d hs sort.Int (symbol.Word r)
+  pub number_made : Lawful m → (xs : List (Symbol T)) (d : D) (gs hs : List Gate) (k : ℕ) (r : List Literal)
+      → m.Fits types d gs → AddsGates gs hs k → length r ≡ 32 → All (IsOf hs) r
+      → IsMade m types d gs xs d hs sort.Int (symbol.Word r)
   number_made law xs d gs hs k r fits adds len of = record {
     of = (len, of);
     low = refl;
-    looks = λ inexact. record { looks = refl; compares = refl };
     extends = λ n a good any. Extended_grown m types law d gs hs k n a a fits adds.grows adds.circuit good;
   }
 
-  pub truth_made : Lawful m → (xs : List (Symbol T)) (d : D) (gs hs : List Gate) (k : ℕ) (r : Literal) → m.Fits types d gs
-      → AddsGates gs hs k → IsOf hs r → IsMade m types d gs xs d hs sort.Bool (symbol.Bit r)
+  pub truth_made : Lawful m → (xs : List (Symbol T)) (d : D) (gs hs : List Gate) (k : ℕ) (r : Literal)
+      → m.Fits types d gs → AddsGates gs hs k → IsOf hs r → IsMade m types d gs xs d hs sort.Bool (symbol.Bit r)
   truth_made law xs d gs hs k r fits adds of = record {
     of = of;
     low = refl;
-    looks = λ inexact. record { looks = refl; compares = refl };
     extends = λ n a good any. Extended_grown m types law d gs hs k n a a fits adds.grows adds.circuit good;
   }

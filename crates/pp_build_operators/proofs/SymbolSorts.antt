@@ -1,5 +1,5 @@
 -- A symbol tells its sort, and so the gates of an operator on it.
-use Rattle.std.proofs.Common.{◌≡◌, ◌+◌, ◌*◌, Bool, false, if◌then◌else◌, List, Some, refl, ap, ◌∙◌}
+use Rattle.std.proofs.Common.{◌≡◌, Bool, false, if◌then◌else◌, List, Some, refl, ap, ◌∙◌}
 use Rattle.std.specs.Prelude.{min}
 use Rattle.pp_prog.specs.declared.expr.BinaryOp.{BinaryOp}
 use Rattle.pp_prog.specs.declared.expr.UnaryOp.{UnaryOp}
@@ -13,7 +13,7 @@ use Rattle.pp_domain.specs.declared.symbol.Symbol.TheVariants as symbol
 use Rattle.pp_domain.specs.Sense.{Sense}
 use Rattle.pp_domain.specs.Symbols.{IsSymbol, symbol_height}
 use Rattle.pp_prog.specs.Sizes.{by_sort}
-use Rattle.pp_domain.specs.Allowance.{bits_at}
+use Rattle.pp_domain.specs.Allowance.{equality_gates}
 use Rattle.pp_domain.specs.AnySort.{compare_gates}
 use Rattle.pp_steps.specs.Gates.{binary_gates}
 use Rattle.pp_steps.specs.Sorted.{operated_sort}
@@ -53,11 +53,11 @@ module _ {D T : Type 0} (m : Sense D T) (types : TypeTable) where
 
   pub compare_gates_are : (d : D) (gs : List Gate) (s : Sort) (x y : Symbol T) → IsSymbol m d gs s x
       → IsSymbol m d gs s y → compare_gates m types d x y
-      ≡ by_sort 64 1 (λ of. 4 * (32 + bits_at m types of (min (symbol_height m d x) (symbol_height m d y)))) s
+      ≡ by_sort 64 1 (λ of. equality_gates m types of (min (symbol_height m d x) (symbol_height m d y))) s
   compare_gates_are d gs sort.Int (symbol.Word v) (symbol.Word w) is other = refl
   compare_gates_are d gs sort.Bool (symbol.Bit k) (symbol.Bit l) is other = refl
   compare_gates_are d gs (sort.Tree of) (symbol.Tree t) (symbol.Tree u) is other =
-      ap (λ e. 4 * (32 + bits_at m types e (min (m.height d t) (m.height d u)))) is.1
+      ap (λ e. equality_gates m types e (min (m.height d t) (m.height d u))) is.1
   compare_gates_are d gs sort.Int (symbol.Bit l) y is other = absurd is
   compare_gates_are d gs sort.Int (symbol.Tree t) y is other = absurd is
   compare_gates_are d gs sort.Bool (symbol.Word w) y is other = absurd is

@@ -22,7 +22,7 @@ use Rattle.pp_domain.specs.Moves.{Moves, SameLooks}
 use Rattle.pp_domain.specs.Naming.{Naming}
 use Rattle.pp_domain.specs.Sense.{Sense}
 use Rattle.pp_domain.specs.Symbols.{SymbolStands, SymbolsStand}
-use Rattle.pp_domain.proofs.AnySort.{Moves_gates}
+use Rattle.pp_domain.proofs.AnySort.{Moves_gates, SameLooks_none}
 use Rattle.pp_eval.specs.Equality.{equal}
 use Rattle.pp_eval.specs.Operators.{on_numbers, on_truths}
 use Rattle.pp_eval.proofs.Trees.{one_answer, trees}
@@ -33,7 +33,8 @@ use Rattle.pp_build_operators.specs.Operated.{CanOperate, IsMade, StandsAs, IsBi
 use Rattle.pp_build_operators.specs.Plain.{IsNumberOf, IsTruthOf, applied_number}
 use Rattle.pp_build_operators.proofs.Results.{number_made, number_of_part, truth_made, truth_of_part, truth_stands}
 use Rattle.pp_build_operators.proofs.SymbolSorts.{operands_sorted, plain_gates}
-use Rattle.pp_build_operators.proofs.Values.{ordered_number, applied_numbers, applied_truths, equality_sort, makes_number}
+use Rattle.pp_build_operators.proofs.Values.{applied_numbers, applied_truths, equality_sort, makes_number}
+use Rattle.pp_build_operators.proofs.Values.{ordered_number}
 use Rattle.pp_build_operators.proofs.Values.{makes_truth, number_gates_are, number_sort, order_gates}
 use Rattle.pp_build_operators.proofs.Values.{order_makes_truth, order_sort, truth_gates, truth_sort}
 
@@ -96,6 +97,7 @@ module _ {D T : Type 0} (m : Sense D T) (types : TypeTable) (law : Lawful m) whe
             (number_of_part m types d e n hs r _ (applied op v w) is good.gates
             (makes_number op u x y other plain sorted)
             (applied_to op v w (Int x) (Int y) first.stands second.stands ∙ applied_numbers op x y other)),
+        λ inexact. SameLooks_none m types law d,
       )
 
   pub order_binary : (op : BinaryOp) (d : D) (gs hs : List Gate) (k : ℕ) (a b : List Literal) (r : Literal)
@@ -115,6 +117,7 @@ module _ {D T : Type 0} (m : Sense D T) (types : TypeTable) (law : Lawful m) whe
             (order_makes_truth op u x y order sorted)
             (applied_to op v w (Int x) (Int y) first.stands second.stands
             ∙ applied_numbers op x y other ∙ ordered_number op x y order)),
+        λ inexact. SameLooks_none m types law d,
       )
 
   pub truth_binary : (op : BinaryOp) (d : D) (gs hs : List Gate) (k : ℕ) (a b r : Literal) → m.Fits types d gs
@@ -133,6 +136,7 @@ module _ {D T : Type 0} (m : Sense D T) (types : TypeTable) (law : Lawful m) whe
             (truth_of_part m types d e n hs r _ (applied op v w) is good.gates (makes_truth op u x y other sorted)
             (applied_to op v w (Truth x) (Truth y) first.stands second.stands
             ∙ applied_truths op u x y other sorted)),
+        λ inexact. SameLooks_none m types law d,
       )
 
 module _ {D T : Type 0} (m : Sense D T) (types : TypeTable) where
@@ -146,11 +150,11 @@ module _ {D T : Type 0} (m : Sense D T) (types : TypeTable) where
 
   -- a literal that is made from the one of an equality
   from_equality : (d e : D) (gs hs : List Gate) (left right : Symbol T) (l r : Literal)
-      → SameLooks m d e → IsSame m types d gs e hs left right l → IsOf hs r → IsMade m types d gs (left ∷ right ∷ []) e hs sort.Bool (symbol.Bit r)
-  from_equality d e gs hs left right l r looks is of = record {
+      → IsSame m types d gs e hs left right l → IsOf hs r
+      → IsMade m types d gs (left ∷ right ∷ []) e hs sort.Bool (symbol.Bit r)
+  from_equality d e gs hs left right l r is of = record {
     of = of;
     low = refl;
-    looks = λ inexact. looks;
     extends = λ n a good any.
         is.extends n a good (λ inexact. let o = any inexact in two_values d a n left right o.0 o.1);
   }
@@ -161,12 +165,13 @@ module _ {D T : Type 0} (m : Sense D T) (types : TypeTable) where
   equal_binary d e gs hs left right l looks is = λ s t u one two sorted.
       let same = sym (equality_sort Equal s t u refl sorted) in (
         subst (λ q. IsMade m types d gs (left ∷ right ∷ []) e hs q (symbol.Bit l)) same
-            (from_equality d e gs hs left right l l looks is is.of),
+            (from_equality d e gs hs left right l l is is.of),
         λ n a v w good first second.
             subst (λ q. StandsAs m types e a n q (symbol.Bit l) (Truth (equal v w))) same
             (truth_stands m types e a n l (Truth (equal v w))
             (ap Truth (one_answer (v ≡ w) (equal v w) (lit_value a l) (trees.same v w)
             (is.means n a v w good first.stands second.stands)))),
+        λ inexact. looks,
       )
 
   pub differ_binary : (d e : D) (gs hs : List Gate) (left right : Symbol T) (l r : Literal)
@@ -175,11 +180,12 @@ module _ {D T : Type 0} (m : Sense D T) (types : TypeTable) where
   differ_binary d e gs hs left right l r looks is turned = λ s t u one two sorted.
       let same = sym (equality_sort Differ s t u refl sorted) in (
         subst (λ q. IsMade m types d gs (left ∷ right ∷ []) e hs q (symbol.Bit r)) same
-            (from_equality d e gs hs left right l r looks is
+            (from_equality d e gs hs left right l r is
             (subst (λ (q : Literal). IsOf hs q) (sym turned) (IsOf_opposite hs l is.of))),
         λ n a v w good first second.
             subst (λ q. StandsAs m types e a n q (symbol.Bit r) (Truth (not (equal v w)))) same
             (truth_stands m types e a n r (Truth (not (equal v w)))
             (ap Truth (ap not (one_answer (v ≡ w) (equal v w) (lit_value a l) (trees.same v w)
             (is.means n a v w good first.stands second.stands)) ∙ sym (lit_value_negated a r l turned)))),
+        λ inexact. looks,
       )

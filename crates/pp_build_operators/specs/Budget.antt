@@ -53,7 +53,7 @@ module _ {D T : Type 0} (m : Sense D T) (types : TypeTable) where
   operator_gates op d left right =
       if is_equality op then compare_gates m types d left right else binary_gates types op 0 (symbol_sort d left)
 
-  -- whether a tree goes down: a comparison, and in a domain that isn't exact an input beside it
+  -- whether a tree goes down: a comparison, and in a domain that isn't exact an input, and a gate that joins the two
   abbrev pub tree_down_gates : D → T → T → ℕ
   tree_down_gates d new old = below_gates m types d new old + (if m.exact then 0 else 2)
 

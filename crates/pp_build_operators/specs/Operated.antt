@@ -40,13 +40,18 @@ module _ {D T : Type 0} (m : Sense D T) where
     pub right_is : IsSymbol m d gs right_sort right
     pub sorted : operated_sort op (Some left_sort) (Some right_sort) ≡ Some result
 
+  -- no tree was expanded; of components that are trees at most one comparison more is counted
+  pub record CountsOne (d e : D) (s : Sort) : Type 0 where
+    pub looks : m.looks e ≡ m.looks d
+    pub compares : m.compares e ≤ by_sort 0 0 (λ of. 1) s + m.compares d
+
 module _ {D T : Type 0} (m : Sense D T) (types : TypeTable) where
   -- a symbol of this sort, of height 0, over which each good assignment extends; in a domain that isn't exact where the
   -- operands stand for values
-  pub record IsMade (d : D) (gs : List Gate) (xs : List (Symbol T)) (e : D) (hs : List Gate) (s : Sort) (r : Symbol T) : Type 0 where
+  pub record IsMade (d : D) (gs : List Gate) (xs : List (Symbol T)) (e : D) (hs : List Gate) (s : Sort) (r : Symbol T)
+      : Type 0 where
     pub of : IsSymbol m e hs s r
     pub low : symbol_height m e r ≡ 0
-    pub looks : m.exact ≡ false → SameLooks m d e
     pub extends : (n : Naming) (a : ℕ → Bool) → Good m types d gs n a
         → Inexact m ((vs : List Value) × SymbolsStand m d a n xs vs) → Extended m types gs n a e hs
 
@@ -71,27 +76,16 @@ module _ {D T : Type 0} (m : Sense D T) (types : TypeTable) where
   MeansDescent e hs s new old r = (n : Naming) (a : ℕ → Bool) (v w : Value) → Good m types e hs n a
       → StandsAs e a n s new v → StandsAs e a n s old w → StandsAs e a n sort.Bool r (Truth (goes_down v w))
 
-  -- what an operator with one operand answers
+  -- what an operator with one operand answers; no tree is expanded
   abbrev pub IsUnary : UnaryOp → D → List Gate → D → List Gate → Symbol T → Symbol T → Type 0
   IsUnary op d gs e hs x r = (s u : Sort) → IsSymbol m d gs s x → unary_sort op (Some s) ≡ Some u
-      → IsMade d gs (x ∷ []) e hs u r × MeansUnary op e hs s u x r
+      → IsMade d gs (x ∷ []) e hs u r × MeansUnary op e hs s u x r × Inexact m (SameLooks m d e)
 
-  -- with two operands
+  -- and one with two
   abbrev pub IsBinary : BinaryOp → D → List Gate → D → List Gate → Symbol T → Symbol T → Symbol T → Type 0
   IsBinary op d gs e hs left right r = (s t u : Sort) → IsSymbol m d gs s left → IsSymbol m d gs t right
       → operated_sort op (Some s) (Some t) ≡ Some u
-      → IsMade d gs (left ∷ right ∷ []) e hs u r × MeansBinary op e hs s t u left right r
-
-  -- a literal over which each good assignment extends; in a domain that isn't exact where the components stand for
-  -- values. No tree was expanded; of components that are trees two were compared
-  pub record IsDescentMade (d : D) (gs : List Gate) (new old : Symbol T) (e : D) (hs : List Gate) (s : Sort)
-      (r : Symbol T) : Type 0 where
-    pub of : IsSymbol m e hs sort.Bool r
-    pub low : symbol_height m e r ≡ 0
-    pub looks : m.exact ≡ false → m.looks e ≡ m.looks d
-    pub compares : m.exact ≡ false → m.compares e ≤ by_sort 0 0 (λ of. 1) s + m.compares d
-    pub extends : (n : Naming) (a : ℕ → Bool) → Good m types d gs n a
-        → Inexact m ((vs : List Value) × SymbolsStand m d a n (new ∷ old ∷ []) vs) → Extended m types gs n a e hs
+      → IsMade d gs (left ∷ right ∷ []) e hs u r × MeansBinary op e hs s t u left right r × Inexact m (SameLooks m d e)
 
   -- the comparison says when the component goes down: of trees in an exact domain alone
   abbrev pub IsCompared : Sort → Type 0
@@ -106,5 +100,5 @@ module _ {D T : Type 0} (m : Sense D T) (types : TypeTable) where
   -- what a comparison of two components of measures answers
   abbrev pub IsDescent : D → List Gate → D → List Gate → Symbol T → Symbol T → Symbol T → Type 0
   IsDescent d gs e hs new old r = (s : Sort) → IsSymbol m d gs s new → IsSymbol m d gs s old
-      → IsDescentMade d gs new old e hs s r × (IsCompared s → MeansDescent e hs s new old r)
-      × ChoosesDescent d gs e hs s new old r
+      → IsMade d gs (new ∷ old ∷ []) e hs sort.Bool r × (IsCompared s → MeansDescent e hs s new old r)
+      × ChoosesDescent d gs e hs s new old r × Inexact m (CountsOne m d e s)

@@ -52,8 +52,8 @@ pub fn goes_down<D: Domain>(
     }
 }
 
-/// Whether a tree goes down: where it is a proper subtree of the old one. A domain that isn't exact tells that of some
-/// trees; of all others the literal can stand for either.
+/// Whether a tree goes down: where it is a proper subtree of the old one. In a domain that isn't exact `below` tells
+/// that of some trees, and the literal is true where `below` is or a new input: of all others it can stand for either.
 fn tree_goes_down<D: Domain>(
     domain: &mut D,
     circuit: &mut Circuit,

@@ -1,6 +1,5 @@
 -- The sites of a function of a program have the kinds of the typed function that it is.
 use Rattle.std.proofs.Common.{◌≡◌, ℕ, true, List, [], ◌∷◌, ◌++◌, map, Option, Some, None, is_some, refl, sym, ap, ◌∙◌}
-use Rattle.std.proofs.Common.{append_assoc}
 use Rattle.std.specs.Option.{option_map}
 use Rattle.std.proofs.lemmas.Bool.{and_parts}
 use Rattle.std.proofs.lemmas.List.{append-nil}
@@ -17,7 +16,6 @@ use Rattle.pp_prog.specs.Sorts.{param_sorts}
 use Rattle.pp_prog.specs.declared.check.CheckKind.TheVariants as check
 use Rattle.pp_prog.specs.declared.expr.BinaryOp.TheVariants.{AndAlso}
 use Rattle.pp_prog.specs.declared.expr.Expr.{Expr}
-use Rattle.pp_prog.specs.declared.expr.Expr.TheVariants.{Binary}
 use Rattle.pp_prog.specs.declared.expr.Function.{Function}
 use Rattle.pp_prog.specs.declared.id.CheckId.{CheckId}
 use Rattle.pp_prog.specs.declared.program.Program.{Program}
@@ -26,7 +24,8 @@ use Rattle.pp_prog.specs.declared.sort.Sort.TheVariants as sort
 use Rattle.pp_prog.proofs.PartSorts.{has_the_sort_is, some_sort}
 use Rattle.pp_translation.specs.Bare.{bare, bare_function, bare_post}
 use Rattle.pp_translation.specs.Exprs.{expr_at}
-use Rattle.pp_translation.specs.Functions.{and_all, as_one, function_of, post_at}
+use Rattle.pp_translation.specs.Functions.{as_one, function_of, post_at}
+use Rattle.pp_translation.proofs.Conditions.{as_one_joined}
 use Rattle.pp_typed.specs.declared.typed.Typed.{Typed}
 use Rattle.pp_typed.specs.declared.typed.TypedDef.{TypedDef}
 use Rattle.pp_typed.specs.declared.typed.TypedPost.{TypedPost}
@@ -84,16 +83,9 @@ module _ (p : Program) where
 
 -- ---- the kinds
 
-and_all_kinds : (e : Expr) (es : List Expr) → kinds (and_all e es) ≡ kinds e ++ joined (map kinds es)
-and_all_kinds e [] = sym (append-nil (kinds e))
-and_all_kinds e (c ∷ cs) =
-    and_all_kinds (Binary AndAlso e c None) cs
-    ∙ ap (λ l. l ++ joined (map kinds cs)) (kinds_binary AndAlso e c None ∙ append-nil (kinds e ++ kinds c))
-    ∙ append_assoc (kinds e) (kinds c) (joined (map kinds cs))
-
 as_one_kinds : (es : List Expr) → if_kinds (as_one es) ≡ joined (map kinds es)
-as_one_kinds [] = refl
-as_one_kinds (e ∷ es) = and_all_kinds e es
+as_one_kinds =
+    as_one_joined kinds (λ (a b : Expr). kinds_binary AndAlso a b None ∙ append-nil (kinds a ++ kinds b))
 
 bare_if : (o : Option Expr) → if_kinds (option_map bare o) ≡ if_kinds o
 bare_if None = refl

@@ -1,49 +1,26 @@
--- What an argument is for a plain descent, and the checks that are marked.
-use Rattle.std.proofs.Common.{◌≡◌, ◌↔◌, ◌⊎◌, ◌<◌, ◌≤◌, ◌+◌, ℕ, zero, suc, Bool, true, false, List, [], ◌∷◌, map, length}
-use Rattle.std.proofs.Common.{replicate, get_or, Some, slice_get, refl, sym, ap, ◌∙◌, subst, arith, inl, inr, ⊎_elim}
+-- While the checks that are plain descents are marked.
+use Rattle.std.proofs.Common.{◌≡◌, ◌↔◌, ◌⊎◌, ◌<◌, ◌≤◌, ◌+◌, ℕ, zero, suc, Bool, true, false, List, [], ◌∷◌, length}
+use Rattle.std.proofs.Common.{replicate, get_or, Some, slice_get, sym, ap, ◌∙◌, subst, arith, inl, inr, ⊎_elim}
 use Rattle.std.proofs.Common.{Contains, IsTrue}
 use Rattle.std.proofs.lemmas.Bool.Decides.{eqb_tells}
 use Rattle.std.proofs.lemmas.List.{length-replicate}
-use Rattle.std.proofs.lemmas.Option.{slice_get-map, slice_get_within}
-use Rattle.std.specs.Option.{option_map}
-use Rattle.pp_prog.specs.declared.expr.Case.{Case}
-use Rattle.pp_prog.specs.declared.expr.Expr.{Expr}
-use Rattle.pp_prog.specs.declared.expr.Expr.TheFolds.{fold_out-Expr, map-Expr}
-use Rattle.pp_prog.specs.declared.expr.Expr.TheOpen as layer
-use Rattle.pp_prog.specs.declared.expr.Expr.TheViews.{out-Expr}
+use Rattle.std.proofs.lemmas.Option.{slice_get_within}
 use Rattle.pp_prog.specs.declared.expr.Function.{Function}
 use Rattle.pp_graph.specs.Rows.{marked}
-use Rattle.pp_checks.specs.Tables.{IsPlainBelow, MarkPlain}
-use Rattle.pp_checks.specs.Plain.{IsPlain, plain_descents, CaseDescents, Seen, case_step, descents_in_case, goes_down}
-use Rattle.pp_checks.specs.Plain.{inside_at, is_inside, seen, seen_step, variable_in, variable_of}
+use Rattle.pp_checks.proofs.PlainDescents.{descent_found, found_descends}
+use Rattle.pp_checks.specs.Plain.{IsPlain}
+use Rattle.pp_checks.specs.Marks.{plain_descents}
 
-module _ (functions : List Function) (p : ℕ) where
-  variable_of_layer : (y : layer.Expr-F Expr Case) → (seen_step functions p (map-Expr Expr Case Seen CaseDescents
-      (seen functions p) (descents_in_case functions p) y)).0 ≡ variable_in y
-  variable_of_layer (layer.Int n) = refl
-  variable_of_layer (layer.Bool b) = refl
-  variable_of_layer (layer.Var i) = refl
-  variable_of_layer (layer.Unary op a) = refl
-  variable_of_layer (layer.Binary op a b check) = refl
-  variable_of_layer (layer.Construct c args) = refl
-  variable_of_layer (layer.Field e k) = refl
-  variable_of_layer (layer.If c a b) = refl
-  variable_of_layer (layer.Match e cases check) = refl
-  variable_of_layer (layer.Val bound rest) = refl
-  variable_of_layer (layer.Assert check c rest) = refl
-  variable_of_layer (layer.Call g args pre measure) = refl
+-- check c is a plain descent of one of the first n functions
+abbrev pub IsPlainBelow : List Function → ℕ → ℕ → Type 0
+IsPlainBelow functions n c =
+    (f : ℕ) × (function : Function) × (f < n) × (slice_get functions f ≡ Some function) × Contains (plain_descents
+    functions function) c
 
-  variable_seen : (e : Expr) → (seen functions p e).0 ≡ variable_of e
-  variable_seen e =
-      ap (λ (s : Seen). s.0) (fold_out-Expr Seen CaseDescents (seen_step functions p) case_step e)
-      ∙ variable_of_layer (out-Expr e)
-
-  -- whether the argument at a place is inside
-  pub goes_down_at : (q : ℕ) (args : List Expr) (arg : Expr) (marks : List Bool) → slice_get args q ≡ Some arg
-      → goes_down (Some q) (map (seen functions p) args) marks ≡ is_inside marks (variable_of arg)
-  goes_down_at q args arg marks is =
-      ap (λ o. inside_at o marks) (slice_get-map (seen functions p) args q
-      ∙ ap (option_map (seen functions p)) is) ∙ ap (is_inside marks) (variable_seen arg)
+-- the marks of the first m checks are at the plain descents of the first n functions
+pub record MarkPlain (functions : List Function) (n m : ℕ) (marks : List Bool) : Type 0 where
+  pub size : length marks ≡ m
+  pub each : (c : ℕ) → c < m → IsTrue (marked marks c) ↔ IsPlainBelow functions n c
 
 -- the item at a place
 pub get_at : {A : Type 0} (xs : List A) (i : ℕ) (x : A) → i < length xs → x ≡ get_or xs i x → slice_get xs i ≡ Some x
@@ -98,6 +75,12 @@ module _ (functions : List Function) (i : ℕ) where
 pub all_plain : (functions : List Function) (n m : ℕ) (marks : List Bool) → length functions ≤ n
     → MarkPlain functions n m marks → (c : ℕ) → c < m → IsTrue (marked marks c) ↔ IsPlain functions c
 all_plain functions n m marks over all c inside = (
-  λ t. let p = (all.each c inside).0 t in (p.0, p.1, p.3, p.4),
-  λ p. (all.each c inside).1 (p.0, p.1, omega (arith, over, slice_get_within functions p.0 p.1 p.2), p.2, p.3),
+  λ t. let p = (all.each c inside).0 t in (p.0, p.1, p.3, found_descends functions p.1 c p.4),
+  λ p. (all.each c inside).1 (
+    p.0,
+    p.1,
+    omega (arith, over, slice_get_within functions p.0 p.1 p.2),
+    p.2,
+    descent_found functions p.1 c p.3,
+  ),
 )

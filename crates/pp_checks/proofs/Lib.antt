@@ -1,5 +1,9 @@
 pub mod Called
 pub mod Binding
+pub mod Inside
+pub mod Measured
+pub mod Listed
+pub mod PlainDescents
 pub mod Descending
 pub mod Ruling
 pub mod Counting

@@ -2,6 +2,7 @@ pub mod Ranks
 pub mod Closed
 pub mod Rules
 pub mod Plain
+pub mod Marks
 pub mod Plan
 pub mod Nested
 pub mod Laws

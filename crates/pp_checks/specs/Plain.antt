@@ -1,13 +1,12 @@
 -- Plain descents: measure checks whose first component goes down to a variable that is bound inside a parameter. A
 -- variable is inside a parameter where it is bound below a constructor pattern of a match on the parameter, or on a
 -- variable inside it. What a pattern binds at its top, or a `val`, isn't inside. Source: own.
-use Rattle.std.specs.Prelude.{◌≡◌, ℕ, Bool, true, false, ◌||◌, nat_eq, nat_lt, if◌then◌else◌, List, [], ◌∷◌, ◌++◌, map}
-use Rattle.std.specs.Prelude.{Option, Some, None, length, replicate, slice_get, Contains}
-use Rattle.pp_graph.specs.Rows.{marked}
+use Rattle.std.specs.Prelude.{◌≡◌, ◌<◌, ℕ, List, [], ◌∷◌, ◌++◌, map, Option, Some, None, length, replicate, slice_get}
+use Rattle.std.specs.Prelude.{Contains}
 use Rattle.pp_prog.specs.declared.expr.Case.{Case}
 use Rattle.pp_prog.specs.declared.expr.Expr.{Expr}
-use Rattle.pp_prog.specs.declared.expr.Expr.TheFolds.{fold-Case, fold-Expr}
 use Rattle.pp_prog.specs.declared.expr.Expr.TheOpen as layer
+use Rattle.pp_prog.specs.declared.expr.Expr.TheVariants.{Call, Var}
 use Rattle.pp_prog.specs.declared.expr.Expr.TheViews.{out-Expr}
 use Rattle.pp_prog.specs.declared.expr.Function.{Function}
 use Rattle.pp_prog.specs.declared.expr.Param.{Param}
@@ -15,181 +14,149 @@ use Rattle.pp_prog.specs.declared.expr.Pattern.{Pattern}
 use Rattle.pp_prog.specs.declared.expr.Pattern.TheFolds.{fold-Pattern}
 use Rattle.pp_prog.specs.declared.expr.Pattern.TheOpen as pattern
 use Rattle.pp_prog.specs.declared.id.CheckId.{CheckId}
-use Rattle.pp_prog.specs.declared.sort.Sort.{Sort}
-use Rattle.pp_prog.specs.declared.sort.Sort.TheVariants as sort
+use Rattle.pp_prog.specs.declared.id.DataId.{DataId}
+use Rattle.pp_prog.specs.declared.id.FunctionId.{FunctionId}
+use Rattle.pp_prog.specs.declared.sort.Sort.TheVariants.{Tree}
 use Rattle.pp_prog.specs.Calls.{joined}
 
--- what a pattern is: a mark for each variable that it binds, by the mark of those at its top and of those below
-abbrev pub Marking : Type 0
-Marking = Bool → Bool → List Bool
+-- ---- variables
 
--- one level, with the inner patterns' marks in their place
-abbrev pub marking_step : pattern.Pattern-F Marking → Marking
-marking_step pattern.Any top below = []
-marking_step (pattern.Bind inner) top below = top ∷ inner top below
-marking_step (pattern.Int n) top below = []
-marking_step (pattern.Bool b) top below = []
-marking_step (pattern.Ctor c patterns) top below = joined (map (λ (m : Marking). m below below) patterns)
+-- how a variable was bound: below a constructor pattern of a match on variable number j, or in any other way: as a
+-- parameter, by a `val`, as the result, at the top of a pattern, or in a match on what is no variable
+pub data Origin : Type 0 where
+  below : ℕ → Origin
+  apart : Origin
 
--- the marks of the variables that the pattern binds
-abbrev pub marks_of : Pattern → Marking
-marks_of = fold-Pattern Marking marking_step
+-- how each variable in scope was bound, in the order of their numbers
+abbrev pub Scope : Type 0
+Scope = List Origin
 
-abbrev pub variable_in : layer.Expr-F Expr Case → Option ℕ
-variable_in (layer.Var i) = Some i
-variable_in _ = None
+-- variable number i is inside parameter number p: it was bound below a constructor pattern of a match on p, or on a
+-- variable that was bound before it and is inside p
+pub data IsInside (scope : Scope) (p : ℕ) : ℕ → Type 0 where
+  directly : {i : ℕ} → slice_get scope i ≡ Some (below p) → IsInside scope p i
+  further : {i j : ℕ} → slice_get scope i ≡ Some (below j) → j < i → IsInside scope p j → IsInside scope p i
 
--- the variable that the expression is, if it is one
-abbrev pub variable_of : Expr → Option ℕ
-variable_of e = variable_in (out-Expr e)
+-- what a pattern is: the variables that it binds, by how those at its top are bound
+abbrev pub Binding : Type 0
+Binding = Origin → List Origin
 
-abbrev pub variable_first : List Expr → Option ℕ
-variable_first [] = None
-variable_first (e ∷ es) = variable_of e
+module _ (inner : Origin) where
+  -- one level, with what the inner patterns bind in their place; `inner` says how what stands below a constructor
+  -- pattern is bound
+  abbrev pub bound_step : pattern.Pattern-F Binding → Binding
+  bound_step pattern.Any top = []
+  bound_step (pattern.Bind p) top = top ∷ p top
+  bound_step (pattern.Int n) top = []
+  bound_step (pattern.Bool b) top = []
+  bound_step (pattern.Ctor c ps) top = joined (map (λ (p : Binding). p inner) ps)
 
-abbrev pub if_below : ℕ → Option ℕ → Option ℕ
-if_below n None = None
-if_below n (Some i) = if nat_lt i n then Some i else None
+  -- how each variable of the pattern is bound, the outer before the inner, from left to right
+  abbrev pub bound_by : Pattern → Binding
+  bound_by = fold-Pattern Binding bound_step
 
--- the parameter that is the first component of the function's measure, if one is
-abbrev pub first_param : Function → Option ℕ
-first_param f = if_below (length f.params) (variable_first f.measure)
+-- how a match on this expression binds what stands below a constructor pattern
+abbrev pub bound_below : layer.Expr-F Expr Case → Origin
+bound_below (layer.Var j) = below j
+bound_below _ = apart
 
-abbrev pub first_param_of : Option Function → Option ℕ
-first_param_of None = None
-first_param_of (Some f) = first_param f
+-- ---- where an expression stands
 
-abbrev pub as_check : Option CheckId → List ℕ
-as_check None = []
-as_check (Some check) = check.0 ∷ []
+-- an expression in its scope
+abbrev pub Scoped : Type 0
+Scoped = Scope × Expr
 
-abbrev pub when : Bool → List ℕ → List ℕ
-when true xs = xs
-when false xs = []
+-- these expressions, all in one scope
+abbrev pub each_in : Scope → List Expr → List Scoped
+each_in scope es = map (λ (e : Expr). (scope, e)) es
 
--- the plain descents in an expression or a case, by the marks of the variables in scope, which say whether a
--- variable is inside the parameter
-abbrev pub Descents : Type 0
-Descents = List Bool → List ℕ
+-- the expression, if one is written
+abbrev pub if_written : Option Expr → List Expr
+if_written None = []
+if_written (Some e) = e ∷ []
 
--- what an expression is: the variable that it is, if it is one, and its descents
-abbrev pub Seen : Type 0
-Seen = Option ℕ × Descents
+-- the guard and the body of a case
+abbrev pub parts_of_case : Scope → Origin → Case → List Scoped
+parts_of_case scope inner c =
+    let all = scope ++ bound_by inner c.pattern apart in each_in all (if_written c.guard) ++ (all, c.body) ∷ []
 
--- what a case is: its descents, where the matched value is the parameter or inside it
-abbrev pub CaseDescents : Type 0
-CaseDescents = Bool → Descents
+-- the parts of one level: guards and bodies of cases see what their pattern binds, and what follows a `val` sees it
+abbrev pub parts_in : Scope → layer.Expr-F Expr Case → List Scoped
+parts_in scope (layer.Int n) = []
+parts_in scope (layer.Bool b) = []
+parts_in scope (layer.Var i) = []
+parts_in scope (layer.Unary op a) = (scope, a) ∷ []
+parts_in scope (layer.Binary op a b check) = (scope, a) ∷ (scope, b) ∷ []
+parts_in scope (layer.Construct c args) = each_in scope args
+parts_in scope (layer.Field e k) = (scope, e) ∷ []
+parts_in scope (layer.If c a b) = (scope, c) ∷ (scope, a) ∷ (scope, b) ∷ []
+parts_in scope (layer.Match e cases check) =
+    (scope, e) ∷ joined (map (parts_of_case scope (bound_below (out-Expr e))) cases)
+parts_in scope (layer.Val bound rest) = (scope, bound) ∷ (scope ++ apart ∷ [], rest) ∷ []
+parts_in scope (layer.Assert check c rest) = (scope, c) ∷ (scope, rest) ∷ []
+parts_in scope (layer.Call g args pre measure) = each_in scope args
 
-abbrev pub in_all : List Seen → Descents
-in_all [] marks = []
-in_all (e ∷ es) marks = e.1 marks ++ in_all es marks
+-- the parts of an expression, each in its scope
+abbrev pub parts_of : Scoped → List Scoped
+parts_of part = parts_in part.0 (out-Expr part.1)
 
-abbrev pub in_guard : Option Seen → Descents
-in_guard None marks = []
-in_guard (Some guard) marks = guard.1 marks
+-- the site is a part of the expression: it is the expression itself, or a part of a part
+pub data IsPartOf (site : Scoped) : Scoped → Type 0 where
+  itself : IsPartOf site site
+  within : {whole part : Scoped} → Contains (parts_of whole) part → IsPartOf site part → IsPartOf site whole
 
-abbrev pub case_step : layer.Case-F Seen CaseDescents → CaseDescents
-case_step c live marks =
-    in_guard c.guard (marks ++ marks_of c.pattern false live) ++ c.body.1 (marks ++ marks_of c.pattern false live)
+-- the claim of the postcondition, if one is written
+abbrev pub claim : Option (CheckId × Expr) → List Expr
+claim None = []
+claim (Some post) = post.1 ∷ []
 
-abbrev pub in_cases : List CaseDescents → CaseDescents
-in_cases [] live marks = []
-in_cases (c ∷ cs) live marks = c live marks ++ in_cases cs live marks
+-- the precondition, the measure list, the body and the postcondition of a function, which alone sees the result
+abbrev pub parts_of_function : Function → List Scoped
+parts_of_function f =
+    let params = replicate (length f.params) apart in
+    let claimed = each_in (params ++ apart ∷ []) (claim f.post) in
+    each_in params (if_written f.pre) ++ each_in params f.measure ++ (params, f.body) ∷ claimed
 
--- whether the variable is inside the parameter
-abbrev pub is_inside : List Bool → Option ℕ → Bool
-is_inside marks None = false
-is_inside marks (Some i) = marked marks i
+-- ---- plain descents
 
--- whether the variable is the parameter p, or inside it
-abbrev pub is_live : ℕ → List Bool → Option ℕ → Bool
-is_live p marks None = false
-is_live p marks (Some i) = nat_eq i p || marked marks i
+-- the measure of the function begins with its parameter number p
+abbrev pub BeginsWith : Function → ℕ → Type 0
+BeginsWith f p = (p < length f.params) × (slice_get f.measure 0 ≡ Some (Var p))
 
-abbrev pub inside_at : Option Seen → List Bool → Bool
-inside_at None marks = false
-inside_at (Some arg) marks = is_inside marks arg.0
+-- parameter number p of the function is of a datatype
+abbrev pub IsOfDatatype : Function → ℕ → Type 0
+IsOfDatatype f p = (param : Param) × (d : DataId) × (slice_get f.params p ≡ Some param) × (param.sort ≡ Tree d)
 
--- whether the argument for the parameter is a variable inside
-abbrev pub goes_down : Option ℕ → List Seen → List Bool → Bool
-goes_down None args marks = false
-goes_down (Some q) args marks = inside_at (slice_get args q) marks
+-- the site is a call with measure check c: the measure of the called function begins with one of its parameters, and
+-- the argument for that one is a variable inside parameter number p of the caller
+pub record IsPlainSite (functions : List Function) (p c : ℕ) (site : Scoped) : Type 0 where
+  pub callee : FunctionId
+  pub args : List Expr
+  pub pre : Option CheckId
+  pub check : CheckId
+  pub call : site.1 ≡ Call callee args pre (Some check)
+  pub number : check.0 ≡ c
+  pub called : Function
+  pub there : slice_get functions callee.0 ≡ Some called
+  pub param : ℕ
+  pub begins : BeginsWith called param
+  pub variable : ℕ
+  pub argument : slice_get args param ≡ Some (Var variable)
+  pub inside : IsInside site.0 p variable
 
-module _ (functions : List Function) (p : ℕ) where
-  -- one level, with what the parts are in their place
-  abbrev pub seen_step : layer.Expr-F Seen CaseDescents → Seen
-  seen_step (layer.Int n) = (None, λ marks. [])
-  seen_step (layer.Bool b) = (None, λ marks. [])
-  seen_step (layer.Var i) = (Some i, λ marks. [])
-  seen_step (layer.Unary op a) = (None, a.1)
-  seen_step (layer.Binary op a b check) = (None, λ marks. a.1 marks ++ b.1 marks)
-  seen_step (layer.Construct c args) = (None, in_all args)
-  seen_step (layer.Field e k) = (None, e.1)
-  seen_step (layer.If c a b) = (None, λ marks. c.1 marks ++ a.1 marks ++ b.1 marks)
-  seen_step (layer.Match e cases check) = (None, λ marks. e.1 marks ++ in_cases cases (is_live p marks e.0) marks)
-  seen_step (layer.Val bound rest) = (None, λ marks. bound.1 marks ++ rest.1 (marks ++ false ∷ []))
-  seen_step (layer.Assert check c rest) = (None, λ marks. c.1 marks ++ rest.1 marks)
-  seen_step (layer.Call g args pre measure) = (
-    None,
-    λ marks. in_all args marks ++ when (goes_down (first_param_of (slice_get functions g.0)) args marks)
-        (as_check measure),
-  )
-
-  -- what an expression is
-  abbrev pub seen : Expr → Seen
-  seen = fold-Expr Seen CaseDescents seen_step case_step
-
-  -- the plain descents in an expression
-  abbrev pub descents : Expr → Descents
-  descents e = (seen e).1
-
-  -- those in a case
-  abbrev pub descents_in_case : Case → CaseDescents
-  descents_in_case = fold-Case Seen CaseDescents seen_step case_step
-
-  abbrev pub pre_descents : Option Expr → Descents
-  pre_descents None marks = []
-  pre_descents (Some pre) marks = descents pre marks
-
-  -- the result isn't inside a parameter
-  abbrev pub post_descents : Option (CheckId × Expr) → Descents
-  post_descents None marks = []
-  post_descents (Some post) marks = descents post.1 (marks ++ false ∷ [])
-
-  -- the plain descents of a function whose measure begins with its parameter p
-  abbrev pub descents_from : Function → List ℕ
-  descents_from f =
-      let marks = replicate (length f.params) false in
-      pre_descents f.pre marks ++ in_all (map seen f.measure) marks ++ descents f.body marks ++ post_descents
-      f.post marks
-
-abbrev pub is_tree : Sort → Bool
-is_tree sort.Int = false
-is_tree sort.Bool = false
-is_tree (sort.Tree d) = true
-
-abbrev pub is_tree_param : Option Param → Bool
-is_tree_param None = false
-is_tree_param (Some p) = is_tree p.sort
-
-abbrev pub if_tree : List Param → Option ℕ → Option ℕ
-if_tree params None = None
-if_tree params (Some p) = if is_tree_param (slice_get params p) then Some p else None
-
--- the parameter of a datatype that is the first component of the function's measure, if one is
-abbrev pub tree_param : Function → Option ℕ
-tree_param f = if_tree f.params (first_param f)
-
-abbrev pub descents_at : List Function → Function → Option ℕ → List ℕ
-descents_at functions f None = []
-descents_at functions f (Some p) = descents_from functions p f
-
--- the plain descents of a function: those of its parameter with which its measure begins
-abbrev pub plain_descents : List Function → Function → List ℕ
-plain_descents functions f = descents_at functions f (tree_param f)
+-- check c is a plain descent of the function: its measure begins with a parameter of a datatype, and in one of its
+-- parts stands a site that carries the check and goes down in that parameter
+pub record HasDescent (functions : List Function) (f : Function) (c : ℕ) : Type 0 where
+  pub param : ℕ
+  pub begins : BeginsWith f param
+  pub datatype : IsOfDatatype f param
+  pub part : Scoped
+  pub listed : Contains (parts_of_function f) part
+  pub site : Scoped
+  pub stands : IsPartOf site part
+  pub down : IsPlainSite functions param c site
 
 -- check c is a plain descent of some function
 abbrev pub IsPlain : List Function → ℕ → Type 0
 IsPlain functions c =
-    (f : ℕ) × (function : Function) × (slice_get functions f ≡ Some function) × Contains (plain_descents functions
-    function) c
+    (f : ℕ) × (function : Function) × (slice_get functions f ≡ Some function) × HasDescent functions function c

@@ -1,7 +1,10 @@
--- What holds of the tables of a plan while they are made. Source: own.
+-- How the tables of a plan are made. The public clauses of this crate speak of what its tables say: specs/Plan, Ranks,
+-- Closed, Nested and Plain. What stands here are the values of private functions and what holds between their steps, of
+-- src/ranks.rt, src/nesting.rt, src/heights.rt and src/tables.rt, and no meaning rests on it; but `field_table` is also
+-- the value of the public call of that name, and the groups of named trees (`pp_named_trees`) rest on it. Source: own.
 use Rattle.std.specs.Prelude.{◌≡◌, ◌↔◌, ◌⊎◌, ◌<◌, ◌≤◌, ◌+◌, max, ℕ, zero, suc, nat_lt, nat_le, Bool, true, false, List}
-use Rattle.std.specs.Prelude.{[], ◌∷◌, ◌++◌, Option, Some, None, length, slice_get, Contains, IsTrue}
-use Rattle.pp_graph.specs.Rows.{bit, marked}
+use Rattle.std.specs.Prelude.{[], ◌∷◌, ◌++◌, Option, Some, None, length, slice_get, IsTrue}
+use Rattle.pp_graph.specs.Rows.{bit}
 use Rattle.pp_prog.specs.declared.expr.Function.{Function}
 use Rattle.pp_prog.specs.declared.sort.Sort.{Sort}
 use Rattle.pp_prog.specs.declared.sort.Sort.TheVariants as sort
@@ -9,7 +12,6 @@ use Rattle.pp_prog.specs.declared.types.TypeTable.{TypeTable}
 use Rattle.pp_prog.specs.Sizes.{fields_of}
 use Rattle.pp_prog.specs.Sorts.{param_sorts}
 use Rattle.pp_checks.specs.Closed.{Nests}
-use Rattle.pp_checks.specs.Plain.{plain_descents}
 use Rattle.pp_checks.specs.Ranks.{CountBelow}
 
 -- the rows show r functions in the cone of f
@@ -94,17 +96,6 @@ tallest_in depths most (s ∷ ss) = tallest_in depths (greater most (height_in d
 
 abbrev pub tallest_params : List (Option ℕ) → Function → Option ℕ
 tallest_params depths f = tallest_in depths (Some 0) (param_sorts f.params)
-
--- check c is a plain descent of one of the first n functions
-abbrev pub IsPlainBelow : List Function → ℕ → ℕ → Type 0
-IsPlainBelow functions n c =
-    (f : ℕ) × (function : Function) × (f < n) × (slice_get functions f ≡ Some function) × Contains (plain_descents
-    functions function) c
-
--- the marks of the first m checks are at the plain descents of the first n functions
-pub record MarkPlain (functions : List Function) (n m : ℕ) (marks : List Bool) : Type 0 where
-  pub size : length marks ≡ m
-  pub each : (c : ℕ) → c < m → IsTrue (marked marks c) ↔ IsPlainBelow functions n c
 
 -- there is a number, and it is at most n
 abbrev pub is_at_most : Option (Option ℕ) → ℕ → Bool

@@ -4,7 +4,8 @@
 //! `plan` gives it, or names the first function that breaks a rule of measures. `specs/Rules` says what these rules
 //! are, `specs/Ranks` what a rank is, `specs/Closed` which functions are closed, `specs/Plain` which checks are
 //! plain descents, `specs/Plan` what it means that a plan is that of a program, `specs/Nested` what it tells of the
-//! depth of call trees, and `specs/Laws` what follows from that. `specs/Tables` has what holds while a plan is made.
+//! depth of call trees, and `specs/Laws` what follows from that. `specs/Marks` and `specs/Tables` are of the making:
+//! how plain descents are found, and what holds while a plan's tables are made.
 #![tactic(auto)]
 
 mod fault;

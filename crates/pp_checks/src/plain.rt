@@ -1,11 +1,12 @@
-//! Plain descents.
+//! Plain descents: `specs/Plain` says what they are, and `specs/Marks` how they are found here, which may change.
 
 ghost use Rattle.std.specs.Prelude.{◌≡◌, ◌↔◌, ◌⊎◌, ◌<◌, ◌++◌, ◌∷◌, [], ℕ, Contains, IfOk, OnOk, IsTrue, false, length};
 ghost use Rattle.std.specs.Prelude.{map, replicate, slice_get};
 ghost use Rattle.pp_graph.specs.Rows.{marked};
-ghost use Rattle.pp_checks.specs.Plain as spec;
-ghost use Rattle.pp_checks.specs.Plain.{IsPlain, descents, descents_in_case, marks_of, plain_descents, pre_descents};
-ghost use Rattle.pp_checks.specs.Plain.{seen};
+ghost use Rattle.pp_checks.specs.Marks as spec;
+ghost use Rattle.pp_checks.specs.Plain.{IsPlain};
+ghost use Rattle.pp_checks.specs.Marks.{descents, descents_in_case, marks_of, plain_descents, pre_descents};
+ghost use Rattle.pp_checks.specs.Marks.{seen};
 
 use crate::NoMemory;
 use crate::ranks::is_marked;

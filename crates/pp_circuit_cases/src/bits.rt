@@ -6,27 +6,23 @@
 mod call;
 mod count;
 
+ghost use Rattle.std.specs.Prelude.{◌≤◌, IfOk};
+
 use anyhow::{Context, Result, ensure};
 use call::Call;
-use count::{Operand, counted};
+use count::{Count, Operand, counted};
 use pp_bits::laws;
 use std::alloc::Global;
-use std::fs;
 
 /// The greatest number of digits that is taken.
 const MOST_DIGITS: u64 = 32;
 
-/// Prints the table of the calls in a file.
-pub fn print_table(rt: &HostRuntime, path: &str) -> Result<()> {
-    for line in fs::read_to_string(rt, path)?.as_str().lines() {
-        if line == "laws" {
-            state_laws();
-            println!(rt; "{line}")?;
-        } else {
-            print_row(rt, rt.alloc(), line)?;
-        }
+/// Prints what a line asks for.
+pub fn print_line(rt: &impl Print, alloc: Global, line: &str) -> Result<()> {
+    match line {
+        "laws" => print_laws(rt),
+        row => print_row(rt, alloc, row),
     }
-    Ok(())
 }
 
 /// The number that a word of the line spells.
@@ -39,28 +35,66 @@ fn operand(number: u64, known: bool) -> Operand {
     Operand { number, known }
 }
 
-/// What is printed for a line.
-fn print_row(rt: &impl Print, alloc: Global, line: &str) -> Result<()> {
+/// A call on two numbers of so many digits.
+#[derive(Clone, Copy)]
+struct Row {
+    call: Call,
+    width: u32,
+    x: u64,
+    y: u64,
+}
+
+/// The call of a line.
+fn read_row(line: &str) -> Result<Row>
+    ensures { IfOk result (λ row. row.width ≤ 32) }
+{
     let mut words = line.split_whitespace();
     let call = Call::named(words.next().context("a call")?).context("no such call")?;
     let width = number(words.next())?;
     ensure!(width <= MOST_DIGITS, "more digits than {MOST_DIGITS}");
-    let width = width as u32;
-    let x = number(words.next())?;
-    let y = number(words.next())?;
-    let fresh = counted(alloc, call, width, operand(x, false), operand(y, false))?;
+    Ok(Row {
+        call,
+        width: width as u32,
+        x: number(words.next())?,
+        y: number(words.next())?,
+    })
+}
+
+/// What the call comes to, where each of the numbers may be known.
+fn count_of(alloc: Global, row: &Row, first: bool, second: bool) -> Result<Count>
+    requires { row.now.width ≤ 32 }
+{
+    let x = operand(row.x, first);
+    let y = operand(row.y, second);
+    counted(alloc, row.call, row.width, x, y)
+}
+
+/// What is printed for a line.
+fn print_row(rt: &impl Print, alloc: Global, line: &str) -> Result<()> {
+    let row = read_row(line)?;
+    let fresh = count_of(alloc, &row, false, false)?;
     print!(rt; "{line}: {}, {} gates", fresh.number, fresh.gates)?;
-    for (first, second) in [(false, true), (true, false), (true, true)] {
-        let known = counted(alloc, call, width, operand(x, first), operand(y, second))?;
-        ensure!(known.number == fresh.number, "another number");
-        print!(rt; ", {}", known.gates)?;
-    }
+    print_known(rt, alloc, &row, fresh.number)?;
     println!(rt)?;
     Ok(())
 }
 
+/// Prints the gates where numbers are known; the answer is this number in each case.
+fn print_known(rt: &impl Print, alloc: Global, row: &Row, answer: u64) -> Result<()>
+    requires { row.now.width ≤ 32 }
+{
+    for (first, second) in [(false, true), (true, false), (true, true)] {
+        let known = count_of(alloc, row, first, second)?;
+        ensure!(known.number == answer, "another number");
+        print!(rt; ", {}", known.gates)?;
+    }
+    Ok(())
+}
+
 /// Calls the functions that only state theorems.
-fn state_laws() {
+fn print_laws(rt: &impl Print) -> Result<()> {
     laws::digits_bound();
     laws::signed_by_cast();
+    println!(rt; "laws")?;
+    Ok(())
 }

@@ -1,6 +1,6 @@
 //! Circuits that are built to be measured.
 
-ghost use Rattle.std.specs.Prelude.{◌≡◌, ◌+◌, ◌*◌, ◌/◌, ◌^◌, ◌≤◌, length, All, IfOk};
+ghost use Rattle.std.specs.Prelude.{◌≡◌, ◌+◌, ◌*◌, ◌^◌, ◌≤◌, length, IfOk};
 ghost use Rattle.pp_gate.specs.Circuit.{IsOf};
 ghost use Rattle.pp_gate.specs.Growth.{Grows, AddsGates};
 
@@ -8,29 +8,27 @@ use pp_clause::Lit;
 use pp_gate::{Circuit, NoMemory};
 use std::alloc::Global;
 
-/// A circuit of three inputs and four gates a turn, each over the newest literals, so that none is shared.
-pub fn built(alloc: Global, size: u32) -> Result<Circuit, NoMemory>
+/// A circuit of three inputs and four gates a turn, each over the newest literals, so that none is shared. Each gate
+/// may be asked for twice.
+pub fn built(alloc: Global, size: u32, twice: bool) -> Result<Circuit, NoMemory>
     requires { size ≤ 2 ^ 27 }
-    ensures most { IfOk result (λ c. length c ≤ size + 4) }
-    ensures least { IfOk result (λ c. 4 ≤ length c) }
 {
     let mut circuit = Circuit::new(alloc)?;
-    let start = inputs(&mut circuit)?;
-    grow(&mut circuit, &start, size / 4)?;
+    add_turns(&mut circuit, size / 4, twice)?;
     Ok(circuit)
 }
 
-/// The same circuit, where each gate is asked for twice.
-pub fn shared(alloc: Global, size: u32) -> Result<Circuit, NoMemory>
-    requires { size ≤ 2 ^ 27 }
-    ensures most { IfOk result (λ c. length c ≤ 2 * size + 4) }
-    ensures least { IfOk result (λ c. 4 ≤ length c) }
+/// The inputs and gates of so many turns, in a circuit that has none yet.
+fn add_turns(circuit: &mut Circuit, turns: u32, twice: bool) -> Result<(), NoMemory>
+    requires new { length circuit.old ≡ 1 }
+    requires turns { turns ≤ 2 ^ 25 }
 {
-    let mut circuit = Circuit::new(alloc)?;
-    let start = inputs(&mut circuit)?;
-    grow(&mut circuit, &start, size / 4)?;
-    grow(&mut circuit, &start, size / 4)?;
-    Ok(circuit)
+    let start = inputs(circuit)?;
+    grow(circuit, &start, turns)?;
+    if twice {
+        grow(circuit, &start, turns)?;
+    }
+    Ok(())
 }
 
 /// The literals of one turn.

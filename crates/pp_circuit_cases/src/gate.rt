@@ -16,23 +16,17 @@ use call::{Operands, apply};
 use pp_clause::{Assignment, Clauses, Lit};
 use pp_gate::{Circuit, laws};
 use std::alloc::Global;
-use std::fs;
 use word::print_word;
 
 /// How many operands there are: the constant, three inputs and their negations.
 const OPERANDS: u32 = 8;
 
-/// Prints the tables of the calls in a file.
-pub fn print_tables(rt: &HostRuntime, path: &str) -> Result<()> {
-    for line in fs::read_to_string(rt, path)?.as_str().lines() {
-        if line == "laws" {
-            state_laws();
-            println!(rt; "{line}")?;
-        } else {
-            print_row(rt, rt.alloc(), line)?;
-        }
+/// Prints what a line asks for.
+pub fn print_line(rt: &impl Print, alloc: Global, line: &str) -> Result<()> {
+    match line {
+        "laws" => print_laws(rt),
+        row => print_row(rt, alloc, row),
     }
-    Ok(())
 }
 
 /// The literal of an operand's number.
@@ -136,7 +130,7 @@ fn print_row(rt: &impl Print, alloc: Global, line: &str) -> Result<()> {
 }
 
 /// Calls the functions that only state theorems.
-fn state_laws() {
+fn print_laws(rt: &impl Print) -> Result<()> {
     laws::inputs_complete();
     laws::inputs_determine();
     laws::growth_extends();
@@ -146,4 +140,6 @@ fn state_laws() {
     laws::asked_given();
     laws::asked_complete();
     laws::asked_keep();
+    println!(rt; "laws")?;
+    Ok(())
 }

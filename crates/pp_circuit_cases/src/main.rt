@@ -24,19 +24,38 @@ mod word;
 mod wordgate;
 
 use anyhow::{Context, Result, bail};
-use std::env;
+use std::alloc::Global;
+use std::{env, fs};
+
+/// Does a task on a line of its file.
+fn print_line(rt: &impl Print, alloc: Global, name: &str, line: &str) -> Result<()> {
+    match name {
+        "word" => word::print_row(rt, line),
+        "gate" => gate::print_line(rt, alloc, line),
+        "bits" => bits::print_line(rt, alloc, line),
+        "wordgate" => wordgate::print_row(rt, alloc, line),
+        _ => bail!("no such task"),
+    }
+}
+
+/// Does a task on each line of a file.
+fn print_lines(rt: &HostRuntime, name: &str, path: &str) -> Result<()> {
+    let file = fs::read_to_string(rt, path)?;
+    for line in file.as_str().lines() {
+        print_line(rt, rt.alloc(), name, line)?;
+    }
+    Ok(())
+}
 
 /// Does a task.
 fn run(rt: &HostRuntime, task: &str) -> Result<()> {
     println!(rt; "# {task}")?;
     let (name, given) = task.split_once(' ').context("a task and what it takes")?;
     match name {
-        "word" => word::print_table(rt, given),
-        "gate" => gate::print_tables(rt, given),
-        "bits" => bits::print_table(rt, given),
-        "wordgate" => wordgate::print_table(rt, given),
-        "gates" | "shared" | "clauses" | "products" => timed::print_size(rt, name, given),
-        other => bail!("no task {other}"),
+        "gates" | "shared" | "clauses" | "products" => {
+            timed::print_size(rt, rt.alloc(), name, given)
+        }
+        _ => print_lines(rt, name, given),
     }
 }
 

@@ -5,15 +5,6 @@
 use crate::number::number;
 use anyhow::Result;
 use pp_word::{add, and, at_most, div, less, mul, neg, not, or, rem, shl, shr, sub, ushr, xor};
-use std::fs;
-
-/// Prints the table of the pairs in a file.
-pub fn print_table(rt: &HostRuntime, path: &str) -> Result<()> {
-    for line in fs::read_to_string(rt, path)?.as_str().lines() {
-        print_row(rt, line)?;
-    }
-    Ok(())
-}
 
 /// Prints a number that may not be there.
 fn print_some(rt: &impl Print, number: Option<i32>) -> Result<()> {
@@ -24,15 +15,29 @@ fn print_some(rt: &impl Print, number: Option<i32>) -> Result<()> {
     Ok(())
 }
 
-/// What is printed for a line.
-fn print_row(rt: &impl Print, line: &str) -> Result<()> {
+/// Prints numbers, each behind a blank.
+fn print_numbers(rt: &impl Print, numbers: &[i32]) -> Result<()> {
+    for number in numbers {
+        print!(rt; " {number}")?;
+    }
+    Ok(())
+}
+
+/// The pair of a line.
+fn read_pair(line: &str) -> Result<(i32, i32)> {
     let mut words = line.split_whitespace();
     let a = number(words.next())?;
     let b = number(words.next())?;
-    print!(rt; "{a} {b}: {} {}", neg(a), not(a))?;
-    print!(rt; " {} {} {}", add(a, b), sub(a, b), mul(a, b))?;
-    print!(rt; " {} {} {}", and(a, b), or(a, b), xor(a, b))?;
-    print!(rt; " {} {} {}", shl(a, b), shr(a, b), ushr(a, b))?;
+    Ok((a, b))
+}
+
+/// What is printed for a line.
+pub fn print_row(rt: &impl Print, line: &str) -> Result<()> {
+    let (a, b) = read_pair(line)?;
+    print!(rt; "{a} {b}:")?;
+    print_numbers(rt, &[neg(a), not(a), add(a, b), sub(a, b), mul(a, b)])?;
+    print_numbers(rt, &[and(a, b), or(a, b), xor(a, b)])?;
+    print_numbers(rt, &[shl(a, b), shr(a, b), ushr(a, b)])?;
     print_some(rt, div(a, b))?;
     print_some(rt, rem(a, b))?;
     println!(rt; " {} {}", less(a, b), at_most(a, b))?;

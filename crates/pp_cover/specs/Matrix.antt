@@ -1,4 +1,6 @@
--- What matrices of constraints mean, and what is left of one where the head of a column's value is known.
+-- What matrices of constraints mean, and what is left of one where the head of a column's value is known. The public
+-- clause of this crate, that of `covered`, speaks of values and patterns alone: what stands here is what its steps keep
+-- true and what private functions answer, and no meaning rests on it.
 -- Source: L. Maranget, "Warnings for pattern matching", 2007: `specialize` gives its specialized matrix, and
 -- `default_matrix` its default matrix.
 use Rattle.std.specs.Prelude.{ℕ, nat_eq, Bool, true, false, not, ◌&&◌, ◌||◌, List, [], ◌∷◌, ◌++◌, length, IsTrue}

@@ -1,4 +1,5 @@
--- Which matrices one is taken apart into, by a column. Source: own.
+-- Which matrices one is taken apart into, by a column: the answers of the private functions of src/split.rt. No public
+-- clause speaks of them. Source: own.
 use Rattle.std.specs.Prelude.{ℕ, suc, nat_lt, true, false, List, [], ◌∷◌, ◌++◌, Option, Some, None, drop, length, take}
 use Rattle.std.specs.Prelude.{slice_get}
 use Rattle.pp_prog.specs.declared.sort.Sort.{Sort}

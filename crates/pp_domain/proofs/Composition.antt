@@ -1,5 +1,6 @@
 -- Calls after calls, and gates alone: what evaluation over a domain cites.
 use Rattle.std.proofs.Common.{◌≡◌, ℕ, ◌+◌, ◌≤◌, List, length, Bool, true, refl, sym, ap, ◌∙◌}
+use Rattle.std.proofs.lemmas.Bool.{false≢true}
 use Rattle.pp_prog.specs.declared.types.TypeTable.{TypeTable}
 use Rattle.pp_prog.specs.declared.value.Value.{Value}
 use Rattle.pp_clause.specs.Literal.{Literal, lit_value}
@@ -11,7 +12,7 @@ use Rattle.pp_gate.proofs.Agreement.{agree_along, lit_agree, Gives_old}
 use Rattle.pp_gate.proofs.Extension.{growth_extends}
 use Rattle.pp_gate.proofs.Growing.{Grows_none, Grows_more, Grows_weaker, length-Grows}
 use Rattle.pp_domain.specs.Naming.{Naming}
-use Rattle.pp_domain.specs.Sense.{Sense, Good, Extended}
+use Rattle.pp_domain.specs.Sense.{Sense, Good, Extended, Inexact}
 use Rattle.pp_domain.specs.Moves.{KeepsNode, Moves, Steady}
 use Rattle.pp_domain.specs.Laws.{Lawful}
 
@@ -20,6 +21,10 @@ agree_self n a = record { agree = λ x low high. refl }
 
 agree_back : (n : ℕ) (a b : ℕ → Bool) → AgreeUpTo n a b → AgreeUpTo n b a
 agree_back n a b h = record { agree = λ x low high. sym (h.agree x low high) }
+
+-- in an exact domain nothing is asked of the other kind
+pub exactly : {D T : Type 0} (m : Sense D T) (P : Type 0) → m.exact ≡ true → Inexact m P
+exactly m P exact inexact = absurd (false≢true (sym inexact ∙ exact))
 
 module _ {D T : Type 0} (m : Sense D T) (types : TypeTable) where
   pub KeepsNode_more : (c d e : D) (t : T) → KeepsNode m c d t → KeepsNode m d e t → KeepsNode m c e t

@@ -2,3 +2,5 @@ pub mod Composition
 pub mod Symbols
 pub mod Numbering
 pub mod AnySort
+pub mod PlainSymbols
+pub mod UnknownSymbols

@@ -7,3 +7,4 @@ pub mod Answers
 pub mod Laws
 pub mod AnySort
 pub mod Numbering
+pub mod Plain

@@ -38,7 +38,7 @@ module _ {D T : Type 0} (m : Sense D T) where
     pub looks : m.looks e ≡ m.looks d
     pub compares : m.compares e ≡ m.compares d
 
-  -- no tree was expanded, and two were compared
+  -- no tree was expanded, and at most one comparison more is counted
   pub record OneComparison (d e : D) : Type 0 where
     pub looks : m.looks e ≡ m.looks d
     pub compares : m.compares e ≤ 1 + m.compares d

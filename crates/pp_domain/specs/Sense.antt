@@ -22,8 +22,10 @@ pub record Sense (D T : Type 0) : Type 1 where
   pub height : D → T → ℕ
   -- the tree has its literals and fields from now on, so that a look at it adds nothing
   pub Expanded : D → T → Type 0
-  -- the datatypes of the trees that were expanded, the last one first, and how often two trees were compared by `below`
+  -- the datatypes of the trees that were expanded, the last one first
   pub looks : D → List DataId
+  -- how many comparisons by `below` are counted, to each of which a later look may add. No domain counts one: of
+  -- bounded and of named trees it is 0, since their comparisons are whole when the call ends
   pub compares : D → ℕ
   -- true where all conditions hold that the domain has put on its inputs
   pub ok : D → Literal

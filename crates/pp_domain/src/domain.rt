@@ -77,7 +77,8 @@ pub trait Domain {
         ensures answer { IfOk result (λ t. IsConstruct sense table.now self.old circuit.old self.new circuit.new ctor
             fields.now t) };
 
-    /// Whether the tree has this constructor, which is one of its datatype.
+    /// Whether the tree has this constructor, which is one of its datatype. A tree that was expanded before adds
+    /// nothing to the circuit, and needs no room there.
     fn is_ctor(
         &mut self,
         circuit: &mut Circuit,
@@ -88,14 +89,17 @@ pub trait Domain {
         requires fits { sense.Fits table.now self.old circuit.old }
         requires tree { sense.Node self.old tree.now }
         requires ctor { IsCtorOf table.now ctor (sense.data_of self.old tree.now) }
-        requires room { length circuit.old + look_at_gates sense table.now self.old tree.now ≤ 2 ^ 30 }
+        requires room { (sense.Expanded self.old tree.now → ⊥)
+            → length circuit.old + look_at_gates sense table.now self.old tree.now ≤ 2 ^ 30 }
         ensures moves { Moves sense table.now self.old circuit.old self.new circuit.new
             (look_at_gates sense table.now self.old tree.now) }
+        ensures still { sense.Expanded self.old tree.now → circuit.new ≡ circuit.old }
         ensures steady { sense.exact ≡ true → Steady sense self.old circuit.old self.new circuit.new }
         ensures answer { IfOk result (λ l. IsCtorTest sense table.now self.old circuit.old self.new circuit.new
             tree.now ctor l) };
 
-    /// The field at a place, counted from 0, of the constructor, which is one of the tree's datatype.
+    /// The field at a place, counted from 0, of the constructor, which is one of the tree's datatype. A tree that was
+    /// expanded before adds nothing to the circuit, and needs no room there.
     fn field(
         &mut self,
         circuit: &mut Circuit,
@@ -108,9 +112,11 @@ pub trait Domain {
         requires tree { sense.Node self.old tree.now }
         requires ctor { IsCtorOf table.now ctor (sense.data_of self.old tree.now) }
         requires place { (s : Sort) × HasField table.now ctor place s }
-        requires room { length circuit.old + look_at_gates sense table.now self.old tree.now ≤ 2 ^ 30 }
+        requires room { (sense.Expanded self.old tree.now → ⊥)
+            → length circuit.old + look_at_gates sense table.now self.old tree.now ≤ 2 ^ 30 }
         ensures moves { Moves sense table.now self.old circuit.old self.new circuit.new
             (look_at_gates sense table.now self.old tree.now) }
+        ensures still { sense.Expanded self.old tree.now → circuit.new ≡ circuit.old }
         ensures steady { sense.exact ≡ true → Steady sense self.old circuit.old self.new circuit.new }
         ensures answer { IfOk result (λ r. (s : Sort) → HasField table.now ctor place s → IsFieldRead sense table.now
             self.old circuit.old self.new circuit.new tree.now ctor place s r) };

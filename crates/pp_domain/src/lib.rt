@@ -9,19 +9,23 @@
 //! that a good assignment before it extends to one after it. So one proof over syntax serves exact domains and those
 //! that aren't.
 //!
-//! `choose` and `equal` do for symbols of any sort what `merge` and `equal` do for trees. `specs/Naming` says what
-//! namings are, `specs/Allowance` how many gates each call may add, `specs/Answers` what each call answers, and
-//! `specs/Laws` what holds of every domain. Of `proofs/` the layers above cite `Composition` (calls one after another,
-//! gates alone), `Symbols` (symbols over calls) and `Numbering`. The trait and the words of `specs/` are what
-//! implementations and evaluation rest on; a change there is one of all of them.
+//! `choose`, `equal` and `unknown` do for symbols of any sort what `merge`, `equal` and `unknown` do for trees;
+//! `unknown_plain`, `blank_plain` and `masked_plain` make symbols of the sorts that are no datatypes, for domains too.
+//! `specs/Naming` says what namings are, `specs/Allowance` how many gates each call may add, `specs/Answers` what each
+//! call answers, and `specs/Laws` what holds of every domain. Of `proofs/` the layers above cite `Composition` (calls
+//! one after another, gates alone), `Symbols` (symbols over calls), `AnySort`, `UnknownSymbols`, `PlainSymbols` and
+//! `Numbering`. The trait and the words of `specs/` are what implementations and evaluation rest on; a change there is
+//! one of all of them.
 #![tactic(auto)]
 
 mod domain;
 pub mod laws;
 mod operations;
+mod plain;
 mod symbol;
 
 pub use domain::Domain;
-pub use operations::{choose, equal};
+pub use operations::{choose, equal, unknown};
+pub use plain::{blank_plain, blank_word, masked_plain, masked_word, unknown_plain};
 pub use pp_clause::NoMemory;
 pub use symbol::{Symbol, Symbols};

@@ -1,16 +1,20 @@
 //! Operations on symbols of any sort.
 
-ghost use Rattle.std.specs.Prelude.{◌≡◌, ◌+◌, ◌^◌, ◌≤◌, true, length, IfOk};
+ghost use Rattle.std.specs.Prelude.{◌≡◌, ◌+◌, ◌^◌, ◌≤◌, true, length, IfOk, IsTrue};
+ghost use Rattle.pp_prog.specs.Cone.{is_word};
+ghost use Rattle.pp_prog.specs.Table.{is_sort};
 ghost use Rattle.pp_gate.specs.Circuit.{IsOf};
 ghost use Rattle.pp_domain.specs.Moves.{Moves, Steady, SameLooks};
 ghost use Rattle.pp_domain.specs.Symbols.{IsWordSymbol};
-ghost use Rattle.pp_domain.specs.AnySort.{choose_gates, compare_gates, AreOfOneSort, IsChoice, IsSame};
+ghost use Rattle.pp_domain.specs.AnySort.{choose_gates, compare_gates, fresh_gates, AreOfOneSort, IsChoice, IsSame};
+ghost use Rattle.pp_domain.specs.AnySort.{IsUnknownSymbol};
 
 use crate::domain::Domain;
+use crate::plain::unknown_plain;
 use crate::symbol::Symbol;
 use pp_clause::{Lit, NoMemory};
 use pp_gate::Circuit;
-use pp_prog::TypeTable;
+use pp_prog::{Sort, TypeTable};
 
 /// The left symbol where the choice is true, and else the right one. They are of one sort. Words and literals leave
 /// the domain as it was.
@@ -84,5 +88,35 @@ pub fn equal<D: Domain>(
             Ok(same)
         }
         _ => Ok(circuit.truth()),
+    }
+}
+
+/// A symbol of which nothing is known but its sort and its height: it can stand for each value of the sort up to the
+/// height, and where the domain isn't exact for each that has a name. Words and literals leave the domain as it was.
+pub fn unknown<D: Domain>(
+    domain: &mut D,
+    circuit: &mut Circuit,
+    table: &TypeTable,
+    sort: Sort,
+    height: u32,
+) -> Result<Symbol<D::Tree>, NoMemory>
+    requires fits { D.sense.Fits table.now domain.old circuit.old }
+    requires sort { IsTrue (is_sort table.now.datatypes sort) }
+    requires room { length circuit.old + fresh_gates D.sense table.now sort height ≤ 2 ^ 30 }
+    ensures moves { Moves D.sense table.now domain.old circuit.old domain.new circuit.new
+        (fresh_gates D.sense table.now sort height) }
+    ensures words { IsTrue (is_word sort) → domain.new ≡ domain.old }
+    ensures answer { IfOk result (λ r. IsUnknownSymbol D.sense table.now domain.old circuit.old domain.new
+        circuit.new sort height r) }
+{
+    match sort {
+        Sort::Tree(of) => {
+            let tree = domain.unknown(circuit, table, of, height)?;
+            Ok(Symbol::Tree(tree))
+        }
+        _ => {
+            let plain = unknown_plain(circuit, sort)?;
+            Ok(plain)
+        }
     }
 }

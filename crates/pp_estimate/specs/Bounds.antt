@@ -1,4 +1,6 @@
--- Sizes of values, cut at the greatest number. Source: own.
+-- Sizes of values, cut at the greatest number, and the rows in which src/sizes.rt keeps them. This is of the making: no
+-- public clause rests on it, for that of `estimate` speaks of specs/Estimates, which takes the sizes themselves.
+-- Source: own.
 use Rattle.std.specs.Prelude.{◌≡◌, ℕ, zero, suc, List, [], ◌∷◌, ◌++◌, length, map, sum, Some, slice_get}
 use Rattle.pp_prog.specs.declared.sort.Sort.{Sort}
 use Rattle.pp_prog.specs.declared.sort.Sort.TheVariants as sort

@@ -1,4 +1,6 @@
--- Events counted, with sums cut at the greatest number, and a memo of frames that were counted. Source: own.
+-- How events are counted: with sums cut at the greatest number, and a memo of frames that were counted. This is of the
+-- making: private functions say it of each other, and no public clause rests on it, for that of `estimate` speaks of
+-- specs/Estimates, where the events themselves are summed. Source: own.
 use Rattle.std.specs.Prelude.{◌≡◌, ℕ, zero, suc, ◌+◌, Some, List, [], ◌∷◌, replicate, length, slice_get, Contains}
 use Rattle.pp_prog.specs.declared.expr.Function.{Function}
 use Rattle.pp_prog.specs.declared.types.TypeTable.{TypeTable}

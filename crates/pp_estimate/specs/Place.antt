@@ -1,4 +1,6 @@
--- What a visit gives where it stands. Source: own.
+-- What a visit gives where it stands: specs/Visits and specs/Frames at the program and the fuel of a place, in short
+-- words for the contracts of src/visit.rt and src/frames.rt. This is of the making: no public clause speaks of a place.
+-- Source: own.
 use Rattle.std.specs.Prelude.{List, slice_get}
 use Rattle.pp_prog.specs.declared.expr.Case.{Case}
 use Rattle.pp_prog.specs.declared.expr.Expr.{Expr}

@@ -1,6 +1,7 @@
 //! The estimate of a round.
 
 ghost use Rattle.std.specs.Prelude.{◌≡◌, ◌<◌, ◌≤◌, IfOk, OnOk, length, true};
+ghost use Rattle.pp_limits.specs.declared.TheConstants.{DEPTH, ROUNDS};
 ghost use Rattle.pp_prog.specs.Sorts.{param_sorts};
 ghost use Rattle.pp_checks.specs.Plan.{IsPlanOf};
 ghost use Rattle.pp_estimate.specs.Bounds.{AreRows};
@@ -32,8 +33,8 @@ pub fn estimate(
 ) -> Result<u64, NoMemory>
     requires plan { IsPlanOf plan.now program.now }
     requires check { check.0 < length program.now.checks }
-    requires round { round ≤ 12 }
-    requires depth { (1 ≤ depth) × (depth ≤ 6) }
+    requires round { round ≤ ROUNDS.most }
+    requires depth { (1 ≤ depth) × (depth ≤ DEPTH.most) }
     ensures { IfOk result (λ e. e ≡ spec.estimate program.now.types program.now.functions program.now.checks check.0
         round depth) }
 {
@@ -54,7 +55,7 @@ pub(crate) fn rounds(
     last: u32,
     depth: u32,
 ) -> Result<u64, NoMemory>
-    requires { last ≤ 12 }
+    requires { last ≤ ROUNDS.most }
     ensures { IfOk result (λ e. e ≡ cut (spec.rounds types.now functions.now f.now last depth)) }
 {
     let mut memo = Memo::new(alloc)?;

@@ -1,7 +1,8 @@
 //! The estimate of a round: how large the circuit of a check is at most, before the round is begun.
 //!
 //! The number is exactly that of `specs/Estimates`: `specs/Events` says what is counted, `specs/Visits` what each form
-//! of expression weighs, `specs/Frames` what a call does. How it is counted may change.
+//! of expression weighs, `specs/Frames` what a call does. How it is counted may change: `specs/Counted`, `specs/Bounds`
+//! and `specs/Place` are of the making.
 //!
 //! - `estimating`: `estimate`, the rounds together, and one round.
 //! - `frames`: calls, and the frames of functions; a called one is counted once.

@@ -64,7 +64,7 @@ pub record FrameGrows (f g : Frame) : Type 0 where
   pub events : EventsGrow f.events g.events
 
 module _ (types : TypeTable) (c : Calls) (more : CallsGrow c c) where
-  components_grow : (es : List Expr) (args args' : List Shape) → ShapesGrow args args'
+  pub components_grow : (es : List Expr) (args args' : List Shape) → ShapesGrow args args'
       → VisitsGrow (components types c es args) (components types c es args')
   components_grow [] args args' h = tt
   components_grow (e ∷ es) args args' h =
@@ -81,7 +81,7 @@ module _ (types : TypeTable) (c : Calls) (more : CallsGrow c c) where
       events_append _ _ _ _ (pre_grows f.pre args args' h)
       (all_events_grow _ _ (components_grow f.measure args args' h))
 
-  post_grows : (o : Option (CheckId × Expr)) (old old' args args' : List Shape) (r r' : Shape) → ShapesGrow old old'
+  pub post_grows : (o : Option (CheckId × Expr)) (old old' args args' : List Shape) (r r' : Shape) → ShapesGrow old old'
       → ShapesGrow args args' → ShapeGrows r r'
       → EventsGrow (post_events types c o old args r) (post_events types c o old' args' r')
   post_grows None old old' args args' r r' h k g = events_same []

@@ -2,6 +2,6 @@ pub mod Numbers
 pub mod Sizes
 pub mod Growth
 mod Patterns
-mod Visits
-mod Frames
+pub mod Visits
+pub mod Frames
 pub mod Estimates

@@ -1,6 +1,7 @@
 //! All sources at once.
 
 ghost use Rattle.std.specs.Prelude.{◌≡◌, ◌≤◌, All, IfErr, IfOk, length, map};
+ghost use Rattle.pp_limits.specs.declared.TheConstants.{MOST_SOURCES};
 ghost use Rattle.pp_checks.specs.Plan.{IsPlanOf};
 ghost use Rattle.pp_declared.specs.Shown.{units_of};
 ghost use Rattle.pp_front.specs.Programs.{HaveTyping, IsProgramOf, IsShort, SpellUnits, bytes_of};
@@ -35,7 +36,7 @@ pub struct Accepted {
 /// `Line` with the line that says why the sources are refused: the first that spells no unit, a fault of typing, more
 /// than 512 instances, the first function that breaks a rule of measures. `Memory` for want of memory.
 pub fn accept(alloc: Global, sources: &[Vec<u8>]) -> Result<Accepted, Refusal>
-    requires few { length sources.now ≤ 16 }
+    requires few { length sources.now ≤ MOST_SOURCES }
     requires short { All IsShort sources.now }
     ensures program { IfOk result (λ accepted. IsProgramOf (map bytes_of sources.now) accepted.program) }
     ensures plan { IfOk result (λ accepted. IsPlanOf accepted.plan accepted.program) }

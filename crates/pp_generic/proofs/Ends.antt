@@ -1,11 +1,10 @@
 -- What is left at the end of two lists: it tells nothing of type parameters, and lists of two lengths don't fit.
-use Rattle.std.proofs.Common.{◌≡◌, ℕ, suc, ◌≤◌, ◌<◌, List, [], ◌∷◌, length, drop, map, min, refl, ap, sym, ◌∙◌, arith}
-use Rattle.std.proofs.Common.{⊎_elim, ◌⊎◌, inl, inr}
+use Rattle.std.proofs.Common.{◌≡◌, ℕ, ◌≤◌, List, [], ◌∷◌, length, drop, map, min, refl, ap, sym, ◌∙◌, arith}
+use Rattle.std.proofs.Common.{⊎_elim, ◌⊎◌}
 use Rattle.std.proofs.lemmas.List.{drop_all}
-use Rattle.std.specs.Prelude.{nat_eq, Bool, true, false, ◌&&◌, if◌then◌else◌}
+use Rattle.std.specs.Prelude.{nat_eq, Bool, true, false, if◌then◌else◌}
 use Rattle.pp_generic.specs.declared.expected.Expected.{Expected}
 use Rattle.pp_generic.specs.declared.expected.Expected.TheVariants as expected
-use Rattle.pp_generic.specs.Equal.{pass_all}
 use Rattle.pp_generic.specs.Expected.{Found}
 use Rattle.pp_generic.specs.Found.{Learning, learn_all, learn_root, learn_step, learn}
 use Rattle.pp_typed.specs.declared.sort.GenericSort.{GenericSort}

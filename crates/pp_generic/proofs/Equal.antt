@@ -1,14 +1,14 @@
 -- `equal` decides equality.
-use Rattle.std.proofs.Common.{◌≡◌, ℕ, Bool, true, false, ◌&&◌, List, [], ◌∷◌, map, refl, sym, ap, ◌∙◌, subst, arith}
+use Rattle.std.proofs.Common.{◌≡◌, Bool, true, false, ◌&&◌, List, [], ◌∷◌, map, refl, sym, ap, ◌∙◌, subst, arith}
 use Rattle.std.proofs.Common.{eq-eqb}
-use Rattle.std.specs.Prelude.{nat_eq, IsTrue, ◌↔◌}
+use Rattle.std.specs.Prelude.{IsTrue, ◌↔◌}
 use Rattle.std.proofs.lemmas.Bool.{eqb-true}
 use Rattle.pp_typed.specs.declared.sort.GenericSort.{GenericSort}
 use Rattle.pp_typed.specs.declared.sort.GenericSort.TheOpen as layer
 use Rattle.pp_typed.specs.declared.sort.GenericSort.TheViews.{out-GenericSort, roll-GenericSort, out-roll-GenericSort}
 use Rattle.pp_typed.specs.declared.sort.GenericSort.TheViews.{roll-out-GenericSort}
 use Rattle.pp_typed.specs.declared.sort.GenericSort.TheFolds.{fold-roll-GenericSort, ind-GenericSort, map-GenericSort}
-use Rattle.pp_generic.specs.Equal.{equal, equal_step, root_test, equal_layer, pass_all}
+use Rattle.pp_generic.specs.Equal.{equal, equal_step, equal_layer, pass_all}
 
 both_true : (a b : Bool) → a && b ≡ true → (a ≡ true) × (b ≡ true)
 both_true true b h = (refl, h)

@@ -1,5 +1,5 @@
 -- What is found of the type parameters of a declaration, where one of its sorts stands beside another. Source: own.
-use Rattle.std.specs.Prelude.{ℕ, nat_eq, Bool, true, false, if◌then◌else◌, List, [], ◌∷◌, Option, Some, None, replicate}
+use Rattle.std.specs.Prelude.{ℕ, nat_eq, if◌then◌else◌, List, [], ◌∷◌, Option, Some, None, replicate}
 use Rattle.std.specs.Prelude.{slice_get, slice_set}
 use Rattle.pp_generic.specs.declared.expected.Expected.{Expected}
 use Rattle.pp_generic.specs.declared.expected.Expected.TheOpen as expected_layer

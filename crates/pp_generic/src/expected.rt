@@ -3,6 +3,7 @@
 ghost use Rattle.std.specs.Prelude.{◌≡◌, IfOk, slice_get};
 ghost use Rattle.pp_generic.specs.Expected.{exact, expect, expect_found, whole, known, fits};
 
+use crate::limit::{MOST_NODES, take_node};
 use crate::{Found, NoMemory};
 use pp_list::{Items, at};
 use pp_typed::GenericSort;
@@ -22,6 +23,15 @@ pub enum Expected {
 pub fn exact(alloc: Global, sort: &GenericSort) -> Result<Expected, NoMemory>
     ensures { IfOk result (λ e. e ≡ exact sort.now) }
 {
+    let mut left = u32::MAX;
+    exact_within(alloc, sort, &mut left)
+}
+
+/// Exactly this sort, of no more nodes than are left.
+fn exact_within(alloc: Global, sort: &GenericSort, left: &mut u32) -> Result<Expected, NoMemory>
+    ensures { IfOk result (λ e. e ≡ exact sort.now) }
+{
+    take_node(left)?;
     match sort {
         GenericSort::Int => Ok(Expected::Int),
         GenericSort::Bool => Ok(Expected::Bool),
@@ -30,14 +40,15 @@ pub fn exact(alloc: Global, sort: &GenericSort) -> Result<Expected, NoMemory>
             let parts = parts.as_slice();
             let mut done = Items::new(alloc);
             for part in parts {
-                done.push(exact(alloc, part)?)?;
+                done.push(exact_within(alloc, part, left)?)?;
             }
             Ok(Expected::Root(*r, done))
         }
     }
 }
 
-/// What is expected where a declared sort stands, as far as its parameters are found. The only error is want of memory.
+/// What is expected where a declared sort stands, as far as its parameters are found. The only error is want of memory;
+/// there is none for more than `MOST_NODES` nodes.
 pub fn expect(
     alloc: Global,
     found: &[Option<GenericSort>],
@@ -45,15 +56,35 @@ pub fn expect(
 ) -> Result<Expected, NoMemory>
     ensures { IfOk result (λ e. e ≡ expect found.now sort.now) }
 {
+    let mut left = MOST_NODES;
+    expect_within(alloc, found, sort, &mut left)
+}
+
+/// What is expected where a declared sort stands, of no more nodes than are left.
+fn expect_within(
+    alloc: Global,
+    found: &[Option<GenericSort>],
+    sort: &GenericSort,
+    left: &mut u32,
+) -> Result<Expected, NoMemory>
+    ensures { IfOk result (λ e. e ≡ expect found.now sort.now) }
+{
     match sort {
-        GenericSort::Int => Ok(Expected::Int),
-        GenericSort::Bool => Ok(Expected::Bool),
-        GenericSort::Param(i) => expect_found(alloc, found, *i),
+        GenericSort::Int => {
+            take_node(left)?;
+            Ok(Expected::Int)
+        }
+        GenericSort::Bool => {
+            take_node(left)?;
+            Ok(Expected::Bool)
+        }
+        GenericSort::Param(i) => expect_found(alloc, found, *i, left),
         GenericSort::Root(r, parts) => {
+            take_node(left)?;
             let parts = parts.as_slice();
             let mut done = Items::new(alloc);
             for part in parts {
-                done.push(expect(alloc, found, part)?)?;
+                done.push(expect_within(alloc, found, part, left)?)?;
             }
             Ok(Expected::Root(*r, done))
         }
@@ -61,13 +92,24 @@ pub fn expect(
 }
 
 /// What is expected in place of this parameter.
-fn expect_found(alloc: Global, found: &[Option<GenericSort>], i: u32) -> Result<Expected, NoMemory>
+fn expect_found(
+    alloc: Global,
+    found: &[Option<GenericSort>],
+    i: u32,
+    left: &mut u32,
+) -> Result<Expected, NoMemory>
     ensures { IfOk result (λ e. e ≡ expect_found (slice_get found.now i)) }
 {
     match at(found, i as usize) {
-        Some(Some(sort)) => exact(alloc, sort),
-        Some(None) => Ok(Expected::Open),
-        None => Ok(Expected::Open),
+        Some(Some(sort)) => exact_within(alloc, sort, left),
+        Some(None) => {
+            take_node(left)?;
+            Ok(Expected::Open)
+        }
+        None => {
+            take_node(left)?;
+            Ok(Expected::Open)
+        }
     }
 }
 
@@ -95,7 +137,7 @@ pub fn whole(alloc: Global, expected: &Expected) -> Result<Option<GenericSort>, 
 }
 
 /// A declared sort with what is found in place of its parameters; None exactly where one of them isn't found. The only
-/// error is want of memory.
+/// error is want of memory; there is none for more than `MOST_NODES` nodes.
 pub fn known(
     alloc: Global,
     found: &[Option<GenericSort>],

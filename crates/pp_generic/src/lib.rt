@@ -7,9 +7,11 @@
 
 mod expected;
 mod found;
+mod limit;
 mod sort;
 
 pub use expected::{Expected, exact, expect, fits, known, whole};
 pub use found::{Found, all_found, learn, none_found};
+pub use limit::MOST_NODES;
 pub use sort::{are_same, copies, copy, put};
 pub use std::alloc::AllocError as NoMemory;

@@ -6,6 +6,7 @@ ghost use Rattle.pp_typed.specs.Put.{put, put_at};
 ghost use Rattle.pp_typed.specs.declared.sort.GenericSort.TheVariants.{Param};
 
 use crate::NoMemory;
+use crate::limit::{MOST_NODES, take_node};
 use pp_list::{Items, at};
 use pp_typed::{GenericSort, GenericSorts};
 use std::alloc::Global;
@@ -14,6 +15,15 @@ use std::alloc::Global;
 pub fn copy(alloc: Global, sort: &GenericSort) -> Result<GenericSort, NoMemory>
     ensures { IfOk result (λ s. s ≡ sort.now) }
 {
+    let mut left = u32::MAX;
+    copy_within(alloc, sort, &mut left)
+}
+
+/// A sort that equals this one, of no more nodes than are left.
+fn copy_within(alloc: Global, sort: &GenericSort, left: &mut u32) -> Result<GenericSort, NoMemory>
+    ensures { IfOk result (λ s. s ≡ sort.now) }
+{
+    take_node(left)?;
     match sort {
         GenericSort::Int => Ok(GenericSort::Int),
         GenericSort::Bool => Ok(GenericSort::Bool),
@@ -22,7 +32,7 @@ pub fn copy(alloc: Global, sort: &GenericSort) -> Result<GenericSort, NoMemory>
             let args = args.as_slice();
             let mut done = Items::new(alloc);
             for arg in args {
-                done.push(copy(alloc, arg)?)?;
+                done.push(copy_within(alloc, arg, left)?)?;
             }
             Ok(GenericSort::Root(*r, done))
         }
@@ -74,19 +84,40 @@ pub fn are_same(a: &GenericSort, b: &GenericSort) -> bool
     same(a, b)
 }
 
-/// The sort with these sorts in place of its parameters, one for each. The only error is want of memory.
+/// The sort with these sorts in place of its parameters, one for each. The only error is want of memory; there is none
+/// for more than `MOST_NODES` nodes.
 pub fn put(alloc: Global, args: &[GenericSort], sort: &GenericSort) -> Result<GenericSort, NoMemory>
     ensures { IfOk result (λ s. s ≡ put args.now sort.now) }
 {
+    let mut left = MOST_NODES;
+    put_within(alloc, args, sort, &mut left)
+}
+
+/// The sort with these in place of its parameters, of no more nodes than are left.
+fn put_within(
+    alloc: Global,
+    args: &[GenericSort],
+    sort: &GenericSort,
+    left: &mut u32,
+) -> Result<GenericSort, NoMemory>
+    ensures { IfOk result (λ s. s ≡ put args.now sort.now) }
+{
     match sort {
-        GenericSort::Int => Ok(GenericSort::Int),
-        GenericSort::Bool => Ok(GenericSort::Bool),
-        GenericSort::Param(i) => put_at(alloc, args, *i),
+        GenericSort::Int => {
+            take_node(left)?;
+            Ok(GenericSort::Int)
+        }
+        GenericSort::Bool => {
+            take_node(left)?;
+            Ok(GenericSort::Bool)
+        }
+        GenericSort::Param(i) => put_at(alloc, args, *i, left),
         GenericSort::Root(r, parts) => {
+            take_node(left)?;
             let parts = parts.as_slice();
             let mut done = Items::new(alloc);
             for part in parts {
-                done.push(put(alloc, args, part)?)?;
+                done.push(put_within(alloc, args, part, left)?)?;
             }
             Ok(GenericSort::Root(*r, done))
         }
@@ -94,11 +125,19 @@ pub fn put(alloc: Global, args: &[GenericSort], sort: &GenericSort) -> Result<Ge
 }
 
 /// The sort at this place, or else the parameter of that place.
-fn put_at(alloc: Global, args: &[GenericSort], i: u32) -> Result<GenericSort, NoMemory>
+fn put_at(
+    alloc: Global,
+    args: &[GenericSort],
+    i: u32,
+    left: &mut u32,
+) -> Result<GenericSort, NoMemory>
     ensures { IfOk result (λ s. s ≡ put_at args.now i) }
 {
     match at(args, i as usize) {
-        Some(sort) => copy(alloc, sort),
-        None => Ok(GenericSort::Param(i)),
+        Some(sort) => copy_within(alloc, sort, left),
+        None => {
+            take_node(left)?;
+            Ok(GenericSort::Param(i))
+        }
     }
 }

@@ -6,19 +6,19 @@ mod OpenCalls
 mod OwnCalls
 mod Ties
 mod Pairs
-mod Rounds
+pub mod Rounds
 pub mod Conditions
 pub mod ClosedPatterns
 pub mod ClosedExprs
 pub mod ClosedRounds
-mod ClosedAlways
-mod CallsPaired
+pub mod ClosedAlways
+pub mod CallsPaired
 pub mod OwnFrame
 mod Failures
 mod Supposed
 mod ButCalls
 mod PairsBack
-mod StandingAgree
+pub mod StandingAgree
 mod TiesBack
 mod OwnWorld
 mod CallsTrue
@@ -28,7 +28,7 @@ mod Reading
 pub mod RoundsRead
 pub mod Labels
 mod OperatorSorts
-mod Sorting
+pub mod Sorting
 pub mod RoundsSorted
 pub mod SolvedSorted
 pub mod WorldSorts

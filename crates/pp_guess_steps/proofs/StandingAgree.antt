@@ -230,7 +230,7 @@ zero_sum : (m : ℕ) → 0 + m ≤ m
 zero_sum m = omega arith
 
 -- the calls of a list that grows: those that stood, and the new ones
-splits_before : (xs ys : List Step) → calls_before (length xs) (standing 0 (xs ++ ys)) ≡ standing 0 xs
+pub splits_before : (xs ys : List Step) → calls_before (length xs) (standing 0 (xs ++ ys)) ≡ standing 0 xs
 splits_before xs ys =
     ap (λ l. calls_before (length xs) l) (standing_at xs ys)
     ∙ before_join (length xs) (standing 0 xs) (standing (length xs) ys)
@@ -240,7 +240,7 @@ splits_before xs ys =
     (all_high ys (length xs) (length xs) (self (length xs))))
     ∙ right_none (standing 0 xs)
 
-splits_from : (xs ys : List Step) → calls_from (length xs) (standing 0 (xs ++ ys)) ≡ standing (length xs) ys
+pub splits_from : (xs ys : List Step) → calls_from (length xs) (standing 0 (xs ++ ys)) ≡ standing (length xs) ys
 splits_from xs ys =
     ap (λ l. calls_from (length xs) l) (standing_at xs ys)
     ∙ from_join (length xs) (standing 0 xs) (standing (length xs) ys)

@@ -1,5 +1,6 @@
-mod OwnFields
+mod Arguments
 mod Defaults
 mod Listing
-mod Arguments
+mod OwnFields
+pub mod Looking
 pub mod Named

@@ -1,10 +1,14 @@
 -- The list of values that a naming has to name: the defaults of the steps' sorts, which come first, the values of the
--- steps, and their fields.
+-- steps, and the fields of those that are looked at.
 use Rattle.std.proofs.Common.{◌≡◌, ◌≤◌, ◌<◌, ℕ, zero, suc, ◌+◌, ◌*◌, Bool, true, false, List, [], ◌∷◌, ◌++◌, map}
-use Rattle.std.proofs.Common.{length, Some, All, refl, sym, ap, ◌∙◌, subst, arith, length-append}
+use Rattle.std.proofs.Common.{length, slice_get, Some, All, refl, sym, ap, ◌∙◌, subst, arith, append_assoc}
+use Rattle.std.proofs.Common.{length-append}
 use Rattle.std.specs.Prelude.{if◌then◌else◌}
-use Rattle.std.proofs.lemmas.List.{length-map}
+use Rattle.std.specs.List.{sum_by}
+use Rattle.std.proofs.lemmas.List.{length-map, map-append}
 use Rattle.std.proofs.lemmas.List.Elements.{All-cons, All-head, All-nil, All-tail}
+use Rattle.std.proofs.lemmas.List.Sums.{sum_by-cons}
+use Rattle.std.proofs.lemmas.Option.{same_Some}
 use Rattle.pp_prog.specs.declared.id.DataId.{DataId}
 use Rattle.pp_prog.specs.declared.sort.Sort.TheVariants as sort
 use Rattle.pp_prog.specs.declared.types.TypeTable.{TypeTable}
@@ -14,9 +18,12 @@ use Rattle.pp_prog.specs.Sorts.{has_sort}
 use Rattle.pp_prog.specs.Table.{HaveValues, is_sort}
 use Rattle.pp_domain.specs.Naming.{first_of}
 use Rattle.pp_steps.specs.declared.step.Step.{Step}
+use Rattle.pp_steps.specs.declared.step.Step.TheVariants as steps
 use Rattle.pp_steps.specs.Frames.{numbers}
 use Rattle.pp_steps.specs.Meaning.{Values}
+use Rattle.pp_steps.specs.Reads.{AllRead, Below, Reads}
 use Rattle.pp_steps.specs.Sorted.{Sorts}
+use Rattle.pp_guess_values.specs.NamedGuess.{all_looked_at, looked_at}
 use Rattle.pp_guess_values.proofs.Defaults.{default_has_sort, default_of, default_of_data}
 use Rattle.pp_guess_values.proofs.OwnFields.{own_fields}
 
@@ -56,36 +63,87 @@ at_number P f j (x ∷ xs) h (suc k) lt =
 -- ---- the fields of values
 
 -- the fields of all of them
-abbrev all_fields : List Value → List Value
+abbrev pub all_fields : List Value → List Value
 all_fields vs = joined (map own_fields vs)
 
--- what holds of the fields of all holds of those of each
-fields_at : {A : Type 0} (P : Value → Type 0) (ρ : ℕ → Value) (j : ℕ) (xs : List A)
-    → All P (all_fields (map ρ (numbers j xs))) → (k : ℕ) → k < length xs → All P (own_fields (ρ (j + k)))
-fields_at P ρ j [] h k lt = absurd (omega (arith, lt))
-fields_at P ρ j (x ∷ xs) h zero lt =
-    subst (λ i. All P (own_fields (ρ i))) (plus_zero j)
-    (all_left P (own_fields (ρ j)) (all_fields (map ρ (numbers (suc j) xs))) h)
-fields_at P ρ j (x ∷ xs) h (suc k) lt =
-    subst (λ i. All P (own_fields (ρ i))) (plus_suc j k)
-    (fields_at P ρ (suc j) xs (all_right P (own_fields (ρ j)) (all_fields (map ρ (numbers (suc j) xs))) h) k
-    (omega (arith, lt)))
+fields_joined : (vs ws : List Value) → all_fields (vs ++ ws) ≡ all_fields vs ++ all_fields ws
+fields_joined [] ws = refl
+fields_joined (v ∷ vs) ws =
+    ap (λ l. own_fields v ++ l) (fields_joined vs ws)
+    ∙ sym (append_assoc (own_fields v) (all_fields vs) (all_fields ws))
 
-one_more : (a b n most : ℕ) → a ≤ most → b ≤ n * most → a + b ≤ suc n * most
-one_more a b n most first rest = omega (arith, first, rest)
+sum_le : (a b m n : ℕ) → a ≤ m → b ≤ n → a + b ≤ m + n
+sum_le a b m n first rest = omega (arith, first, rest)
 
--- where each has few, all have few
-few_in_all : {A : Type 0} (most : ℕ) (ρ : ℕ → Value) (j : ℕ) (xs : List A)
-    → ((k : ℕ) → k < length xs → length (own_fields (ρ (j + k))) ≤ most)
-    → length (all_fields (map ρ (numbers j xs))) ≤ length xs * most
-few_in_all most ρ j [] few = omega arith
-few_in_all most ρ j (x ∷ xs) few =
-    subst (λ n. n ≤ suc (length xs) * most)
-    (sym (length-append (own_fields (ρ j)) (all_fields (map ρ (numbers (suc j) xs)))))
-    (one_more (length (own_fields (ρ j))) (length (all_fields (map ρ (numbers (suc j) xs)))) (length xs) most
-    (subst (λ i. length (own_fields (ρ i)) ≤ most) (sym (plus_zero j)) (few 0 (omega arith)))
-    (few_in_all most ρ (suc j) xs (λ k lt. subst (λ i. length (own_fields (ρ i)) ≤ most) (sym (plus_suc j k))
-    (few (suc k) (omega (arith, lt))))))
+-- where each value has few fields, all together have few
+few_in_all : (most : ℕ → ℕ) (ρ : ℕ → Value) (many : ℕ)
+    → ((k : ℕ) → k < many → length (own_fields (ρ k)) ≤ most k) → (ks : List ℕ) → Below many ks
+    → length (all_fields (map ρ ks)) ≤ sum_by most ks
+few_in_all most ρ many few [] below = omega arith
+few_in_all most ρ many few (k ∷ ks) below =
+    subst (λ n. n ≤ sum_by most (k ∷ ks)) (sym (length-append (own_fields (ρ k)) (all_fields (map ρ ks))))
+    (subst (λ n. length (own_fields (ρ k)) + length (all_fields (map ρ ks)) ≤ n) (sym (sum_by-cons most k ks))
+    (sum_le (length (own_fields (ρ k))) (length (all_fields (map ρ ks))) (most k) (sum_by most ks) (few k below.0)
+    (few_in_all most ρ many few ks below.1)))
+
+-- ---- what is looked at
+
+plus_suc_length : {A : Type 0} (k : ℕ) (x : A) (xs : List A) → suc k + length xs ≡ k + length (x ∷ xs)
+plus_suc_length k x xs = omega arith
+
+below_joined : (n : ℕ) (ks ls : List ℕ) → Below n ks → Below n ls → Below n (ks ++ ls)
+below_joined n [] ls first rest = rest
+below_joined n (k ∷ ks) ls first rest = (first.0, below_joined n ks ls first.1 rest)
+
+-- what a step looks at stands before it
+look_below : (k n : ℕ) (s : Step) → k ≤ n → Reads k s → Below n (looked_at s)
+look_below k n (steps.Open s) le reads = tt
+look_below k n (steps.Int z) le reads = tt
+look_below k n (steps.Bool b) le reads = tt
+look_below k n (steps.Not a) le reads = tt
+look_below k n (steps.Both a b) le reads = tt
+look_below k n (steps.Choose c a b) le reads = tt
+look_below k n (steps.Unary op a) le reads = tt
+look_below k n (steps.Binary op a b) le reads = tt
+look_below k n (steps.Construct c fields) le reads = tt
+look_below k n (steps.IsCtor c i a) le reads = (omega (arith, le, reads), tt)
+look_below k n (steps.CtorField c i a) le reads = tt
+look_below k n (steps.Field a i) le reads = (omega (arith, le, reads), tt)
+look_below k n (steps.IsAlike a b) le reads = tt
+look_below k n (steps.GoesDown a b) le reads = tt
+look_below k n (steps.HasAnswer c) le reads = tt
+look_below k n (steps.Answer c) le reads = tt
+
+looks_below : (k : ℕ) (ss : List Step) → AllRead k ss → Below (k + length ss) (all_looked_at ss)
+looks_below k [] reads = tt
+looks_below k (s ∷ ss) reads =
+    below_joined (k + length (s ∷ ss)) (looked_at s) (all_looked_at ss)
+    (look_below k (k + length (s ∷ ss)) s (omega arith) reads.0)
+    (subst (λ n. Below n (all_looked_at ss)) (plus_suc_length k s ss) (looks_below (suc k) ss reads.1))
+
+-- what holds of the fields of all that is looked at holds of those of what one step looks at
+fields_looked_at : (P : Value → Type 0) (ρ : ℕ → Value) (ss : List Step)
+    → All P (all_fields (map ρ (all_looked_at ss))) → (k : ℕ) (s : Step) → slice_get ss k ≡ Some s
+    → All P (all_fields (map ρ (looked_at s)))
+fields_looked_at P ρ [] all k s at = absurd (cc)
+fields_looked_at P ρ (t ∷ ss) all k s at =
+    by k at (fields_looked_at P ρ ss
+    (all_right P (all_fields (map ρ (looked_at t))) (all_fields (map ρ (all_looked_at ss))) (subst (All P) parts all)))
+  where
+    parts : all_fields (map ρ (all_looked_at (t ∷ ss)))
+        ≡ all_fields (map ρ (looked_at t)) ++ all_fields (map ρ (all_looked_at ss))
+    parts =
+        ap all_fields (map-append ρ (looked_at t) (all_looked_at ss))
+        ∙ fields_joined (map ρ (looked_at t)) (map ρ (all_looked_at ss))
+
+    by : (k : ℕ) → slice_get (t ∷ ss) k ≡ Some s
+        → ((j : ℕ) (z : Step) → slice_get ss j ≡ Some z → All P (all_fields (map ρ (looked_at z))))
+        → All P (all_fields (map ρ (looked_at s)))
+    by zero here rest =
+        subst (λ z. All P (all_fields (map ρ (looked_at z)))) (same_Some t s here)
+        (all_left P (all_fields (map ρ (looked_at t))) (all_fields (map ρ (all_looked_at ss)))
+        (subst (All P) parts all))
+    by (suc j) later rest = rest j s later
 
 -- ---- the list
 
@@ -124,42 +182,43 @@ module _ (types : TypeTable) (values : HaveValues types.datatypes types.ctors) (
     abbrev step_values : List Value
     step_values = map ρ (numbers 0 ss)
 
+    abbrev looked_fields : List Value
+    looked_fields = all_fields (map ρ (all_looked_at ss))
+
     -- what a naming has to name
     abbrev pub listed : List Value
-    listed = defaults 0 ss ++ (step_values ++ all_fields step_values)
+    listed = defaults 0 ss ++ (step_values ++ looked_fields)
 
-    length_parts : length listed ≡ length ss + (length ss + length (all_fields step_values))
+    length_parts : length listed ≡ length ss + (length ss + length looked_fields)
     length_parts =
-        length-append (defaults 0 ss) (step_values ++ all_fields step_values)
-        ∙ ap (λ n. length (defaults 0 ss) + n) (length-append step_values (all_fields step_values))
-        ∙ ap (λ n. n + (length step_values + length (all_fields step_values)))
+        length-append (defaults 0 ss) (step_values ++ looked_fields)
+        ∙ ap (λ n. length (defaults 0 ss) + n) (length-append step_values looked_fields)
+        ∙ ap (λ n. n + (length step_values + length looked_fields))
         (length-map (numbers 0 ss) default_here ∙ length_numbers 0 ss)
-        ∙ ap (λ n. length ss + (n + length (all_fields step_values)))
-        (length-map (numbers 0 ss) ρ ∙ length_numbers 0 ss)
+        ∙ ap (λ n. length ss + (n + length looked_fields)) (length-map (numbers 0 ss) ρ ∙ length_numbers 0 ss)
 
-    two_more : (n most a : ℕ) → a ≤ n * most → n + (n + a) ≤ n * (2 + most)
-    two_more n most a le = omega (arith, le)
+    twice_more : (n a b : ℕ) → a ≤ b → n + (n + a) ≤ 2 * n + b
+    twice_more n a b le = omega (arith, le)
 
     -- it is short where no value has many fields
-    pub few_listed : (most : ℕ) → ((k : ℕ) → k < length ss → length (own_fields (ρ k)) ≤ most)
-        → length listed ≤ length ss * (2 + most)
-    few_listed most few =
-        subst (λ n. n ≤ length ss * (2 + most)) (sym length_parts)
-        (two_more (length ss) most (length (all_fields step_values))
-        (few_in_all most ρ 0 ss
-        (λ k lt. subst (λ i. length (own_fields (ρ i)) ≤ most) (sym (zero_plus k)) (few k lt))))
+    pub few_listed : (most : ℕ → ℕ) → ((k : ℕ) → k < length ss → length (own_fields (ρ k)) ≤ most k)
+        → AllRead 0 ss → length listed ≤ 2 * length ss + sum_by most (all_looked_at ss)
+    few_listed most few reads =
+        subst (λ n. n ≤ 2 * length ss + sum_by most (all_looked_at ss)) (sym length_parts)
+        (twice_more (length ss) (length looked_fields) (sum_by most (all_looked_at ss))
+        (few_in_all most ρ (length ss) few (all_looked_at ss)
+        (subst (λ n. Below n (all_looked_at ss)) (zero_plus (length ss)) (looks_below 0 ss reads))))
 
     -- what holds of all of it
     module _ (P : Value → Type 0) (all : All P listed) where
-      behind : All P (step_values ++ all_fields step_values)
-      behind = all_right P (defaults 0 ss) (step_values ++ all_fields step_values) all
+      behind : All P (step_values ++ looked_fields)
+      behind = all_right P (defaults 0 ss) (step_values ++ looked_fields) all
 
       pub each_value : (k : ℕ) → k < length ss → P (ρ k)
       each_value k lt =
           subst (λ i. P (ρ i)) (zero_plus k)
-          (at_number P ρ 0 ss (all_left P step_values (all_fields step_values) behind) k lt)
+          (at_number P ρ 0 ss (all_left P step_values looked_fields behind) k lt)
 
-      pub each_field : (k : ℕ) → k < length ss → All P (own_fields (ρ k))
-      each_field k lt =
-          subst (λ i. All P (own_fields (ρ i))) (zero_plus k)
-          (fields_at P ρ 0 ss (all_right P step_values (all_fields step_values) behind) k lt)
+      -- the fields of the trees that a step looks at
+      pub each_look : (k : ℕ) (s : Step) → slice_get ss k ≡ Some s → All P (all_fields (map ρ (looked_at s)))
+      each_look k s at = fields_looked_at P ρ ss (all_right P step_values looked_fields behind) k s at

@@ -1,6 +1,9 @@
 -- Where a guess run fails the check, there are values with their sorts that say so, and a naming that a domain admits
 -- names them all.
-use Rattle.std.proofs.Common.{◌≡◌, ◌≤◌, ◌<◌, ℕ, ◌+◌, ◌*◌, ◌^◌, true, List, All, Some, length, slice_get, refl, sym}
+use Rattle.std.proofs.Common.{◌≡◌, ◌≤◌, ◌<◌, ℕ, ◌+◌, ◌*◌, ◌^◌, true, List, [], ◌∷◌, ◌++◌, map, All, Some, length}
+use Rattle.std.proofs.Common.{slice_get, refl, sym}
+use Rattle.std.specs.List.{sum_by}
+use Rattle.std.proofs.lemmas.List.{append-nil}
 use Rattle.std.proofs.Common.{ap, ◌∙◌, subst, arith}
 use Rattle.std.proofs.Math.Logic.{∥∥₁_map}
 use Rattle.std.proofs.lemmas.Option.{same_Some, slice_get_within}
@@ -21,7 +24,7 @@ use Rattle.pp_guess_runs.specs.Answers.{Answering, IsAnswering, answers_of}
 use Rattle.pp_guess_runs.specs.Guess.{fails, guess}
 use Rattle.pp_induction.specs.Ends.{GuessFails}
 use Rattle.pp_domain.specs.Laws.{AdmittedFor, Lawful}
-use Rattle.pp_domain.specs.Naming.{IsDefault, Names, NamesAll, Naming}
+use Rattle.pp_domain.specs.Naming.{IsDefault, Names, NamesAll, NamesFields, Naming}
 use Rattle.pp_domain.specs.Sense.{Sense}
 use Rattle.pp_steps.specs.declared.step.Step.{Step}
 use Rattle.pp_steps.specs.declared.step.Step.TheVariants as steps
@@ -29,17 +32,20 @@ use Rattle.pp_steps.specs.Guesses.{guess_steps}
 use Rattle.pp_steps.specs.Meaning.{Missing, Values}
 use Rattle.pp_steps.specs.Sorted.{Selects}
 use Rattle.pp_steps_run.specs.Told.{AreValues}
-use Rattle.pp_build.specs.Followed.{AreNamed, HasDefault}
+use Rattle.pp_build.specs.Followed.{AreNamed, LooksNamed}
 use Rattle.pp_build.proofs.StepLists.{sorted_at}
 use Rattle.pp_guess_steps.specs.Laws.{HaveGuessSorts, IsSortedGuess}
 use Rattle.pp_guess_steps.specs.OpenCalls.{world}
 use Rattle.pp_guess_steps.proofs.Laws.{guesses_suppose}
+use Rattle.pp_guess_steps.proofs.Existing.{guesses_read}
 use Rattle.pp_guess_steps.proofs.SortedValues.{sorted_guesses_exist}
 use Rattle.pp_guess_steps.proofs.WorldSorts.{guesses_answer_sorted}
-use Rattle.pp_guess_values.specs.NamedGuess.{IsNamedGuess, IsShort}
+use Rattle.pp_guess_values.specs.NamedGuess.{IsNamedGuess, IsShort, all_looked_at, fields_at, looked_at}
 use Rattle.pp_guess_values.proofs.Arguments.{arguments_are_steps, holds_of_values}
 use Rattle.pp_guess_values.proofs.Defaults.{default_field, default_field_is, default_has_sort, default_of}
-use Rattle.pp_guess_values.proofs.Listing.{each_field, each_value, few_listed, first_is_default, listed, zero_plus}
+use Rattle.pp_guess_values.proofs.Listing.{all_fields, each_look, each_value, few_listed, first_is_default, listed}
+use Rattle.pp_guess_values.proofs.Listing.{zero_plus}
+use Rattle.pp_guess_values.proofs.Looking.{field_was_asked, guess_looks_before}
 use Rattle.pp_guess_values.proofs.OwnFields.{has_few_fields, tree_fields}
 
 at_most_below : (a b c : ℕ) → a ≤ b → b < c → a < c
@@ -74,11 +80,13 @@ module _ (p : Program) (f : Function) (check : CheckId) (n : ℕ)
     abbrev Listed : List Value
     Listed = listed p.types inhabited run.sorts ρ Steps
 
-    listed_is_short : IsShort p.types Steps → length Listed < 2 ^ 30
+    listed_is_short : IsShort p.types run.sorts Steps → length Listed < 2 ^ 30
     listed_is_short short =
-        at_most_below (length Listed) (length Steps * (2 + short.most)) (2 ^ 30)
-        (few_listed p.types inhabited run.sorts ρ Steps short.most
-        (λ k lt. has_few_fields p.types.ctors short.most short.fields (run.sorts k) (ρ k) (sorted k lt))) short.few
+        at_most_below (length Listed)
+        (2 * length Steps + sum_by (fields_at short.most run.sorts) (all_looked_at Steps)) (2 ^ 30)
+        (few_listed p.types inhabited run.sorts ρ Steps (fields_at short.most run.sorts)
+        (λ k lt. has_few_fields p.types.ctors short.most short.fields (run.sorts k) (ρ k) (sorted k lt))
+        (guesses_read p.functions f check n).reads) short.few
 
     module _ (naming : Naming) (all : NamesAll p.types naming Listed) where
       value_is_named : (k : ℕ) → k < length Steps → Names p.types naming (ρ k)
@@ -87,11 +95,7 @@ module _ (p : Program) (f : Function) (check : CheckId) (n : ℕ)
       are_named : AreNamed p.types naming run.sorts ρ (length Steps)
       are_named = record {
         sorted = sorted;
-        named = λ k lt. record {
-          whole = value_is_named k lt;
-          fields = λ c fields is. subst (All (Names p.types naming)) (tree_fields c fields (ρ k) is)
-              (each_field p.types inhabited run.sorts ρ Steps (Names p.types naming) all.names k lt);
-        };
+        named = value_is_named;
       }
 
       args_are_named : (args : List Value) → AreValues ρ (guess_steps p.functions f check n).arguments args
@@ -121,28 +125,41 @@ module _ (p : Program) (f : Function) (check : CheckId) (n : ℕ)
             (default_is_first k (slice_get_within Steps k (steps.CtorField c i a) at) (run.sorts k) refl
             (field_sort_stands c made.ctor i (run.sorts k) made.stands made.field))
 
-        have_defaults : (k : ℕ) (s : Step) → slice_get Steps k ≡ Some s
-            → HasDefault naming run.sorts ρ missing k s
-        have_defaults k (steps.Open s) at = tt
-        have_defaults k (steps.Int z) at = tt
-        have_defaults k (steps.Bool b) at = tt
-        have_defaults k (steps.Not a) at = tt
-        have_defaults k (steps.Both a b) at = tt
-        have_defaults k (steps.Choose c a b) at = tt
-        have_defaults k (steps.Unary op a) at = tt
-        have_defaults k (steps.Binary op a b) at = tt
-        have_defaults k (steps.Construct c fields) at = tt
-        have_defaults k (steps.IsCtor c i a) at = tt
-        have_defaults k (steps.CtorField c i a) at = field_is_default k c i a at
-        have_defaults k (steps.Field a i) at = tt
-        have_defaults k (steps.IsAlike a b) at = tt
-        have_defaults k (steps.GoesDown a b) at = tt
-        have_defaults k (steps.HasAnswer c) at = tt
-        have_defaults k (steps.Answer c) at = tt
+        -- the fields of the tree that a step looks at, which is that of step number a
+        fields_named : (k : ℕ) (s : Step) → slice_get Steps k ≡ Some s → (a : ℕ) → looked_at s ≡ a ∷ []
+            → NamesFields p.types naming (ρ a)
+        fields_named k s at a look c fields is =
+            subst (All (Names p.types naming)) (append-nil fields)
+            (subst (λ l. All (Names p.types naming) (l ++ [])) (tree_fields c fields (ρ a) is)
+            (subst (λ l. All (Names p.types naming) (all_fields (map ρ l))) look
+            (each_look p.types inhabited run.sorts ρ Steps (Names p.types naming) all.names k s at)))
+
+        looks_named : (k : ℕ) (s : Step) → slice_get Steps k ≡ Some s
+            → LooksNamed p.types naming run.sorts ρ missing k s
+        looks_named k (steps.Open s) at = tt
+        looks_named k (steps.Int z) at = tt
+        looks_named k (steps.Bool b) at = tt
+        looks_named k (steps.Not a) at = tt
+        looks_named k (steps.Both a b) at = tt
+        looks_named k (steps.Choose c a b) at = tt
+        looks_named k (steps.Unary op a) at = tt
+        looks_named k (steps.Binary op a b) at = tt
+        looks_named k (steps.Construct c fields) at = tt
+        looks_named k (steps.IsCtor c i a) at = fields_named k (steps.IsCtor c i a) at a refl
+        looks_named k (steps.CtorField c i a) at =
+            let asks = field_was_asked Steps (guess_looks_before p.functions f check n) k c i a at in record {
+              fields = fields_named asks.number (steps.IsCtor asks.ctor asks.count a) asks.at a refl;
+              default = field_is_default k c i a at;
+            }
+        looks_named k (steps.Field a i) at = fields_named k (steps.Field a i) at a refl
+        looks_named k (steps.IsAlike a b) at = tt
+        looks_named k (steps.GoesDown a b) at = tt
+        looks_named k (steps.HasAnswer c) at = tt
+        looks_named k (steps.Answer c) at = tt
 
   -- ---- a guess run that fails
 
-  module _ {D T : Type 0} (m : Sense D T) (law : Lawful m) (short : IsShort p.types Steps) (args : List Value)
+  module _ {D T : Type 0} (m : Sense D T) (law : Lawful m) (short : IsShort p.types run.sorts Steps) (args : List Value)
       (i : ℕ) (called : IsCalled p i f args) (W : Answering) (answering : IsAnswering p W)
       (failed : guess p.types.ctors p.functions f check args n W ≡ fails) where
     abbrev missing : Missing
@@ -171,14 +188,14 @@ module _ (p : Program) (f : Function) (check : CheckId) (n : ℕ)
           admitted = x.admitted;
           args_named = args_are_named ρ run_values.sorted x.naming x.names args run_values.guess.arguments;
           are = are_named ρ run_values.sorted x.naming x.names;
-          defaults = have_defaults ρ run_values.sorted x.naming x.names missing (λ c place. refl);
+          looked = looks_named ρ run_values.sorted x.naming x.names missing (λ c place. refl);
         }
 
 -- where some guess run of round n fails the check, and what has to be named is short, there are such values
 pub failing_guess_is_named : {D T : Type 0} (m : Sense D T) → Lawful m → (p : Program) (i : ℕ) (f : Function)
     → slice_get p.functions i ≡ Some f → (check : CheckId) (n : ℕ) → GuessFails p i check n
     → (run : HaveGuessSorts p.types (guess_steps p.functions f check n) (param_sorts f.params))
-    → IsShort p.types (guess_steps p.functions f check n).steps → ∥ IsNamedGuess m p f check n run.sorts ∥₁
+    → IsShort p.types run.sorts (guess_steps p.functions f check n).steps → ∥ IsNamedGuess m p f check n run.sorts ∥₁
 failing_guess_is_named m law p i f here check n wrong run short =
     let same : wrong.function ≡ f = same_Some wrong.function f (sym wrong.called.function ∙ here) in
     ∥∥₁_map p.types.inhabited (λ inhabited. named_guess p f check n run inhabited m law short wrong.args i

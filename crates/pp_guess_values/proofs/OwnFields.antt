@@ -4,6 +4,7 @@ use Rattle.std.proofs.Common.{true}
 use Rattle.std.proofs.lemmas.Bool.{and_parts}
 use Rattle.std.proofs.lemmas.Option.{same_Some}
 use Rattle.pp_prog.specs.declared.id.CtorId.{CtorId}
+use Rattle.pp_prog.specs.declared.id.DataId.{DataId}
 use Rattle.pp_prog.specs.declared.sort.Sort.{Sort}
 use Rattle.pp_prog.specs.declared.sort.Sort.TheVariants as sort
 use Rattle.pp_prog.specs.declared.types.Ctor.{Ctor}
@@ -12,6 +13,7 @@ use Rattle.pp_prog.specs.declared.value.Value.TheFolds.{map-Value}
 use Rattle.pp_prog.specs.declared.value.Value.TheOpen as layer
 use Rattle.pp_prog.specs.declared.value.Value.TheVariants.{Tree, outs-Int, outs-Bool, outs-Tree}
 use Rattle.pp_prog.specs.declared.value.Value.TheViews.{out-Value}
+use Rattle.pp_prog.specs.Sizes.{by_sort}
 use Rattle.pp_prog.specs.Sorts.{has_sort, has_step, is_int, same_sort}
 use Rattle.pp_prog.proofs.ValueSorts.{Has, bool_value, have_length, int_value, level_has, one_sort, tree_is, tree_value}
 
@@ -47,19 +49,20 @@ module _ (ctors : List Ctor) where
           let b = tree_is (slice_get ctors c.0) (map (has_sort ctors) ws) t j in
           sym a.2 ∙ ap (λ (e : Ctor). sort.Tree e.of) (same_Some a.0 b.0 (sym a.1 ∙ b.1)) ∙ b.2
 
-  -- where no constructor has more fields, no value has
-  pub has_few_fields : (most : ℕ)
-      → ((c : CtorId) (k : Ctor) → slice_get ctors c.0 ≡ Some k → length k.fields ≤ most) → (s : Sort) (v : Value)
-      → Has ctors s v → length (own_fields v) ≤ most
+  -- where no constructor has more fields than `most` of its datatype, no value has
+  pub has_few_fields : (most : DataId → ℕ)
+      → ((c : CtorId) (k : Ctor) → slice_get ctors c.0 ≡ Some k → length k.fields ≤ most k.of) → (s : Sort) (v : Value)
+      → Has ctors s v → length (own_fields v) ≤ by_sort 0 0 most s
   has_few_fields most few sort.Int v h =
       let n = int_value ctors v h in
-      subst (λ (fs : List Value). length fs ≤ most) (sym (ap own_fields n.is ∙ ap fields_in (outs-Int n.number)))
-      (none_fit most)
+      subst (λ (fs : List Value). length fs ≤ 0) (sym (ap own_fields n.is ∙ ap fields_in (outs-Int n.number)))
+      (none_fit 0)
   has_few_fields most few sort.Bool v h =
       let b = bool_value ctors v h in
-      subst (λ (fs : List Value). length fs ≤ most) (sym (ap own_fields b.is ∙ ap fields_in (outs-Bool b.truth)))
-      (none_fit most)
+      subst (λ (fs : List Value). length fs ≤ 0) (sym (ap own_fields b.is ∙ ap fields_in (outs-Bool b.truth)))
+      (none_fit 0)
   has_few_fields most few (sort.Tree d) v h =
       let t = tree_value ctors d v h in
-      subst (λ (fs : List Value). length fs ≤ most) (sym (tree_fields t.ctor t.fields v t.is))
-      (subst (λ n. n ≤ most) (sym (have_length ctors t.entry.fields t.fields t.sorts)) (few t.ctor t.entry t.at))
+      subst (λ (fs : List Value). length fs ≤ most d) (sym (tree_fields t.ctor t.fields v t.is))
+      (subst (λ n. n ≤ most d) (sym (have_length ctors t.entry.fields t.fields t.sorts))
+      (subst (λ e. length t.entry.fields ≤ most e) t.data_of (few t.ctor t.entry t.at)))

@@ -1,1 +1,2 @@
+pub mod LooksBefore
 pub mod NamedGuess

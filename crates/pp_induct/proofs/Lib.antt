@@ -1,3 +1,4 @@
 pub mod Firsts
+pub mod Undone
 pub mod Valid
 pub mod Reports

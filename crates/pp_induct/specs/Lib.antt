@@ -1,4 +1,5 @@
 pub mod Supported
 pub mod Verdicts
+pub mod Concluding
 pub mod Reports
 pub mod Laws

@@ -1,5 +1,6 @@
 -- What stands behind a report: behind each end, and behind the verdicts. Source: own.
 use Rattle.std.specs.Prelude.{◌≡◌, ◌⊎◌, ◌<◌, ◌≤◌, ℕ, suc, List, Option, Some, None, length, slice_get}
+use Rattle.pp_limits.specs.declared.TheConstants.{DEPTH, GATES, LEMMAS, ROUNDS}
 use Rattle.pp_clause.specs.declared.spent.Spent.{Spent}
 use Rattle.pp_prog.specs.declared.check.Check.{Check}
 use Rattle.pp_prog.specs.declared.id.CheckId.{CheckId}
@@ -22,13 +23,13 @@ use Rattle.pp_induct.specs.Verdicts.{AreVerdicts}
 
 -- the limits are in their ranges
 pub record AreLimits (limits : Limits) : Type 0 where
-  pub rounds : limits.rounds ≤ 12
+  pub rounds : limits.rounds ≤ ROUNDS.most
   pub least_depth : 1 ≤ limits.depth
-  pub depth : limits.depth ≤ 6
+  pub depth : limits.depth ≤ DEPTH.most
   pub least_lemmas : 1 ≤ limits.lemmas
-  pub lemmas : limits.lemmas ≤ 1000000
+  pub lemmas : limits.lemmas ≤ LEMMAS.most
   pub least_gates : 1 ≤ limits.gates
-  pub gates : limits.gates ≤ 4000000
+  pub gates : limits.gates ≤ GATES.most
 
 -- the round after the last one that was searched
 abbrev pub next_round : Option ℕ → ℕ

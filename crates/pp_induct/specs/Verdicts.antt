@@ -1,102 +1,91 @@
--- The table of verdicts. Source: own.
-use Rattle.std.specs.Prelude.{◌≡◌, ◌↔◌, ◌⊎◌, ◌<◌, ℕ, nat_eq, Bool, true, false, ◌&&◌, List, Option, Some, None, IsTrue}
-use Rattle.std.specs.Prelude.{length, slice_get}
-use Rattle.pp_graph.specs.Rows.{marked}
+-- The table of verdicts: of each function, the first row that applies. Source: own.
+use Rattle.std.specs.Prelude.{◌≡◌, ◌⊎◌, ◌<◌, ℕ, List, Option, Some, length, slice_get}
 use Rattle.pp_prog.specs.declared.check.Check.{Check}
 use Rattle.pp_prog.specs.declared.expr.Function.{Function}
 use Rattle.pp_prog.specs.declared.program.Program.{Program}
+use Rattle.pp_prog.specs.declared.value.Value.{Value}
 use Rattle.pp_prog.specs.Cone.{InCone}
 use Rattle.pp_eval.specs.Runs.{IsGood}
-use Rattle.pp_induct.specs.declared.concluding.Unsettled.{Unsettled}
-use Rattle.pp_induct.specs.declared.concluding.Unsettled.TheVariants as way
 use Rattle.pp_induct.specs.declared.ends.CheckEnd.{CheckEnd}
 use Rattle.pp_induct.specs.declared.ends.CheckEnd.TheVariants as end
+use Rattle.pp_induct.specs.declared.ends.Why.{Why}
 use Rattle.pp_induct.specs.declared.verdict.Verdict.{Verdict}
 use Rattle.pp_induct.specs.declared.verdict.Verdict.TheVariants.{Valid, Depends, Invalid, Open}
 
-abbrev pub is_invalid : CheckEnd → Bool
-is_invalid (end.Invalid args n) = true
-is_invalid _ = false
+-- the check ended Invalid
+abbrev pub IsInvalidEnd : CheckEnd → Type 0
+IsInvalidEnd e = (args : List Value) × (n : ℕ) × (e ≡ end.Invalid args n)
 
-abbrev pub is_open : CheckEnd → Bool
-is_open (end.Open searched why) = true
-is_open _ = false
+-- the check ended Open
+abbrev pub IsOpenEnd : CheckEnd → Type 0
+IsOpenEnd e = (searched : Option ℕ) × (why : Why) × (e ≡ end.Open searched why)
 
--- whether the check ended in this way
-abbrev pub is_of : Unsettled → CheckEnd → Bool
-is_of way.Invalid e = is_invalid e
-is_of way.Open e = is_open e
+-- the check ended Proved or Exhausted
+abbrev pub IsProvedOrExhausted : CheckEnd → Type 0
+IsProvedOrExhausted e = ((n : ℕ) × (e ≡ end.Proved n)) ⊎ ((n : ℕ) × (e ≡ end.Exhausted n))
 
--- whether the check is one of function number f, and ended in this way
-abbrev pub ended : Unsettled → ℕ → Option Check → Option CheckEnd → Bool
-ended w f None e = false
-ended w f (Some check) None = false
-ended w f (Some check) (Some e) = nat_eq check.function.0 f && is_of w e
+-- the check ended neither Proved nor Exhausted
+abbrev pub IsUndone : CheckEnd → Type 0
+IsUndone e = IsProvedOrExhausted e → ⊥
 
-module _ (checks : List Check) (ends : List CheckEnd) where
-  -- check number c is one of function number f, and ended in this way
-  abbrev pub HasEnded : Unsettled → ℕ → ℕ → Type 0
-  HasEnded w f c = IsTrue (ended w f (slice_get checks c) (slice_get ends c))
+-- no number has the property
+abbrev pub Never : (ℕ → Type 0) → Type 0
+Never P = (n : ℕ) → P n → ⊥
 
-  abbrev pub NoneEnded : Unsettled → ℕ → Type 0
-  NoneEnded w f = (c : ℕ) → HasEnded w f c → ⊥
+-- n is the first number that has the property
+pub record IsFirst (P : ℕ → Type 0) (n : ℕ) : Type 0 where
+  pub has : P n
+  pub first : (m : ℕ) → m < n → P m → ⊥
 
-  -- check number c is the first of function number f that ended in this way
-  pub record IsFirstEnded (w : Unsettled) (f c : ℕ) : Type 0 where
-    pub has : HasEnded w f c
-    pub first : (b : ℕ) → b < c → HasEnded w f b → ⊥
+-- check number c is one of function number f, and ended as `So` says
+pub record Ended (checks : List Check) (ends : List CheckEnd) (So : CheckEnd → Type 0) (f c : ℕ) : Type 0 where
+  pub check : Check
+  pub listed : slice_get checks c ≡ Some check
+  pub owner : check.function.0 ≡ f
+  pub how : CheckEnd
+  pub at : slice_get ends c ≡ Some how
+  pub so : So how
 
-  -- function number f has a check which ended neither proved nor exhausted
-  abbrev pub HasUndone : ℕ → Type 0
-  HasUndone f = (c : ℕ) × (HasEnded way.Invalid f c ⊎ HasEnded way.Open f c)
+-- function number f has a check that ended neither Proved nor Exhausted
+abbrev pub HasUndone : List Check → List CheckEnd → ℕ → Type 0
+HasUndone checks ends f = (c : ℕ) × Ended checks ends IsUndone f c
 
--- function number g is in the cone of f, and has a check which ended neither proved nor exhausted
-abbrev pub IsUndoneIn : Program → List CheckEnd → ℕ → ℕ → Type 0
-IsUndoneIn p ends f g = (g < length p.functions) × InCone p.functions f g × HasUndone p.checks ends g
+-- g is a function of the cone of f
+abbrev pub IsInCone : Program → ℕ → ℕ → Type 0
+IsInCone p f g = (g < length p.functions) × InCone p.functions f g
 
--- g is the first such function, in program order
-pub record IsFirstUndone (p : Program) (ends : List CheckEnd) (f g : ℕ) : Type 0 where
-  pub undone : IsUndoneIn p ends f g
-  pub first : (h : ℕ) → h < g → IsUndoneIn p ends f h → ⊥
+module _ (p : Program) (ends : List CheckEnd) where
+  -- a check of function number f ended so
+  abbrev pub EndedSo : (CheckEnd → Type 0) → ℕ → ℕ → Type 0
+  EndedSo So = Ended p.checks ends So
 
--- the verdict on function number f: the first row that applies
-abbrev pub IsVerdict : Program → List CheckEnd → ℕ → Verdict → Type 0
-IsVerdict p ends f (Invalid c) = IsFirstEnded p.checks ends way.Invalid f c.0
-IsVerdict p ends f (Open c) = NoneEnded p.checks ends way.Invalid f × IsFirstEnded p.checks ends way.Open f c.0
-IsVerdict p ends f (Depends g) =
-    NoneEnded p.checks ends way.Invalid f × NoneEnded p.checks ends way.Open f × IsFirstUndone p ends f g.0
-IsVerdict p ends f Valid = (g : ℕ) → IsUndoneIn p ends f g → ⊥
+  -- g is a function of the cone of f that has a check which ended neither Proved nor Exhausted
+  abbrev pub IsUndoneIn : ℕ → ℕ → Type 0
+  IsUndoneIn f g = IsInCone p f g × HasUndone p.checks ends g
 
--- there is one verdict for each function, in program order
-pub record AreVerdicts (p : Program) (ends : List CheckEnd) (verdicts : List Verdict) : Type 0 where
-  pub size : length verdicts ≡ length p.functions
-  pub each : (f : ℕ) (v : Verdict) → slice_get verdicts f ≡ Some v → IsVerdict p ends f v
+  -- every check of the cone of f ended Proved or Exhausted
+  abbrev pub AreDone : ℕ → Type 0
+  AreDone f =
+      (g c : ℕ) (check : Check) (e : CheckEnd) → IsInCone p f g → slice_get p.checks c ≡ Some check
+      → check.function.0 ≡ g → slice_get ends c ≡ Some e → IsProvedOrExhausted e
+
+  -- the rows, in order: a check of f ended Invalid, and the first such is named; one ended Open, and the first such is
+  -- named; a function of the cone has a check that ended neither Proved nor Exhausted, and the first such in program
+  -- order is named; every check of the cone ended Proved or Exhausted
+  abbrev pub IsVerdict : ℕ → Verdict → Type 0
+  IsVerdict f (Invalid c) = IsFirst (EndedSo IsInvalidEnd f) c.0
+  IsVerdict f (Open c) = Never (EndedSo IsInvalidEnd f) × IsFirst (EndedSo IsOpenEnd f) c.0
+  IsVerdict f (Depends g) =
+      Never (EndedSo IsInvalidEnd f) × Never (EndedSo IsOpenEnd f) × IsFirst (IsUndoneIn f) g.0
+  IsVerdict f Valid = AreDone f
+
+  -- there is one verdict for each function, in program order
+  pub record AreVerdicts (verdicts : List Verdict) : Type 0 where
+    pub size : length verdicts ≡ length p.functions
+    pub each : (f : ℕ) (v : Verdict) → slice_get verdicts f ≡ Some v → IsVerdict f v
 
 -- where a function is valid, each function of its cone is good
 abbrev pub ValidAreGood : Program → List Verdict → Type 0
 ValidAreGood p verdicts =
     (f : ℕ) → slice_get verdicts f ≡ Some Valid → (g : ℕ) (function : Function) → InCone p.functions f g
     → slice_get p.functions g ≡ Some function → IsGood p.types.ctors p.functions function
-
--- ---- while verdicts are found
-
--- the marks of the first n functions are at those that have a check which isn't settled
-pub record MarkUndone (p : Program) (ends : List CheckEnd) (marks : List Bool) (n : ℕ) : Type 0 where
-  pub size : length marks ≡ n
-  pub each : (f : ℕ) → f < n → IsTrue (marked marks f) ↔ HasUndone p.checks ends f
-
--- function number g is in the cone of f, and marked
-abbrev pub IsMarkedIn : Program → List Bool → ℕ → ℕ → Type 0
-IsMarkedIn p marks f g = (g < length p.functions) × InCone p.functions f g × IsTrue (marked marks g)
-
-abbrev pub NoneMarked : Program → List Bool → ℕ → Type 0
-NoneMarked p marks f = (g : ℕ) → IsMarkedIn p marks f g → ⊥
-
-pub record IsFirstMarked (p : Program) (marks : List Bool) (f g : ℕ) : Type 0 where
-  pub has : IsMarkedIn p marks f g
-  pub first : (h : ℕ) → h < g → IsMarkedIn p marks f h → ⊥
-
--- each of the first n verdicts is that of the function at its place
-pub record AreVerdictsTo (p : Program) (ends : List CheckEnd) (n : ℕ) (verdicts : List Verdict) : Type 0 where
-  pub size : length verdicts ≡ n
-  pub each : (f : ℕ) (v : Verdict) → slice_get verdicts f ≡ Some v → IsVerdict p ends f v

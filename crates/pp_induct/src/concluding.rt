@@ -1,10 +1,12 @@
 //! The table of verdicts.
 
-ghost use Rattle.std.specs.Prelude.{◌≡◌, ◌↔◌, ◌<◌, ◌≤◌, ◌^◌, ℕ, IfOk, IsTrue, MatchOption, length, slice_get};
+ghost use Rattle.std.specs.Prelude.{◌≡◌, ◌↔◌, ◌<◌, ◌≤◌, ◌^◌, ℕ, IfOk, IsTrue, MatchOption, length};
+ghost use Rattle.pp_limits.specs.declared.TheConstants.{DEPTH, ROUNDS};
 ghost use Rattle.pp_checks.specs.Plan.{IsPlanOf};
 ghost use Rattle.pp_induct.specs.Supported.{AreSupported};
-ghost use Rattle.pp_induct.specs.Verdicts.{AreVerdicts, HasUndone, IsFirstEnded, IsFirstMarked, IsVerdict, MarkUndone};
-ghost use Rattle.pp_induct.specs.Verdicts.{NoneEnded, NoneMarked, ValidAreGood, ended, is_invalid, is_of, is_open};
+ghost use Rattle.pp_induct.specs.Concluding.{EndedBy, IsMarkedIn, IsOf, MarkUndone};
+ghost use Rattle.pp_induct.specs.Verdicts.{AreVerdicts, HasUndone, IsFirst, IsInvalidEnd, IsOpenEnd, IsVerdict, Never};
+ghost use Rattle.pp_induct.specs.Verdicts.{ValidAreGood};
 
 use crate::{CheckEnd, NoMemory, Verdict, Verdicts};
 use pp_checks::Plan;
@@ -32,7 +34,8 @@ pub fn conclude(
 ) -> Result<Verdicts, NoMemory>
     requires plan { IsPlanOf plan.now program.now }
     requires ends { length ends.now ≡ length program.now.checks }
-    requires supported { (depth : ℕ) × (1 ≤ depth) × (depth ≤ 6) × AreSupported program.now 12 depth ends.now }
+    requires supported { (depth : ℕ) × (1 ≤ depth) × (depth ≤ DEPTH.most)
+        × AreSupported program.now ROUNDS.most depth ends.now }
     ensures table { IfOk result (λ verdicts. AreVerdicts program.now ends.now verdicts) }
     ensures valid { IfOk result (λ verdicts. ValidAreGood program.now verdicts) }
 {
@@ -101,8 +104,8 @@ fn first_check(
     way: Unsettled,
 ) -> Option<CheckId>
     requires few { length checks.now < 2 ^ 32 }
-    ensures { MatchOption result (NoneEnded checks.now ends.now way f.0)
-        (λ c. IsFirstEnded checks.now ends.now way f.0 c.0) }
+    ensures { MatchOption result (Never (EndedBy checks.now ends.now way f.0))
+        (λ c. IsFirst (EndedBy checks.now ends.now way f.0) c.0) }
 {
     for c in 0..checks.len() {
         if has_ended(checks, ends, f, way, c) {
@@ -114,7 +117,7 @@ fn first_check(
 
 /// Whether check number c is one of f that ended so.
 fn has_ended(checks: &[Check], ends: &[CheckEnd], f: FunctionId, way: Unsettled, c: usize) -> bool
-    ensures { result ≡ ended way f.0 (slice_get checks.now c) (slice_get ends.now c) }
+    ensures { IsTrue result ↔ EndedBy checks.now ends.now way f.0 c }
 {
     match at(checks, c) {
         None => false,
@@ -127,7 +130,7 @@ fn has_ended(checks: &[Check], ends: &[CheckEnd], f: FunctionId, way: Unsettled,
 
 /// Whether this is how the check ended.
 fn ends_so(end: &CheckEnd, way: Unsettled) -> bool
-    ensures { result ≡ is_of way end.now }
+    ensures { IsTrue result ↔ IsOf way end.now }
 {
     match way {
         Unsettled::Invalid => is_invalid_end(end),
@@ -136,7 +139,7 @@ fn ends_so(end: &CheckEnd, way: Unsettled) -> bool
 }
 
 fn is_invalid_end(end: &CheckEnd) -> bool
-    ensures { result ≡ is_invalid end.now }
+    ensures { IsTrue result ↔ IsInvalidEnd end.now }
 {
     match end {
         CheckEnd::Invalid(_, _) => true,
@@ -145,7 +148,7 @@ fn is_invalid_end(end: &CheckEnd) -> bool
 }
 
 fn is_open_end(end: &CheckEnd) -> bool
-    ensures { result ≡ is_open end.now }
+    ensures { IsTrue result ↔ IsOpenEnd end.now }
 {
     match end {
         CheckEnd::Open { .. } => true,
@@ -163,8 +166,8 @@ fn first_undone(
     requires plan { IsPlanOf plan.now program.now }
     requires marks { length undone.now ≡ length program.now.functions }
     requires function { f.0 < length program.now.functions }
-    ensures { MatchOption result (NoneMarked program.now undone.now f.0)
-        (λ g. IsFirstMarked program.now undone.now f.0 g.0) }
+    ensures { MatchOption result (Never (IsMarkedIn program.now undone.now f.0))
+        (λ g. IsFirst (IsMarkedIn program.now undone.now f.0) g.0) }
 {
     for g in 0..program.function_count() {
         if undone[g as usize] && plan.in_cone(f, FunctionId(g)) {

@@ -3,7 +3,7 @@
 //! `conclude` gives each function its verdict, by the first row of a table that applies, and a function that is valid
 //! is good, by measure induction (`pp_induction`). `specs/Supported` says what has to stand behind the ends of
 //! checks, `specs/Verdicts` what the table is, `specs/Reports` what stands behind a report, and `specs/Laws` which ends
-//! a report can't have.
+//! a report can't have. `specs/Concluding` is of the making.
 #![tactic(auto)]
 
 mod concluding;

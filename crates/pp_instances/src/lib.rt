@@ -16,5 +16,5 @@ pub use closure::{MOST_INSTANCES, instances, uses_of};
 pub use fault::InstancesFault;
 pub use member::{Decl, Instance, Instances, Member};
 pub use members::Members;
-pub use names::printed;
+pub use names::{MOST_NAME, printed};
 pub use std::alloc::AllocError as NoMemory;

@@ -1,5 +1,6 @@
 -- What is answered to which task on an accepted program. Source: own.
 use Rattle.std.specs.Prelude.{◌≤◌, ℕ, List}
+use Rattle.pp_limits.specs.declared.TheConstants.{DEPTH, FUEL, ROUNDS}
 use Rattle.pp_induct.specs.Reports.{AreLimits}
 use Rattle.pp_modes.specs.Lists.{list_lines}
 use Rattle.pp_modes.specs.Responses.{Response, report}
@@ -12,8 +13,8 @@ use Rattle.pp_words.specs.Task.{Task, list, run, verify}
 -- the numbers of a task are in their ranges
 abbrev pub IsInRange : Task → Type 0
 IsInRange (verify rounds depth lemmas gates) = AreLimits (limits_of rounds depth lemmas gates)
-IsInRange (list rounds depth) = (rounds ≤ 12) × (1 ≤ depth) × (depth ≤ 6)
-IsInRange (run function fuel) = fuel ≤ 100
+IsInRange (list rounds depth) = (rounds ≤ ROUNDS.most) × (1 ≤ depth) × (depth ≤ DEPTH.most)
+IsInRange (run function fuel) = fuel ≤ FUEL.most
 
 pub data AnswersTask (p : Program) : Task → Response → Type 0 where
   verified : {rounds depth lemmas gates : ℕ} {r : Response}

@@ -1,6 +1,7 @@
 //! Mode `list`.
 
 ghost use Rattle.std.specs.Prelude.{◌≡◌, ◌<◌, ◌≤◌, ◌++◌, IfOk, map, slice_get, Some, length, string_bytes};
+ghost use Rattle.pp_limits.specs.declared.TheConstants.{DEPTH, ROUNDS};
 ghost use Rattle.pp_checks.specs.Plan.{IsPlanOf};
 ghost use Rattle.pp_modes.specs.Lists as spec;
 ghost use Rattle.pp_prog.specs.declared.expr.Function.{Function};
@@ -30,8 +31,8 @@ fn shared_estimate(
     depth: u32,
 ) -> Result<u64, NoMemory>
     requires plan { IsPlanOf plan.now program.now }
-    requires round { round ≤ 12 }
-    requires depth { (1 ≤ depth) × (depth ≤ 6) }
+    requires round { round ≤ ROUNDS.most }
+    requires depth { (1 ≤ depth) × (depth ≤ DEPTH.most) }
     ensures { IfOk result (λ e. spec.IsSharedEstimate program.now round depth f e) }
 {
     let checks = program.checks();
@@ -90,8 +91,8 @@ fn add_function(
 ) -> Result<(), NoMemory>
     requires plan { IsPlanOf plan.now program.now }
     requires function { f < length program.now.functions }
-    requires round { round ≤ 12 }
-    requires depth { (1 ≤ depth) × (depth ≤ 6) }
+    requires round { round ≤ ROUNDS.most }
+    requires depth { (1 ≤ depth) × (depth ≤ DEPTH.most) }
     ensures { IfOk result (λ _. (function : Function) → slice_get program.now.functions f ≡ Some function
         → map string_bytes lines.new.items
         ≡ map string_bytes lines.old.items ++ spec.function_lines program.now round depth f function) }
@@ -111,8 +112,8 @@ pub(crate) fn list_lines(
     depth: u32,
 ) -> Result<Vec<String>, NoMemory>
     requires plan { IsPlanOf plan.now program.now }
-    requires round { round ≤ 12 }
-    requires depth { (1 ≤ depth) × (depth ≤ 6) }
+    requires round { round ≤ ROUNDS.most }
+    requires depth { (1 ≤ depth) × (depth ≤ DEPTH.most) }
     ensures { IfOk result (λ lines. map string_bytes lines.items ≡ spec.list_lines program.now round depth) }
 {
     let mut lines = Vec::new(alloc);

@@ -1,6 +1,7 @@
 //! Mode `run`.
 
 ghost use Rattle.std.specs.Prelude.{◌≡◌, ◌≤◌, IfOk, slice_get, string_bytes};
+ghost use Rattle.pp_limits.specs.declared.TheConstants.{FUEL};
 ghost use Rattle.pp_eval.specs.declared.outcome.Outcome.{Outcome};
 ghost use Rattle.pp_modes.specs.Responses.{response_of};
 ghost use Rattle.pp_modes.specs.Runs as spec;
@@ -106,7 +107,7 @@ pub(crate) fn answer_run(
     name: &str,
     fuel: u32,
 ) -> Result<Response, NoMemory>
-    requires { fuel ≤ 100 }
+    requires { fuel ≤ FUEL.most }
     ensures { IfOk result (λ r. spec.AnswersRun program.now name.now fuel (response_of r)) }
 {
     let Some(f) = program.find(name) else {

@@ -1,4 +1,5 @@
--- What the steps on the way to a program say of one another. Source: own.
+-- What the steps on the way to a program say of one another, for the private functions of src/making.rt. The public
+-- clause, that of `concrete`, speaks of specs/Concrete alone. Source: own.
 use Rattle.std.specs.Prelude.{◌≡◌, ◌≤◌, List, length, map}
 use Rattle.pp_call_graph.specs.Groups.{AreGroupsOf}
 use Rattle.pp_instances.specs.Closure.{AreInstances}

@@ -1,5 +1,4 @@
 pub mod Blocks
-pub mod GuardedNames
 pub mod Guarding
 pub mod Fields
 pub mod Alternatives

@@ -1,4 +1,3 @@
-pub mod Guarded
 pub mod Contents
 pub mod Fitting
 pub mod FreshContents

@@ -3,42 +3,32 @@
 ghost use Rattle.std.specs.Prelude.{◌≡◌, ◌+◌, ◌^◌, ◌<◌, ◌≤◌, length, IfOk};
 ghost use Rattle.pp_domain.specs.Answers.{IsCtorOf};
 ghost use Rattle.pp_named_trees.specs.Parts.{PartsFit};
-ghost use Rattle.pp_named_contents.specs.Guarded.{IsBlankName};
 ghost use Rattle.pp_named_contents.specs.Known.{AreBlankParts, AreFieldsOf, AreKnown, IsBlankPart, IsKnownAt};
 
 use crate::NoMemory;
 use pp_checks::ctors_of;
-use pp_domain::{Symbol, Symbols};
-use pp_gate::{Circuit, Word};
+use pp_domain::{Symbol, Symbols, blank_plain, blank_word};
+use pp_gate::Circuit;
 use pp_list::Items;
 use pp_named_trees::{Alternative, NamedTree};
 use pp_prog::{CtorId, DataId, Sort, TypeTable};
-
-/// The name that is always 0.
-fn blank_name(circuit: &Circuit) -> Result<Word, NoMemory>
-    ensures { IfOk result (λ r. IsBlankName circuit.now r) }
-{
-    let digits = pp_bits::constant(circuit, 0, 32)?;
-    Ok(Word::from_lits(&digits))
-}
 
 /// A symbol of the sort that is blank: 0, false, or a tree named by 0.
 fn blank(circuit: &Circuit, sort: Sort) -> Result<Symbol<NamedTree>, NoMemory>
     ensures { IfOk result (λ x. IsBlankPart circuit.now sort x) }
 {
     match sort {
-        Sort::Int => {
-            let word = blank_name(circuit)?;
-            Ok(Symbol::Word(word))
-        }
-        Sort::Bool => Ok(Symbol::Bit(circuit.truth().negated())),
         Sort::Tree(of) => {
-            let name = blank_name(circuit)?;
+            let name = blank_word(circuit)?;
             Ok(Symbol::Tree(NamedTree {
                 of,
                 height: 0,
                 name,
             }))
+        }
+        _ => {
+            let plain = blank_plain(circuit, sort)?;
+            Ok(plain)
         }
     }
 }

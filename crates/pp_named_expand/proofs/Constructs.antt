@@ -18,14 +18,10 @@ use Rattle.pp_prog.specs.Sorts.{has_sort, have_sorts}
 use Rattle.pp_prog.specs.Values.{greatest}
 use Rattle.pp_prog.proofs.Values.{ctor_same}
 use Rattle.pp_prog.proofs.ValueSorts.{int_has, tree_has_sort, truth_has}
-use Rattle.pp_word.proofs.Ranges.{IsWord-cast_signed}
-use Rattle.pp_eval.proofs.Ranges.{int_from}
-use Rattle.pp_prog.specs.Sorts.{is_int}
-use Rattle.pp_clause.specs.Literal.{Literal, lit_value}
+use Rattle.pp_clause.specs.Literal.{lit_value}
 use Rattle.pp_gate.specs.declared.gate.Gate.{Gate}
 use Rattle.pp_gate.proofs.Places.{at_next, at_some}
 use Rattle.pp_bits.specs.Number.{nat_of}
-use Rattle.pp_bits.proofs.Numbers.{nat_of_within}
 use Rattle.pp_wordgate.specs.Meaning.{word_of}
 use Rattle.pp_domain.specs.declared.symbol.Symbol.{Symbol}
 use Rattle.pp_domain.specs.declared.symbol.Symbol.TheVariants as symbol
@@ -57,11 +53,7 @@ use Rattle.pp_named_expand.proofs.Looks.{have_levels, looked_pushed}
 use Rattle.pp_named_expand.proofs.ReadTrees.{has_ctors}
 use Rattle.pp_named_contents.specs.Known.{AreFieldsOf}
 use Rattle.pp_gate.proofs.Growing.{length-Grows}
-
--- a word of 32 literals stands for a number in the range of Int
-word_is_int : (a : ℕ → Bool) (w : List Literal) → length w ≡ 32 → is_int (word_of w32 a w) ≡ true
-unfolding word_of
-word_is_int a w len = int_from (word_of w32 a w) (IsWord-cast_signed w32 (nat_of a w) (nat_of_within a w 32 len))
+use Rattle.pp_domain.proofs.PlainSymbols.{word_is_int}
 
 module _ (d : NamedTrees) (gs : List Gate) where
   pub fields_of_symbols : (ss : List Sort) (xs : List (Symbol NamedTree)) → AreSymbols named_sense d gs ss xs

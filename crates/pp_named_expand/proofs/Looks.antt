@@ -110,6 +110,12 @@ module _ (types : TypeTable) (d : NamedTrees) (gs : List Gate) (t : NamedTree) (
     extends = λ n a v good stands names. Extended_none named_sense types d gs n a good;
   }
 
+  -- a tree without a place wasn't looked at
+  pub unseen : (ys : List Expansion) (p m : ℕ) → ys ≡ d.expansions → IsPlaceOf ys t p → m ≡ length d.expansions
+      → m ≤ p → IsExpanded d.expansions t → ⊥
+  unseen ys p m same at count le x =
+      not_found ys t p at (let l = ap length same in omega arith) (subst (λ zs. IsExpanded zs t) (sym same) x)
+
   module _ (e : NamedTrees) (hs : List Gate) (xs : List Alternative) (ctors : HasCtors types t.of)
       (moves : Moves named_sense types d gs e hs (prepare_gates types t.of))
       (prepared : IsPrepared types d gs e hs t.of xs) (node : IsKept d.nodes t) where
@@ -154,8 +160,7 @@ module _ (types : TypeTable) (d : NamedTrees) (gs : List Gate) (t : NamedTree) (
         };
         once = inr (record {
           inexact = refl;
-          before = λ x. not_found ys t p at (let l = ap length same in omega arith)
-              (subst (λ zs. IsExpanded zs t) (sym same) x);
+          before = unseen ys p m same at count le;
           looks = ap (λ (g : NamedTrees). looked g.expansions) entered.is ∙ looked_pushed e.expansions entry
               ∙ ap (λ zs. t.of ∷ looked zs) prepared.expansions;
           compares = refl;

@@ -65,9 +65,11 @@ pub fn is_ctor(
     requires fits { NamedFits table.now trees.old circuit.old }
     requires tree { IsKept trees.old.nodes tree.now }
     requires ctor { IsCtorOf table.now ctor tree.now.of }
-    requires room { length circuit.old + look_at_gates named_sense table.now trees.old tree.now ≤ 2 ^ 30 }
+    requires room { (IsExpanded trees.old.expansions tree.now → ⊥)
+        → length circuit.old + look_at_gates named_sense table.now trees.old tree.now ≤ 2 ^ 30 }
     ensures moves { Moves named_sense table.now trees.old circuit.old trees.new circuit.new
         (look_at_gates named_sense table.now trees.old tree.now) }
+    ensures still { IsExpanded trees.old.expansions tree.now → circuit.new ≡ circuit.old }
     ensures answer { IfOk result (λ l. IsCtorTest named_sense table.now trees.old circuit.old trees.new circuit.new
         tree.now ctor l) }
 {
@@ -90,9 +92,11 @@ pub fn field(
     requires tree { IsKept trees.old.nodes tree.now }
     requires ctor { IsCtorOf table.now ctor tree.now.of }
     requires place { (s : Sort) × HasField table.now ctor place s }
-    requires room { length circuit.old + look_at_gates named_sense table.now trees.old tree.now ≤ 2 ^ 30 }
+    requires room { (IsExpanded trees.old.expansions tree.now → ⊥)
+        → length circuit.old + look_at_gates named_sense table.now trees.old tree.now ≤ 2 ^ 30 }
     ensures moves { Moves named_sense table.now trees.old circuit.old trees.new circuit.new
         (look_at_gates named_sense table.now trees.old tree.now) }
+    ensures still { IsExpanded trees.old.expansions tree.now → circuit.new ≡ circuit.old }
     ensures answer { IfOk result (λ r. (s : Sort) → HasField table.now ctor place s → IsFieldRead named_sense table.now
         trees.old circuit.old trees.new circuit.new tree.now ctor place s r) }
 {

@@ -133,10 +133,10 @@ equality_is types d gs hs k left right l fits trees adds stands = record {
 
 pub equal_moves : (types : TypeTable) (d : NamedTrees) (gs hs : List Gate) (ls name : List Literal)
     → NamedFits types d gs → ls ≡ name → length name ≡ 32 → AddsGates gs hs (2 * length ls)
-    → Moves named_sense types d gs d hs 128
+    → Moves named_sense types d gs d hs 64
 equal_moves types d gs hs ls name fits same len adds =
     let e : length ls ≡ 32 = ap length same ∙ len in
-    Moves_weaker named_sense types d d gs hs (2 * length ls) 128
+    Moves_weaker named_sense types d d gs hs (2 * length ls) 64
     (Moves_gates named_sense types named_lawful d gs hs (2 * length ls) fits adds) (omega arith)
 
 pub equality_read : (types : TypeTable) (d : NamedTrees) (gs hs : List Gate) (k : ℕ) (left right : NamedTree)

@@ -1,5 +1,6 @@
 -- What holds of units that texts spell, and of their typing. Source: own.
 use Rattle.std.specs.Prelude.{◌≤◌, ◌<◌, ◌^◌, ℕ, List, All, length}
+use Rattle.pp_limits.specs.declared.TheConstants.{MOST_SOURCES}
 use Rattle.pp_text.specs.Limits.{most_bytes}
 use Rattle.pp_tree.specs.Plain.{UnitTree}
 use Rattle.pp_typed.specs.Apart.{AreApart}
@@ -16,7 +17,7 @@ use Rattle.pp_ordinary.specs.Spelled.{EachSpells}
 
 -- at most 16 texts, none longer than a text may be
 pub record AreShort (texts : List (List ℕ)) : Type 0 where
-  pub few : length texts ≤ 16
+  pub few : length texts ≤ MOST_SOURCES
   pub short : All (λ (text : List ℕ). length text ≤ most_bytes) texts
 
 -- units that texts spell are ordinary: their names are plain, and their numbers are Ints

@@ -22,7 +22,7 @@ use Rattle.pp_sound.proofs.Calls.{whole}
 use Rattle.pp_prog.proofs.ValueSorts.{Have}
 use Rattle.pp_sound.proofs.Exprs.{AreGood}
 use Rattle.pp_sound.proofs.Sites.{IsMet}
-use Rattle.pp_checks.specs.Plain.{first_param_of}
+use Rattle.pp_checks.specs.Marks.{first_param_of}
 use Rattle.pp_checks.specs.Plan.{IsPlanOf, Plan}
 use Rattle.pp_checks.specs.Rules.{measure_sorts}
 use Rattle.pp_checks.proofs.Plans.{shared_sorts}

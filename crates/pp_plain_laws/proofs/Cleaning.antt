@@ -28,7 +28,7 @@ use Rattle.pp_prog.proofs.ValueSorts.{Has, Have, have_more}
 use Rattle.pp_sound.proofs.Patterns.{pattern_fine}
 use Rattle.pp_sound.proofs.Sites.{AreMet, met_left, met_right}
 use Rattle.pp_prog.proofs.PartSorts.{bool_then}
-use Rattle.pp_checks.specs.Plain.{CaseDescents, Seen, case_step, in_guard, marks_of, seen_step}
+use Rattle.pp_checks.specs.Marks.{CaseDescents, Seen, case_step, in_guard, marks_of, seen_step}
 use Rattle.pp_plain_laws.proofs.Counts.{count_append, places_append}
 use Rattle.pp_plain_laws.proofs.Patterns.{pattern_marked}
 use Rattle.pp_plain_laws.proofs.Scope.{IsClean, clean_then, clean_value, more_in_scope}

@@ -27,7 +27,7 @@ use Rattle.pp_eval.specs.Part.{found}
 use Rattle.pp_eval.proofs.Trees.{below_true}
 use Rattle.pp_eval.proofs.Alike.{alike}
 use Rattle.pp_prog.proofs.ValueSorts.{Has, Have}
-use Rattle.pp_checks.specs.Plain.{first_param, if_below, variable_first, variable_in, variable_of}
+use Rattle.pp_checks.specs.Marks.{first_param, if_below, variable_first, variable_in, variable_of}
 use Rattle.pp_guess_runs.proofs.Truth.{then_value}
 use Rattle.pp_plain_laws.proofs.Scope.{found_some, values_behind}
 

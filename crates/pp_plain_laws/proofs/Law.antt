@@ -31,9 +31,11 @@ use Rattle.pp_sound.proofs.Listed.{function_met}
 use Rattle.pp_sound.proofs.Parts.{IsOwn}
 use Rattle.pp_sound.proofs.Runs.{IsEnd, run_fine}
 use Rattle.pp_sound.proofs.Sites.{AreMet, IsMet, met_head, met_tail}
-use Rattle.pp_checks.specs.Plain.{IsPlain, descents_at, descents_from, first_param, if_tree, is_tree_param}
-use Rattle.pp_checks.specs.Plain.{plain_descents}
+use Rattle.pp_checks.specs.Marks.{descents_from, first_param}
+use Rattle.pp_checks.specs.Plain.{HasDescent, IsPlain}
 use Rattle.pp_checks.specs.Plan.{IsPlanOf, Plan}
+use Rattle.pp_checks.proofs.Measured.{first_param_is}
+use Rattle.pp_checks.proofs.PlainDescents.{descent_listed}
 use Rattle.pp_run_laws.proofs.MeasureSorts.{calls_to_good, frame_sorted, told_value}
 use Rattle.pp_guess_runs.specs.Answers.{Answering, IsAnswering, answers_of}
 use Rattle.pp_guess_runs.specs.Guess.{fails, guessed, own, skip}
@@ -45,9 +47,6 @@ use Rattle.pp_guess_runs.proofs.Sorted.{own_good}
 use Rattle.pp_plain_laws.proofs.Plain.{run_clean}
 use Rattle.pp_plain_laws.proofs.Scope.{IsClean, never_fails}
 use Rattle.pp_plain_laws.proofs.Tight.{all_few}
-
-nothing : {A : Type 0} (x : A) → Contains [] x → ⊥
-nothing x has = absurd (omega (arith, has.1))
 
 -- ---- whose check a plain descent is
 
@@ -85,22 +84,13 @@ module _ (p : Program) (j : ℕ) (c : CheckId) where
     there : (q : Param) × (slice_get f.params param ≡ Some q)
     here : Contains (descents_from p.functions param f) c.0
 
-  goes_down_in : (f : Function) → Contains (plain_descents p.functions f) c.0 → GoesDownIn f
-  goes_down_in f has = by_first (first_param f) refl has
-    where
-      by_param : (q : ℕ) → first_param f ≡ Some q → (o : Option Param) → slice_get f.params q ≡ o
-          → Contains (descents_at p.functions f (if is_tree_param o then Some q else None)) c.0 → GoesDownIn f
-      by_param q is None at has = absurd (nothing c.0 has)
-      by_param q is (Some x) at has = by_tree (is_tree_param (Some x)) has
-        where
-          by_tree : (t : Bool) → Contains (descents_at p.functions f (if t then Some q else None)) c.0 → GoesDownIn f
-          by_tree true has = record { param = q; first = is; there = (x, at); here = has }
-          by_tree false has = absurd (nothing c.0 has)
-
-      by_first : (o : Option ℕ) → first_param f ≡ o → Contains (descents_at p.functions f (if_tree f.params o)) c.0
-          → GoesDownIn f
-      by_first None is has = absurd (nothing c.0 has)
-      by_first (Some q) is has = by_param q is (slice_get f.params q) refl has
+  goes_down_in : (f : Function) → HasDescent p.functions f c.0 → GoesDownIn f
+  goes_down_in f d = record {
+    param = d.param;
+    first = first_param_is f d.param d.begins;
+    there = (d.datatype.0, d.datatype.2);
+    here = descent_listed p.functions f c.0 d;
+  }
 
 module _ (plan : Plan) (p : Program) (is_plan : IsPlanOf plan p) (i : ℕ) (c : CheckId) (is_check : IsCheckOf p i c.0)
     (is_plain : IsPlain p.functions c.0) where
@@ -123,7 +113,7 @@ module _ (plan : Plan) (p : Program) (is_plan : IsPlanOf plan p) (i : ℕ) (c : 
     descent =
         let same : is_plain.1 ≡ f = (let both : Some is_plain.1 ≡ Some f = sym is_plain.2 ∙ ap (slice_get p.functions)
         plain_owner ∙ called.function in cc) in
-        goes_down_in p i c f (subst (λ (h : Function). Contains (plain_descents p.functions h) c.0) same is_plain.3)
+        goes_down_in p i c f (subst (λ (h : Function). HasDescent p.functions h c.0) same is_plain.3)
 
     value : (v : Value) × (slice_get args descent.param ≡ Some v)
     value =

@@ -32,8 +32,8 @@ use Rattle.pp_sound.proofs.Cases.{each_arm}
 use Rattle.pp_prog.proofs.ValueSorts.{Have, have_more, have_one}
 use Rattle.pp_sound.proofs.Sites.{AreMet, met_head, met_left, met_right, met_tail}
 use Rattle.pp_prog.proofs.PartSorts.{alike_are, bool_then, call_sort_is, sort_then, tree_sort_is, tree_then}
-use Rattle.pp_checks.specs.Plain.{CaseDescents, Seen, as_check, first_param_of, goes_down, in_all, in_cases, inside_at}
-use Rattle.pp_checks.specs.Plain.{is_inside, is_live, seen_step, when}
+use Rattle.pp_checks.specs.Marks.{CaseDescents, Seen, as_check, first_param_of, goes_down, in_all, in_cases, inside_at}
+use Rattle.pp_checks.specs.Marks.{is_inside, is_live, seen_step, when}
 use Rattle.pp_sound.proofs.Operands.{operand, operands}
 use Rattle.pp_run_laws.proofs.Stops.{MayDivide, field_stops, found_stops, operated_stops, truth_stops, unary_stops}
 use Rattle.pp_plain_laws.proofs.Counts.{count_append, ids, uncounted, places_append}

@@ -17,7 +17,7 @@ use Rattle.pp_prog.specs.Calls.{joined}
 use Rattle.pp_prog.specs.Fits.{Fitting, fit, fit_fields, fit_step, fit_tree}
 use Rattle.pp_prog.proofs.PatternFits.{before_is, both_are, if_some, int_binds, truth_binds}
 use Rattle.pp_prog.specs.Values.{IsBelow, is_deeper, is_field}
-use Rattle.pp_checks.specs.Plain.{Marking, marking_step, marks_of}
+use Rattle.pp_checks.specs.Marks.{Marking, marking_step, marks_of}
 
 -- a place in two lists, one after another, is one in the first or one in the second
 pub split_at : (ms ns : List Bool) (vs ws : List Value) → length ms ≡ length vs → (j : ℕ) (w : Value)

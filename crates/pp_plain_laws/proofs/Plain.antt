@@ -26,7 +26,7 @@ use Rattle.pp_prog.proofs.ValueSorts.{Has, Have, have_more, have_one}
 use Rattle.pp_sound.proofs.Exprs.{AreGood, expr_sound}
 use Rattle.pp_sound.proofs.Sites.{AreMet, met_left, met_right}
 use Rattle.pp_prog.proofs.PartSorts.{has_the_sort_is, some_sort}
-use Rattle.pp_checks.specs.Plain.{descents_from, in_all, post_descents, pre_descents, seen}
+use Rattle.pp_checks.specs.Marks.{descents_from, in_all, post_descents, pre_descents, seen}
 use Rattle.pp_run_laws.proofs.MeasureSorts.{told_value}
 use Rattle.pp_run_laws.proofs.Stops.{truth_stops}
 use Rattle.pp_plain_laws.proofs.Cleaning.{expr_clean}

@@ -3,21 +3,13 @@ use Rattle.std.proofs.Common.{◌≡◌, ℕ, zero, suc, Bool, true, false, List
 use Rattle.std.proofs.Common.{length, slice_get, refl, sym, ap, ◌∙◌, subst, arith, ⊎_elim, append-nil, append_assoc}
 use Rattle.std.proofs.Common.{length-append}
 use Rattle.pp_graph.specs.Rows.{marked}
-use Rattle.pp_prog.specs.declared.expr.BinaryOp.{BinaryOp}
-use Rattle.pp_prog.specs.declared.expr.BinaryOp.TheVariants.{Equal, Differ, AndAlso, OrElse, And, Or, Xor}
-use Rattle.pp_prog.specs.declared.expr.UnaryOp.{UnaryOp}
-use Rattle.pp_prog.specs.declared.expr.UnaryOp.TheVariants.{Neg, Not, Flip}
 use Rattle.pp_prog.specs.declared.id.CheckId.{CheckId}
-use Rattle.pp_prog.specs.declared.sort.Sort.{Sort}
-use Rattle.pp_prog.specs.declared.sort.Sort.TheVariants as sort
 use Rattle.pp_prog.specs.declared.value.Value.{Value}
-use Rattle.pp_prog.specs.ExprSorts.{a_bool, an_int, alike, binary_sort, bits_sort, unary_sort}
 use Rattle.pp_prog.specs.Values.{IsBelow}
 use Rattle.pp_eval.specs.declared.outcome.Stop.{Stop}
 use Rattle.pp_eval.specs.declared.outcome.Stop.TheVariants.{Deep, Fails, Stuck}
 use Rattle.pp_eval.specs.Meaning.{Frame, Meaning, all_from}
 use Rattle.pp_eval.specs.Part.{Part, and_then, either, found}
-use Rattle.pp_prog.proofs.PartSorts.{alike_are, bool_then, int_then, sort_then}
 use Rattle.pp_run_laws.proofs.Follows.{Stops}
 use Rattle.pp_guess_runs.proofs.Truth.{then_value}
 use Rattle.pp_plain_laws.proofs.Patterns.{split_at}

@@ -27,7 +27,7 @@ use Rattle.pp_sound.proofs.Cases.{EachArm}
 use Rattle.pp_prog.proofs.ValueSorts.{Has, Have, have_more, have_one}
 use Rattle.pp_sound.proofs.Exprs.{AreGood, expr_sound}
 use Rattle.pp_sound.proofs.Sites.{AreMet, IsMet, met_left, met_right}
-use Rattle.pp_checks.specs.Plain.{CaseDescents, Seen, descents_in_case, first_param_of, in_all, in_cases, seen}
+use Rattle.pp_checks.specs.Marks.{CaseDescents, Seen, descents_in_case, first_param_of, in_all, in_cases, seen}
 use Rattle.pp_run_laws.proofs.MeasureSorts.{told_value}
 use Rattle.pp_run_laws.proofs.Stops.{failed_stops}
 use Rattle.pp_guess_runs.proofs.Truth.{then_value}

@@ -15,7 +15,7 @@ use Rattle.pp_prog.specs.Sorts.{param_sorts}
 use Rattle.pp_eval.specs.Invocation.{no_fuel}
 use Rattle.pp_sound.proofs.Calls.{IsWhole, whole}
 use Rattle.pp_prog.proofs.PartSorts.{has_the_sort_is, some_sort}
-use Rattle.pp_checks.specs.Plain.{descents, descents_from, in_all, post_descents, pre_descents, seen}
+use Rattle.pp_checks.specs.Marks.{descents, descents_from, in_all, post_descents, pre_descents, seen}
 use Rattle.pp_sound.proofs.Laws.{no_fuel_good}
 use Rattle.pp_plain_laws.proofs.Cleaning.{expr_clean}
 use Rattle.pp_plain_laws.proofs.Setting.{CallsClean, IsExpr, Setting}

@@ -1,5 +1,6 @@
 -- What a round asks, and what a query of it answers. Source: own.
 use Rattle.std.specs.Prelude.{◌≡◌, ◌≤◌, ℕ, length}
+use Rattle.pp_limits.specs.declared.TheConstants.{GATES}
 use Rattle.pp_prog.specs.declared.id.CheckId.{CheckId}
 use Rattle.pp_prog.specs.declared.program.Program.{Program}
 use Rattle.pp_gate.specs.Circuit.{IsCircuit, IsOf}
@@ -17,7 +18,7 @@ module _ {D T : Type 0} (q : Question D T) where
   -- the literals that are asked for are of the circuit, which isn't large
   pub record CanAsk : Type 0 where
     pub circuit : IsCircuit q.circuit
-    pub small : length q.circuit ≤ 4000000
+    pub small : length q.circuit ≤ GATES.most
     pub fails : IsOf q.circuit q.frame.fails
     pub circuit_ok : IsOf q.circuit q.frame.circuit_ok
 

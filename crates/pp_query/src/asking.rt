@@ -1,6 +1,7 @@
 //! The solver is asked whether two literals of a circuit can be true together.
 
 ghost use Rattle.std.specs.Prelude.{◌≡◌, ◌^◌, ◌<◌, ◌≤◌, All, IfOk, length};
+ghost use Rattle.pp_limits.specs.declared.TheConstants.{GATES, LEMMAS};
 ghost use Rattle.pp_gate.specs.Circuit.{IsCircuit, IsOf};
 ghost use Rattle.pp_query.specs.Reply.{AreClausesOf, IsReply, asked_of};
 
@@ -13,7 +14,7 @@ use std::alloc::Global;
 
 /// Asks for an assignment that gives each gate its value and makes both literals true: that the check fails, and that
 /// all that was supposed holds. The solver may learn so many lemmas. The only error is want of memory.
-pub fn ask(
+pub(crate) fn ask(
     alloc: Global,
     circuit: &Circuit,
     fails: Lit,
@@ -21,10 +22,10 @@ pub fn ask(
     lemmas: u64,
 ) -> Result<Reply, NoMemory>
     requires circuit { IsCircuit circuit.now }
-    requires small { length circuit.now ≤ 4000000 }
+    requires small { length circuit.now ≤ GATES.most }
     requires fails { IsOf circuit.now fails }
     requires circuit_ok { IsOf circuit.now circuit_ok }
-    requires lemmas { (1 ≤ lemmas) × (lemmas ≤ 1000000) }
+    requires lemmas { (1 ≤ lemmas) × (lemmas ≤ LEMMAS.most) }
     ensures reply { IfOk result (λ reply. IsReply circuit.now fails circuit_ok lemmas reply) }
 {
     if fails == circuit_ok.negated() {

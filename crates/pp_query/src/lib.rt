@@ -20,5 +20,8 @@ mod searching;
 pub use found::Found;
 pub use proof::Proof;
 pub use proving::prove;
+pub use query::{Query, query_of};
+pub use question::{Question, question_of};
+pub use reply::Reply;
 pub use searching::search;
 pub use std::alloc::AllocError as NoMemory;

@@ -1,6 +1,7 @@
 //! The proof of a check.
 
 ghost use Rattle.std.specs.Prelude.{◌<◌, ◌≤◌, IfOk, length};
+ghost use Rattle.pp_limits.specs.declared.TheConstants.{GATES, LEMMAS, ROUNDS};
 ghost use Rattle.pp_checks.specs.Plan.{IsPlanOf};
 ghost use Rattle.pp_estimate.specs.Estimates.{estimate};
 ghost use Rattle.pp_query.specs.Proofs.{IsProof};
@@ -28,9 +29,9 @@ pub fn prove(
 ) -> Result<Proof, NoMemory>
     requires plan { IsPlanOf plan.now program.now }
     requires check { check.0 < length program.now.checks }
-    requires round { round ≤ 12 }
-    requires lemmas { (1 ≤ lemmas) × (lemmas ≤ 1000000) }
-    requires size { estimate program.now.types program.now.functions program.now.checks check.0 round 1 ≤ 4000000 }
+    requires round { round ≤ ROUNDS.most }
+    requires lemmas { (1 ≤ lemmas) × (lemmas ≤ LEMMAS.most) }
+    requires size { estimate program.now.types program.now.functions program.now.checks check.0 round 1 ≤ GATES.most }
     ensures proof { IfOk result (λ proof. IsProof program.now check round lemmas proof) }
 {
     if plan.plain(check) {

@@ -1,6 +1,7 @@
 //! A query: the question of a round with the solver's reply.
 
 ghost use Rattle.std.specs.Prelude.{◌<◌, ◌≤◌, IfOk, length};
+ghost use Rattle.pp_limits.specs.declared.TheConstants.{DEPTH, GATES, LEMMAS, ROUNDS};
 ghost use Rattle.pp_checks.specs.Plan.{IsPlanOf};
 ghost use Rattle.pp_estimate.specs.Estimates.{estimate};
 ghost use Rattle.pp_query.specs.Question.{CanAsk, IsQuery, IsReplyTo};
@@ -19,7 +20,9 @@ use std::alloc::Global;
 /// The question of a round, with the solver's reply. A model is one of the question's circuit.
 #[derive(Drop)]
 pub struct Query<D, T> {
+    /// What is asked.
     pub question: Question<D, T>,
+    /// What is replied.
     pub reply: Reply,
 }
 
@@ -37,10 +40,11 @@ pub fn query_of<D: Domain + Drop>(
     requires mode { Suits D.sense mode }
     requires plan { IsPlanOf plan.now program.now }
     requires check { check.0 < length program.now.checks }
-    requires round { round ≤ 12 }
-    requires depth { (1 ≤ depth) × (depth ≤ 6) }
-    requires lemmas { (1 ≤ lemmas) × (lemmas ≤ 1000000) }
-    requires size { estimate program.now.types program.now.functions program.now.checks check.0 round depth ≤ 4000000 }
+    requires round { round ≤ ROUNDS.most }
+    requires depth { (1 ≤ depth) × (depth ≤ DEPTH.most) }
+    requires lemmas { (1 ≤ lemmas) × (lemmas ≤ LEMMAS.most) }
+    requires size { estimate program.now.types program.now.functions program.now.checks check.0 round depth
+        ≤ GATES.most }
     ensures query { IfOk result (λ q. IsQuery D.sense program.now check mode round depth lemmas q) }
 {
     let question = question_of::<D>(alloc, program, plan, check, mode, round, depth)?;
@@ -51,7 +55,7 @@ pub fn query_of<D: Domain + Drop>(
 /// What the solver replies to the question.
 fn reply_to<D, T>(alloc: Global, question: &Question<D, T>, lemmas: u64) -> Result<Reply, NoMemory>
     requires question { CanAsk question.now }
-    requires lemmas { (1 ≤ lemmas) × (lemmas ≤ 1000000) }
+    requires lemmas { (1 ≤ lemmas) × (lemmas ≤ LEMMAS.most) }
     ensures { IfOk result (λ reply. IsReplyTo question.now lemmas reply) }
 {
     let frame = &question.frame;

@@ -1,6 +1,7 @@
 //! The question of a round: whether the check fails in its circuit, where all that was supposed holds.
 
 ghost use Rattle.std.specs.Prelude.{◌<◌, ◌≤◌, IfOk, length};
+ghost use Rattle.pp_limits.specs.declared.TheConstants.{DEPTH, GATES, ROUNDS};
 ghost use Rattle.pp_checks.specs.Plan.{IsPlanOf};
 ghost use Rattle.pp_estimate.specs.Estimates.{estimate};
 ghost use Rattle.pp_query.specs.Question.{IsQuestion};
@@ -18,8 +19,11 @@ use std::alloc::Global;
 /// fails, and the literal that all that was supposed of the inputs holds.
 #[derive(Drop)]
 pub struct Question<D, T> {
+    /// The circuit of the round: at most as many gates and inputs as the round is estimated at.
     pub circuit: Circuit,
+    /// The domain of its trees.
     pub domain: D,
+    /// The literals that are asked, and the symbols of the arguments.
     pub frame: Frame<T>,
 }
 
@@ -37,9 +41,10 @@ pub fn question_of<D: Domain + Drop>(
     requires mode { Suits D.sense mode }
     requires plan { IsPlanOf plan.now program.now }
     requires check { check.0 < length program.now.checks }
-    requires round { round ≤ 12 }
-    requires depth { (1 ≤ depth) × (depth ≤ 6) }
-    requires size { estimate program.now.types program.now.functions program.now.checks check.0 round depth ≤ 4000000 }
+    requires round { round ≤ ROUNDS.most }
+    requires depth { (1 ≤ depth) × (depth ≤ DEPTH.most) }
+    requires size { estimate program.now.types program.now.functions program.now.checks check.0 round depth
+        ≤ GATES.most }
     ensures question { IfOk result (λ q. IsQuestion D.sense program.now check mode round depth q) }
 {
     let mut circuit = Circuit::new(alloc)?;

@@ -1,6 +1,7 @@
 //! The search.
 
 ghost use Rattle.std.specs.Prelude.{◌<◌, ◌≤◌, IfOk, length};
+ghost use Rattle.pp_limits.specs.declared.TheConstants.{DEPTH, GATES, LEMMAS, ROUNDS};
 ghost use Rattle.pp_checks.specs.Plan.{IsPlanOf};
 ghost use Rattle.pp_estimate.specs.Estimates.{estimate};
 ghost use Rattle.pp_query.specs.Found.{IsFound};
@@ -29,10 +30,11 @@ pub fn search(
 ) -> Result<Found, NoMemory>
     requires plan { IsPlanOf plan.now program.now }
     requires check { check.0 < length program.now.checks }
-    requires round { round ≤ 12 }
-    requires depth { (1 ≤ depth) × (depth ≤ 6) }
-    requires lemmas { (1 ≤ lemmas) × (lemmas ≤ 1000000) }
-    requires size { estimate program.now.types program.now.functions program.now.checks check.0 round depth ≤ 4000000 }
+    requires round { round ≤ ROUNDS.most }
+    requires depth { (1 ≤ depth) × (depth ≤ DEPTH.most) }
+    requires lemmas { (1 ≤ lemmas) × (lemmas ≤ LEMMAS.most) }
+    requires size { estimate program.now.types program.now.functions program.now.checks check.0 round depth
+        ≤ GATES.most }
     ensures found { IfOk result (λ found. IsFound program.now check round depth lemmas found) }
 {
     let query = query_of::<Bounded>(

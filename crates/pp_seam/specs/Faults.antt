@@ -1,5 +1,5 @@
 -- Counts of faults, and the paths whose fetch failed. Source: own.
-use Rattle.std.specs.Prelude.{ℕ, ◌+◌, ◌-◌, ◌^◌, ◌≤◌, min, List, [], ◌∷◌, ◌++◌, Result, Err, count_by, bytes_eq}
+use Rattle.std.specs.Prelude.{◌≡◌, ℕ, ◌+◌, ◌-◌, ◌^◌, min, List, [], ◌∷◌, ◌++◌, Result, Err, count_by, bytes_eq}
 use Rattle.pp_seam.specs.declared.faults.FetchFault.{FetchFault}
 use Rattle.pp_seam.specs.declared.faults.FetchFault.TheVariants as fault
 
@@ -7,9 +7,9 @@ use Rattle.pp_seam.specs.declared.faults.FetchFault.TheVariants as fault
 abbrev pub raised : ℕ → ℕ
 raised count = min (count + 1) (2 ^ 64 - 1)
 
--- a count has risen; one that stands at the end of its type counts as risen
+-- a count has risen by one; one that stands at the end of its type counts as risen
 abbrev pub Rose : ℕ → ℕ → Type 0
-Rose before now = raised before ≤ now
+Rose before now = now ≡ raised before
 
 -- how often a path stands in a list of paths
 abbrev pub times : List ℕ → List (List ℕ) → ℕ

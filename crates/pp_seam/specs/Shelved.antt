@@ -6,10 +6,11 @@ use Rattle.pp_seam.specs.Faults.{raised}
 use Rattle.pp_seam.specs.declared.faults.FetchFault.{FetchFault}
 use Rattle.pp_seam.specs.declared.faults.FetchFault.TheVariants as fault
 
--- paths with their bytes, the failed paths, the numbers of the fetches that were told to fail, how many fetches
--- there were, and the bytes that the last one read and found too many
+-- paths with their bytes, the paths that were asked for, those that failed, the numbers of the fetches that were told
+-- to fail, how many fetches there were, and the bytes that the last one read and found too many
 pub record Shelved : Type 0 where
   pub held : List (List ℕ × List ℕ)
+  pub asked : List (List ℕ)
   pub failed : List (List ℕ)
   pub told : List ℕ
   pub calls : ℕ
@@ -17,7 +18,7 @@ pub record Shelved : Type 0 where
 
 -- shelves that hold no path, before the first fetch
 abbrev pub no_shelves : Shelved
-no_shelves = record { held = []; failed = []; told = []; calls = 0; seen = [] }
+no_shelves = record { held = []; asked = []; failed = []; told = []; calls = 0; seen = [] }
 
 -- the bytes of a path
 abbrev pub held_in : List (List ℕ × List ℕ) → List ℕ → Option (List ℕ)

@@ -2,6 +2,7 @@
 
 ghost use Rattle.std.specs.Prelude.{◌≡◌, ◌≢◌, ◌≤◌, ◌<◌, ◌+◌, ℕ, List, [], length, take, map, string_bytes, bytes_eq};
 ghost use Rattle.std.specs.Prelude.{false, IfOk, IfErr, IfSome, IsErrOf};
+ghost use Rattle.pp_seam.specs.Asked.{AsksFor};
 ghost use Rattle.pp_seam.specs.Faults.{failed_after, times};
 ghost use Rattle.pp_seam.specs.Reads.{untold, IsOverlong, IsGiven, IsGivenWhole, IsOverlongGiven};
 
@@ -13,10 +14,12 @@ use std::rt::Files;
 /// The files of a system as a shelf. It doesn't tell what they hold.
 #[derive(Drop)]
 pub struct FileShelf<R: Files + Drop> {
-    /// Where the memory for failed paths comes from.
+    /// Where the memory for paths comes from.
     pub alloc: Global,
     /// The system whose files these are.
     pub files: R,
+    /// The paths that were asked for, in order.
+    pub asked: Vec<String>,
     /// The paths whose fetch failed, in order.
     pub failed: Vec<String>,
     /// The bytes that the last fetch read, where they were too many; else empty.
@@ -24,14 +27,16 @@ pub struct FileShelf<R: Files + Drop> {
 }
 
 impl<R: Files + Drop> FileShelf<R> {
-    /// The files of this system, with no failed path.
+    /// The files of this system, none of which was asked for.
     pub fn new(alloc: Global, files: R) -> Self
+        ensures asked { result.asked.items ≡ [] }
         ensures failed { result.failed.items ≡ [] }
         ensures overlong { result.overlong.items ≡ [] }
     {
         FileShelf {
             alloc,
             files,
+            asked: Vec::new(alloc),
             failed: Vec::new(alloc),
             overlong: Vec::new(alloc),
         }
@@ -59,12 +64,14 @@ fn read_file<R: Files>(
 impl<R: Files + Drop> Shelf for FileShelf<R> {
     ghost held = { λ s. untold };
 
+    ghost asked = { λ s. map string_bytes s.asked.items };
+
     ghost failed = { λ s. map string_bytes s.failed.items };
 
     ghost seen = { λ s. s.overlong.items };
 
-    // Besides the clauses of the trait: what is given was read from some file of the system, whole where the answer
-    // is Ok.
+    // Besides the clauses of the trait: what is given is what some file of the system had left, to its end where the
+    // answer is Ok. Which file, from where, and how often one is opened, no clause says: `open` tells nothing of it.
     fn fetch(&mut self, alloc: Global, path: &str, limit: usize) -> Result<Vec<u8>, FetchFault>
         ensures whole { IfOk result (λ v. IsGivenWhole R.File.remaining v.items) }
         ensures long_given { IsErrOf result FetchFault.TooLong → IsGiven R.File.remaining self.new.overlong.items }
@@ -76,6 +83,8 @@ impl<R: Files + Drop> Shelf for FileShelf<R> {
             → IfSome (untold path.now) (λ bs. self.new.overlong.items ≡ take (limit + 1) bs) }
         ensures long_held { IsErrOf result FetchFault.TooLong → IfSome (untold path.now) (λ bs. limit < length bs) }
         ensures unseen { result ≢ Err FetchFault.TooLong → self.new.overlong.items ≡ [] }
+        ensures asked { AsksFor (map string_bytes self.old.asked.items) path.now result
+            (map string_bytes self.new.asked.items) }
         ensures failed { map string_bytes self.new.failed.items ≡ failed_after (map string_bytes self.old.failed.items)
             path.now result }
         ensures rose { IsErrOf result FetchFault.Failed
@@ -88,6 +97,8 @@ impl<R: Files + Drop> Shelf for FileShelf<R> {
         self.overlong = Vec::new(self.alloc);
         let name = String::from_str(self.alloc, path)?;
         self.failed.reserve(1)?;
+        let asked = String::from_str(self.alloc, path)?;
+        self.asked.push(asked)?;
         match read_file(alloc, &self.files, path, limit) {
             Ok(bytes) => Ok(bytes),
             Err(ReadFault::Failed) => {

@@ -27,4 +27,3 @@ pub use shelves::Shelves;
 pub use sink::Sink;
 pub use std::alloc::AllocError as NoMemory;
 pub use stream::StdSink;
-pub use writes::write_whole;

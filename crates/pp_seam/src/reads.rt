@@ -1,6 +1,7 @@
 //! Reading up to a limit, from any reader.
 
-ghost use Rattle.std.specs.Prelude.{◌≡◌, ◌≤◌, ◌<◌, ◌+◌, ℕ, List, take, length, IfOk, IfErr, OnErr, IfSome, IfNone};
+ghost use Rattle.std.specs.Prelude.{◌≡◌, ◌≤◌, ◌<◌, ◌+◌, ℕ, List, take, length, IfOk, IfErr, IsErrOf, OnErr, IfSome};
+ghost use Rattle.std.specs.Prelude.{IfNone};
 ghost use Rattle.std.specs.Io.KnownBytes.{Consumes, IsAtEnd, Keeps};
 ghost use Rattle.pp_seam.specs.Reads.{ConsumesAtMost, IsOverlong, GaveOverlong};
 ghost use Rattle.pp_seam.specs.declared.reads.ReadFault.TheVariants.{Memory};
@@ -34,7 +35,8 @@ impl From<AllocError> for ReadFault {
 // One read, which an interruption doesn't end. None: it failed.
 fn read_some<R: Read>(reader: &mut R, buffer: &mut [u8]) -> Option<usize>
     ensures bound { IfSome result (λ n. n ≤ length buffer.new) }
-    ensures bytes { IfSome result (λ n. Consumes (R.remaining reader.old) (R.remaining reader.new) (take n buffer.new)) }
+    ensures bytes { IfSome result (λ n.
+        Consumes (R.remaining reader.old) (R.remaining reader.new) (take n buffer.new)) }
     ensures end { IfSome result (λ n. n ≡ 0 → 0 < length buffer.new → IsAtEnd (R.remaining reader.new)) }
     ensures none { IfNone result (Keeps (R.remaining reader.old) (R.remaining reader.new)) }
 {
@@ -54,7 +56,8 @@ fn read_some<R: Read>(reader: &mut R, buffer: &mut [u8]) -> Option<usize>
 ///
 /// # Errors
 ///
-/// `Failed` where a read failed; `TooLong` where `limit + 1` bytes were read, with these; `Memory`.
+/// `Failed` where a read failed, of which a reader tells nothing: the clauses `failed` and `at_most` speak of it.
+/// `TooLong` where `limit + 1` bytes were read, with these; `Memory`.
 pub fn read_within<R: Read>(
     alloc: Global,
     reader: &mut R,
@@ -65,6 +68,8 @@ pub fn read_within<R: Read>(
     ensures end { IfOk result (λ v. IsAtEnd (R.remaining reader.new)) }
     ensures long { IfErr result (IsOverlong limit) }
     ensures long_bytes { IfErr result (GaveOverlong (R.remaining reader.old) (R.remaining reader.new)) }
+    ensures failed { IsErrOf result ReadFault.Failed
+        → ConsumesAtMost (R.remaining reader.old) (R.remaining reader.new) limit }
     ensures at_most { ConsumesAtMost (R.remaining reader.old) (R.remaining reader.new) (limit + 1) }
 {
     let mut bytes = Vec::new(alloc);

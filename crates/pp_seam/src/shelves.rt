@@ -2,6 +2,7 @@
 
 ghost use Rattle.std.specs.Prelude.{◌≡◌, ◌≢◌, ◌≤◌, ◌<◌, ◌+◌, ◌++◌, [], ◌∷◌, ℕ, List, Some, true, false, OnOk, OnErr};
 ghost use Rattle.std.specs.Prelude.{IfOk, IfErr, IfSome, IsErrOf, IsErr, length, take, bytes_eq};
+ghost use Rattle.pp_seam.specs.Asked.{AsksFor};
 ghost use Rattle.pp_seam.specs.Faults.{raised, failed_after, times};
 ghost use Rattle.pp_seam.specs.Shelved.{no_shelves, held_in, is_told, due};
 
@@ -15,6 +16,7 @@ use std::marker::Model;
 pub struct Shelves {
     alloc: Global,
     entries: Vec<Entry>,
+    asked: Vec<String>,
     failed: Vec<String>,
     told: Vec<u64>,
     calls: u64,
@@ -31,6 +33,7 @@ impl Model for Shelves {
 
     ghost view = { λ s. record {
       held = entries_of s.entries.items;
+      asked = map string_bytes s.asked.items;
       failed = map string_bytes s.failed.items;
       told =
           s.told.items;
@@ -47,6 +50,7 @@ impl Shelves {
         Shelves {
             alloc,
             entries: Vec::new(alloc),
+            asked: Vec::new(alloc),
             failed: Vec::new(alloc),
             told: Vec::new(alloc),
             calls: 0,
@@ -64,6 +68,7 @@ impl Shelves {
         ensures path { OnOk result (held_in self.new.held path.now ≡ Some bytes.now) }
         ensures others { OnOk result
             ((p : List ℕ) → bytes_eq path.now p ≡ false → held_in self.new.held p ≡ held_in self.old.held p) }
+        ensures asked { self.new.asked ≡ self.old.asked }
         ensures failed { self.new.failed ≡ self.old.failed }
         ensures told { self.new.told ≡ self.old.told }
         ensures calls { self.new.calls ≡ self.old.calls }
@@ -103,6 +108,8 @@ impl Shelves {
 impl Shelf for Shelves {
     ghost held = { λ s. held_in s.held };
 
+    ghost asked = { λ s. s.asked };
+
     ghost failed = { λ s. s.failed };
 
     ghost seen = { λ s. s.seen };
@@ -123,6 +130,7 @@ impl Shelf for Shelves {
         ensures long_held { IsErrOf result FetchFault.TooLong
             → IfSome (held_in self.old.held path.now) (λ bs. limit < length bs) }
         ensures unseen { result ≢ Err FetchFault.TooLong → self.new.seen ≡ [] }
+        ensures asked { AsksFor self.old.asked path.now result self.new.asked }
         ensures failed { self.new.failed ≡ failed_after self.old.failed path.now result }
         ensures rose { IsErrOf result FetchFault.Failed
             → times path.now self.new.failed ≡ times path.now self.old.failed + 1 }
@@ -132,6 +140,8 @@ impl Shelf for Shelves {
     {
         self.calls = self.calls.saturating_add(1);
         self.seen_len = 0;
+        let name = String::from_str(self.alloc, path)?;
+        self.asked.push(name)?;
         if self.told.contains(&self.calls) {
             return self.refuse(path);
         }

@@ -19,8 +19,8 @@ pub trait Sink {
     ///
     /// # Errors
     ///
-    /// `Failed` where the count of faults rose in this call, or stands at 2^64 - 1. Then a front of the piece was
-    /// taken.
+    /// `Failed` where the count of faults rose by one in this call, or stands at 2^64 - 1. Then a front of the piece
+    /// was taken.
     fn put(&mut self, bytes: &[u8]) -> Result<(), PutFault>
         ensures whole { OnOk result (Appends (taken self.old) (taken self.new) bytes.now) }
         ensures front { OnErr result (AppendsFront (taken self.old) (taken self.new) bytes.now) }

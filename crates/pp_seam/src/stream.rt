@@ -2,7 +2,8 @@
 
 ghost use Rattle.std.specs.Prelude.{◌≡◌};
 
-use crate::{PutFault, Sink, write_whole};
+use crate::writes::write_whole;
+use crate::{PutFault, Sink};
 use std::io::Write;
 
 /// A writer as a sink. It tells what its writer tells: nothing for standard output and standard error.

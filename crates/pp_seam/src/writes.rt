@@ -41,7 +41,7 @@ fn flush_all<W: Write>(writer: &mut W) -> bool
 ///
 /// A writer that takes nothing of what is left has failed. An interrupted write is tried 1,000 times, and then has
 /// failed. An empty piece is written without a call of the writer.
-pub fn write_whole<W: Write>(writer: &mut W, bytes: &[u8]) -> bool
+pub(crate) fn write_whole<W: Write>(writer: &mut W, bytes: &[u8]) -> bool
     ensures whole { IsTrue result → Appends (W.contents writer.old) (W.contents writer.new) bytes.now }
     ensures front { AppendsFront (W.contents writer.old) (W.contents writer.new) bytes.now }
     ensures empty { bytes.now ≡ [] → IsTrue result }

@@ -23,10 +23,13 @@ impl Case {
     pub fn read(alloc: Global, line: &str) -> Result<Case> {
         let (lemmas, rest) = line.split_once(':').unwrap_or((line, ""));
         let (assumptions, clauses) = rest.split_once(':').unwrap_or((rest, ""));
+        let lemmas = first_number(alloc, lemmas, 1)? as u64;
+        let assumptions = lits(alloc, assumptions)?;
+        let clauses = read_clauses(alloc, clauses)?;
         Ok(Case {
-            lemmas: numbers(alloc, lemmas)?.first().copied().unwrap_or(1) as u64,
-            assumptions: lits(alloc, assumptions)?,
-            clauses: read_clauses(alloc, clauses)?,
+            lemmas,
+            assumptions,
+            clauses,
         })
     }
 }
@@ -64,11 +67,16 @@ pub fn numbers(alloc: Global, field: &str) -> Result<Vec<u32>> {
     Ok(numbers)
 }
 
+/// The first number of a field, or this one where there is none.
+pub fn first_number(alloc: Global, field: &str, default: u32) -> Result<u32> {
+    Ok(numbers(alloc, field)?.first().copied().unwrap_or(default))
+}
+
 /// The literal that the word stands for.
 fn lit(word: &str) -> Result<Lit> {
     let number = word.parse::<i32>().context("a literal")?;
     let var = number.unsigned_abs();
-    ensure!(1 <= var && var <= LAST, "no variable {var}");
+    ensure!(1 <= var && var <= LAST, "no such variable");
     Ok(Lit::new(var, number > 0))
 }
 

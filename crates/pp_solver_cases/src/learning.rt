@@ -24,10 +24,13 @@ struct Conflict {
 /// What is learnt of the first clause that is false, where the assumptions that are open are decided in order, each
 /// after the propagation of those before.
 pub fn learn(alloc: Global, case: &Case) -> Result<String> {
-    let mut watch = watch_over(alloc, case)?;
-    for lit in &case.assumptions {
-        if let Some(conflict) = next_conflict(&mut watch, *lit)? {
-            return learn_from(alloc, &watch, conflict);
+    learn_with(alloc, &mut watch_over(alloc, case)?, &case.assumptions)
+}
+
+fn learn_with(alloc: Global, watch: &mut Watch, decisions: &[Lit]) -> Result<String> {
+    for lit in decisions {
+        if let Some(conflict) = next_conflict(watch, *lit)? {
+            return learn_from(alloc, watch, conflict);
         }
     }
     word(alloc, "none")
@@ -35,14 +38,17 @@ pub fn learn(alloc: Global, case: &Case) -> Result<String> {
 
 /// What is derived of the assumptions alone, where they are decided without propagation between them.
 pub fn refute(alloc: Global, case: &Case) -> Result<String> {
-    let mut watch = watch_over(alloc, case)?;
-    for lit in &case.assumptions {
-        if is_free(&watch, *lit) {
+    refute_with(alloc, &mut watch_over(alloc, case)?, &case.assumptions)
+}
+
+fn refute_with(alloc: Global, watch: &mut Watch, decisions: &[Lit]) -> Result<String> {
+    for lit in decisions {
+        if is_free(watch, *lit) {
             watch.decide(*lit);
         }
     }
     match watch.propagate()? {
-        Some(number) => refute_from(alloc, &watch, number),
+        Some(number) => refute_from(alloc, watch, number),
         None => word(alloc, "none"),
     }
 }

@@ -1,6 +1,6 @@
 //! Clauses, chains and assignments.
 
-use crate::case::{Case, MOST, lits, numbers, read_clauses};
+use crate::case::{MOST, first_number, lits, numbers, read_clauses};
 use crate::tries::{push_lits, word};
 use anyhow::{Result, ensure};
 use pp_clause::{Assignment, Chain, Clause, Clauses, Lit, is_ascending, laws};
@@ -8,14 +8,18 @@ use std::alloc::Global;
 
 /// The clause of the literals that a line has in the place of assumptions.
 pub fn clause(alloc: Global, rest: &str) -> Result<String> {
-    match Clause::of(alloc, &Case::read(alloc, rest)?.assumptions)? {
-        Some(clause) => {
-            let mut line = word(alloc, "clause")?;
-            push_lits(&mut line, clause.lits())?;
-            Ok(line)
-        }
+    let (_, literals) = rest.split_once(':').unwrap_or((rest, ""));
+    match Clause::of(alloc, &lits(alloc, literals)?)? {
+        Some(clause) => show_clause(alloc, "clause", &clause),
         None => word(alloc, "none"),
     }
+}
+
+/// A word and the literals of a clause.
+fn show_clause(alloc: Global, name: &str, clause: &Clause) -> Result<String> {
+    let mut line = word(alloc, name)?;
+    push_lits(&mut line, clause.lits())?;
+    Ok(line)
 }
 
 /// Whether the numbers are a chain, which then has just these.
@@ -48,7 +52,7 @@ fn assignment(alloc: Global, values: &str) -> Result<Assignment> {
 pub fn value(alloc: Global, rest: &str) -> Result<String> {
     let (values, var) = rest.split_once(':').unwrap_or((rest, ""));
     let a = assignment(alloc, values)?;
-    let var = numbers(alloc, var)?.first().copied().unwrap_or(0);
+    let var = first_number(alloc, var, 0)?;
     ensure!(1 <= var, "no variable");
     let yes = a.value(var);
     Ok(format!(in alloc; "{yes}")?)
@@ -78,19 +82,25 @@ pub fn ascending(alloc: Global, rest: &str) -> Result<String> {
     if !is_ascending(&lits) {
         return word(alloc, "no");
     }
-    let mut line = word(alloc, "ascending")?;
-    push_lits(&mut line, Clause::of_ascending(alloc, &lits)?.lits())?;
-    Ok(line)
+    show_clause(alloc, "ascending", &Clause::of_ascending(alloc, &lits)?)
 }
 
 /// Copies of the clauses, and whether there are none.
 pub fn copies(alloc: Global, clauses: &Clauses) -> Result<String> {
+    show_copies(alloc, &copied(alloc, clauses)?)
+}
+
+fn copied(alloc: Global, clauses: &Clauses) -> Result<Clauses> {
     let mut copies = Clauses::with_capacity(alloc, clauses.len())?;
     for place in 0..clauses.len() {
         let copy = clauses.get(place as u32 + 1).copy(alloc)?;
         ensure!((copies.len() as u64) < MOST, "too many clauses");
         copies.add(copy)?;
     }
+    Ok(copies)
+}
+
+fn show_copies(alloc: Global, copies: &Clauses) -> Result<String> {
     let mut line = word(alloc, if copies.is_empty() { "none" } else { "copies" })?;
     for place in 0..copies.len() {
         push_lits(&mut line, copies.get(place as u32 + 1).lits())?;

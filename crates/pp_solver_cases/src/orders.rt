@@ -24,9 +24,14 @@ pub fn order(alloc: Global, clauses: &str, calls: &str, shown: Shown) -> Result<
     let clauses = read_clauses(alloc, clauses)?;
     let vars = raised(greatest_var(&clauses), &[Lit::new(LAST, true)]);
     let mut watch = Watch::over(alloc, &clauses, vars)?;
+    make_all(alloc, &mut watch, calls, shown)
+}
+
+/// Makes the calls, and tells what is shown.
+fn make_all(alloc: Global, watch: &mut Watch, calls: &str, shown: Shown) -> Result<String> {
     let mut line = String::new(alloc);
     for call in calls.split_whitespace() {
-        make(alloc, &mut watch, call.as_bytes(), shown, &mut line)?;
+        make(alloc, watch, call.as_bytes(), shown, &mut line)?;
     }
     Ok(line)
 }

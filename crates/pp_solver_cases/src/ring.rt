@@ -2,7 +2,7 @@
 
 ghost use Rattle.std.specs.Prelude.{◌≤◌};
 
-use anyhow::{Context, Result, bail};
+use anyhow::{Context, Result};
 use pp_clause::{Chain, Clause, Clauses, Lemma, Lit, Log};
 use pp_refute::accepts;
 use std::alloc::Global;
@@ -10,11 +10,13 @@ use std::alloc::Global;
 /// Whether the log of a chain of so many steps is accepted.
 pub fn check_steps(alloc: Global, rest: &str) -> Result<String> {
     let steps = rest.parse::<u32>().context("the number of steps")?;
-    let clauses = clauses(alloc)?;
-    let log = log(alloc, steps)?;
-    let assumptions = assumptions(alloc, steps)?;
-    let answer = accepts(alloc, &clauses, &assumptions, &log)?;
+    let answer = is_accepted(alloc, steps)?;
     Ok(format!(in alloc; "{steps} steps: {answer}")?)
+}
+
+fn is_accepted(alloc: Global, steps: u32) -> Result<bool> {
+    let log = log(alloc, steps)?;
+    Ok(accepts(alloc, &clauses(alloc)?, &assumptions(alloc, steps)?, &log)?)
 }
 
 /// How many variables each clause has besides those of the ring.
@@ -35,10 +37,7 @@ fn clause(alloc: Global, more: &[Lit]) -> Result<Clause> {
         lits.push(Lit::new(var, true))?;
     }
     lits.extend_from_slice(more)?;
-    let Some(clause) = Clause::of(alloc, &lits)? else {
-        bail!("a literal and its negation");
-    };
-    Ok(clause)
+    Clause::of(alloc, &lits)?.context("a literal and its negation")
 }
 
 /// One clause with the first variable of the ring, and one for each of its steps.
@@ -55,18 +54,20 @@ fn clauses(alloc: Global) -> Result<Clauses> {
 
 /// The log of one lemma, whose chain goes so many steps along the ring.
 fn log(alloc: Global, steps: u32) -> Result<Log> {
+    let chain = chain(alloc, steps)?;
+    let clause = clause(alloc, &[ring(steps)])?;
+    let mut log = Log::new(alloc);
+    log.push(Lemma { clause, chain })?;
+    Ok(log)
+}
+
+fn chain(alloc: Global, steps: u32) -> Result<Chain> {
     let mut numbers = Vec::new(alloc);
     numbers.push(1)?;
     for step in 0..steps {
         numbers.push(2 + step % RING)?;
     }
-    let Some(chain) = Chain::of(alloc, &numbers)? else {
-        bail!("no number");
-    };
-    let clause = clause(alloc, &[ring(steps)])?;
-    let mut log = Log::new(alloc);
-    log.push(Lemma { clause, chain })?;
-    Ok(log)
+    Chain::of(alloc, &numbers)?.context("no number")
 }
 
 /// The negations of the lemma's literals.

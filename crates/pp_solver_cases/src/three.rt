@@ -16,8 +16,7 @@ pub fn decided_lists(alloc: Global, case: &Case) -> Result<u32> {
         for second in 0..first + 1 {
             for third in 0..second + 1 {
                 for fourth in 0..third + 1 {
-                    let list = listed(alloc, case.lemmas, &[first, second, third, fourth])?;
-                    if is_decided(alloc, &list)? {
+                    if decides(alloc, case.lemmas, &[first, second, third, fourth])? {
                         right = u32::saturating_add(right, 1);
                     }
                 }
@@ -25,6 +24,11 @@ pub fn decided_lists(alloc: Global, case: &Case) -> Result<u32> {
         }
     }
     Ok(right)
+}
+
+/// Whether the solver's answer to the clauses of these codes is that of the eight assignments.
+fn decides(alloc: Global, lemmas: u64, codes: &[u32]) -> Result<bool> {
+    is_decided(alloc, &listed(alloc, lemmas, codes)?)
 }
 
 /// The clauses of these codes.

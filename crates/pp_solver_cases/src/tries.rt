@@ -7,7 +7,7 @@ use crate::three::decided_lists;
 use crate::{learning, lists};
 use anyhow::{Result, bail, ensure};
 use pp_cdcl::{Answer, solve};
-use pp_clause::{Clause, Lit, Lits, Log, Spent};
+use pp_clause::{Assignment, Clause, Lit, Lits, Log, Spent};
 use pp_refute::{LogFault, accepts, log_text, read_log};
 use std::alloc::Global;
 
@@ -16,8 +16,9 @@ pub fn answer(alloc: Global, line: &str) -> Result<String> {
     let (head, field) = line.split_once('|').unwrap_or((line, ""));
     let (task, rest) = head.split_once(' ').unwrap_or((head, ""));
     match task {
-        "log" => tried_text(alloc, text(alloc, field)?.as_str()),
-        "accepts" => checked(alloc, rest, text(alloc, field)?.as_str()),
+        "log" | "accepts" => answer_on_text(alloc, rest, task, &text(alloc, field)?),
+        "values" => order(alloc, rest, field, Shown::Values),
+        "steps" => order(alloc, rest, field, Shown::Steps),
         "clause" => lists::clause(alloc, rest),
         "chain" => lists::chain(alloc, rest),
         "holds" => lists::holds(alloc, rest),
@@ -27,9 +28,15 @@ pub fn answer(alloc: Global, line: &str) -> Result<String> {
         "ring" => check_steps(alloc, rest),
         "laws" => lists::state_laws(alloc),
         "evidence" => evidence(alloc, Case::read(alloc, rest)?),
-        "values" => order(alloc, rest, field, Shown::Values),
-        "steps" => order(alloc, rest, field, Shown::Steps),
         other => answer_on(alloc, other, &Case::read(alloc, rest)?),
+    }
+}
+
+/// The answer to a task on the text of a log.
+fn answer_on_text(alloc: Global, problem: &str, task: &str, text: &str) -> Result<String> {
+    match task {
+        "log" => tried_text(alloc, text),
+        _ => checked(alloc, problem, text),
     }
 }
 
@@ -51,18 +58,27 @@ fn answer_on(alloc: Global, task: &str, case: &Case) -> Result<String> {
 /// Whether the text is that of a log that is written the same, or the first line that is wrong.
 fn tried_text(alloc: Global, text: &str) -> Result<String> {
     match read_log(alloc, text.as_bytes()) {
-        Ok(log) if log_text(alloc, &log)?.as_slice() == text.as_bytes() => word(alloc, "log"),
-        Ok(_) => word(alloc, "written otherwise"),
+        Ok(log) => tried_log(alloc, &log, text),
         Err(LogFault::Syntax(line)) => Ok(format!(in alloc; "line {line}")?),
         Err(fault) => Err(fault.into()),
     }
 }
 
+/// Whether the log is written as the text.
+fn tried_log(alloc: Global, log: &Log, text: &str) -> Result<String> {
+    let written = log_text(alloc, log)?;
+    let same = written.as_slice() == text.as_bytes();
+    word(alloc, if same { "log" } else { "written otherwise" })
+}
+
 /// Whether the log of this text refutes the clauses under the assumptions.
 fn checked(alloc: Global, problem: &str, text: &str) -> Result<String> {
-    let case = Case::read(alloc, problem)?;
     let log = read_log(alloc, text.as_bytes())?;
-    let yes = accepts(alloc, &case.clauses, &case.assumptions, &log)?;
+    accepted(alloc, &Case::read(alloc, problem)?, &log)
+}
+
+fn accepted(alloc: Global, case: &Case, log: &Log) -> Result<String> {
+    let yes = accepts(alloc, &case.clauses, &case.assumptions, log)?;
     Ok(format!(in alloc; "{yes}")?)
 }
 
@@ -81,48 +97,64 @@ fn solved(alloc: Global, case: &Case) -> Result<Answer> {
 
 /// The kind of the answer, and `wrong` where it isn't what its kind promises.
 pub fn kind(alloc: Global, case: &Case) -> Result<String> {
-    let (right, kind) = match solved(alloc, case)? {
-        Answer::Sat(a) => {
-            let assumed = case
-                .assumptions
-                .iter()
-                .all(|lit| a.value(lit.var()) == lit.is_positive());
-            (case.clauses.holds(&a) && assumed, "sat")
-        }
-        Answer::Unsat(log) => (
-            accepts(alloc, &case.clauses, &case.assumptions, &log)?,
-            "unsat",
-        ),
-        Answer::Spent(log) => (log.as_slice().len() as u64 == case.lemmas, "spent"),
-    };
-    word(alloc, if right { kind } else { "wrong" })
+    let answer = solved(alloc, case)?;
+    let right = is_right(alloc, case, &answer)?;
+    word(alloc, if right { kind_of(&answer) } else { "wrong" })
+}
+
+fn kind_of(answer: &Answer) -> &'static str {
+    match answer {
+        Answer::Sat(_) => "sat",
+        Answer::Unsat(_) => "unsat",
+        Answer::Spent(_) => "spent",
+    }
+}
+
+/// Whether the answer is what its kind promises.
+fn is_right(alloc: Global, case: &Case, answer: &Answer) -> Result<bool> {
+    match answer {
+        Answer::Sat(a) => Ok(is_model(case, a)),
+        Answer::Unsat(log) => Ok(accepts(alloc, &case.clauses, &case.assumptions, log)?),
+        Answer::Spent(log) => Ok(log.as_slice().len() as u64 == case.lemmas),
+    }
+}
+
+/// Whether the assignment makes the clauses and the assumptions true.
+fn is_model(case: &Case, a: &Assignment) -> bool {
+    let assumed = case
+        .assumptions
+        .iter()
+        .all(|lit| a.value(lit.var()) == lit.is_positive());
+    case.clauses.holds(a) && assumed
 }
 
 /// The kind of the answer, and of one with a log how many lemmas this has.
 fn counted(alloc: Global, case: &Case) -> Result<String> {
-    let (kind, log) = match solved(alloc, case)? {
-        Answer::Sat(_) => return word(alloc, "sat"),
-        Answer::Unsat(log) => ("unsat", log),
-        Answer::Spent(log) => ("spent", log),
-    };
-    let lemmas = log.as_slice().len();
-    Ok(format!(in alloc; "{kind}, {lemmas} lemmas")?)
+    let answer = solved(alloc, case)?;
+    let mut line = word(alloc, kind_of(&answer))?;
+    if let Answer::Unsat(log) | Answer::Spent(log) = &answer {
+        let lemmas = log.as_slice().len();
+        write!(line, ", {lemmas} lemmas")?;
+    }
+    Ok(line)
 }
 
 /// The variables from 1 to 9 that are true, where the answer is an assignment.
 fn model(alloc: Global, case: &Case) -> Result<String> {
     match solved(alloc, case)? {
-        Answer::Sat(a) => {
-            let mut line = word(alloc, "sat")?;
-            for var in 1..10u32 {
-                if a.value(var) {
-                    write!(line, " {var}")?;
-                }
-            }
-            Ok(line)
-        }
+        Answer::Sat(a) => show_model(alloc, &a),
         _ => bail!("no assignment"),
     }
+}
+
+fn show_model(alloc: Global, a: &Assignment) -> Result<String> {
+    let mut line = word(alloc, "sat")?;
+    for var in 1..10u32 {
+        if a.value(var) {
+            write!(line, " {var}")?;
+        }
+    }
+    Ok(line)
 }
 
 /// The last clause of the log, where the answer refutes.
@@ -146,15 +178,27 @@ fn evidence(alloc: Global, case: Case) -> Result<String> {
     let Answer::Spent(log) = solved(alloc, &case)? else {
         bail!("lemmas are left");
     };
+    let assumptions = assumptions(alloc, &case)?;
+    let clauses = case.clauses;
+    show_spent(
+        alloc,
+        &Spent {
+            clauses,
+            assumptions,
+            log,
+        },
+    )
+}
+
+fn assumptions(alloc: Global, case: &Case) -> Result<Lits> {
     let mut assumptions = Lits::new(alloc);
     for lit in &case.assumptions {
         assumptions.push(*lit)?;
     }
-    let spent = Spent {
-        clauses: case.clauses,
-        assumptions,
-        log,
-    };
+    Ok(assumptions)
+}
+
+fn show_spent(alloc: Global, spent: &Spent) -> Result<String> {
     let mut line = word(alloc, "assuming")?;
     push_lits(&mut line, spent.assumptions.as_slice())?;
     let (lemmas, clauses) = (spent.log.as_slice().len(), spent.clauses.len());

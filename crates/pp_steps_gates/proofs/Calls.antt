@@ -42,6 +42,20 @@ open_small types sort.Int = le_same 32
 open_small types sort.Bool = omega arith
 open_small types (sort.Tree d) = omega arith
 
+-- the sorts of a measure list
+pub sorts_of_measure : (p : Program) (es : List Expr) (scope : List Sort)
+    → is_sorted_measure p.types p.functions es scope ≡ true
+    → (ss : List Sort) × (sorts_in scope (map (sort_of p.types p.functions) es) ≡ map Some ss)
+sorts_of_measure p [] scope h = ([], refl)
+sorts_of_measure p (e ∷ es) scope h =
+    let q = and_parts (is_some (sort_of p.types p.functions e scope)) _ h in
+    let s = some_sort (sort_of p.types p.functions e scope) q.0 in
+    let rest = sorts_of_measure p es scope q.1 in (
+      s.0 ∷ rest.0,
+      ap (λ o. o ∷ sorts_in scope (map (sort_of p.types p.functions) es)) s.1 ∙ ap (λ os. Some s.0 ∷ os)
+          rest.1,
+    )
+
 module _ (p : Program) (σ : Sorts) (η : Heights) (low : (i : ℕ) → η i ≤ top)
     (flat : (i : ℕ) → σ i ≡ sort.Bool → η i ≡ 0) where
   abbrev L : {A : Type 0} → ℕ → Piece A → ℕ
@@ -92,18 +106,6 @@ module _ (p : Program) (σ : Sorts) (η : Heights) (low : (i : ℕ) → η i ≤
       (has_the_sort_is p.types p.functions sort.Bool (sort_of p.types p.functions pre scope) is) m in
       record { out = tt; alive = h.alive; few = h.few }
 
-  sorts_of_measure : (es : List Expr) (scope : List Sort) → is_sorted_measure p.types p.functions es scope ≡ true
-      → (ss : List Sort) × (sorts_in scope (map (sort_of p.types p.functions) es) ≡ map Some ss)
-  sorts_of_measure [] scope h = ([], refl)
-  sorts_of_measure (e ∷ es) scope h =
-      let q = and_parts (is_some (sort_of p.types p.functions e scope)) _ h in
-      let s = some_sort (sort_of p.types p.functions e scope) q.0 in
-      let rest = sorts_of_measure es scope q.1 in (
-        s.0 ∷ rest.0,
-        ap (λ o. o ∷ sorts_in scope (map (sort_of p.types p.functions) es)) s.1 ∙ ap (λ os. Some s.0 ∷ os)
-            rest.1,
-      )
-
   -- The piece of a measure list begins at number k: its numbers are those of the components' shapes, and it takes at
   -- most twice what the components cost, less a node's weight for each.
   pub record IsMeasured (k : ℕ) (x : Piece Frame) (vs : List Visit) : Type 0 where
@@ -119,7 +121,7 @@ module _ (p : Program) (σ : Sorts) (η : Heights) (low : (i : ℕ) → η i ≤
   measuring_few asked site calls its [] k args reach hs scope are r is m =
       record { out = tt; alive = r; few = omega arith }
   measuring_few asked site calls its (e ∷ es) k args reach hs scope are r is m =
-      let q = sorts_of_measure (e ∷ es) scope is in
+      let q = sorts_of_measure p (e ∷ es) scope is in
       let ms = map (compile asked site) (e ∷ es) in
       let ws = map (visit_of p.types calls) (e ∷ es) in
       let x = all ms k args reach in

@@ -32,7 +32,7 @@ use Rattle.pp_steps_gates.proofs.Pieces.{unless_few, when_few}
 use Rattle.pp_steps_gates.proofs.Scopes.{Are, Covers, IsOf, are_join, cost_of_node, covered, covered_of, has_more}
 
 -- the sorts that a case's pattern binds, with the sort of its guard and its body
-bound_then : (a : sorts.Arm) (scope : List Sort) (o : Option (List Sort)) (u : Sort) → arm_with a scope o ≡ Some u
+pub bound_then : (a : sorts.Arm) (scope : List Sort) (o : Option (List Sort)) (u : Sort) → arm_with a scope o ≡ Some u
     → (l : List Sort) × (o ≡ Some l) × (guarded_sort a.guard (scope ++ l) (a.body (scope ++ l)) ≡ Some u)
 bound_then a scope None u h = let no : None ≡ Some u = h in cc
 bound_then a scope (Some l) u h = (l, refl, h)

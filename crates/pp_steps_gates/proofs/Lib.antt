@@ -1,13 +1,13 @@
 mod Pieces
 mod Scopes
 mod Forms
-mod Lists
-mod Operators
+pub mod Lists
+pub mod Operators
 mod Patterns
-mod Cases
+pub mod Cases
 mod Exprs
 mod Measures
-mod Calls
+pub mod Calls
 mod Runs
 pub mod Heights
 mod Sizes

@@ -39,11 +39,11 @@ use Rattle.pp_steps_gates.proofs.Pieces.{one_few}
 use Rattle.pp_steps_gates.proofs.Scopes.{Are, Covers, are_as_high, are_join, cost_of_look, cost_of_node, covered}
 use Rattle.pp_steps_gates.proofs.Scopes.{covered_of}
 
-same_data : (a b : DataId) (s : Sort) → s ≡ sort.Tree a → s ≡ sort.Tree b → a ≡ b
+pub same_data : (a b : DataId) (s : Sort) → s ≡ sort.Tree a → s ≡ sort.Tree b → a ≡ b
 same_data a b s h g = cc
 
 -- the field of a datatype with one constructor
-field_of_only : (ctors : List Ctor) (o : Option Datatype) (k : ℕ) (s : Sort) → field_of_data ctors o k ≡ Some s
+pub field_of_only : (ctors : List Ctor) (o : Option Datatype) (k : ℕ) (s : Sort) → field_of_data ctors o k ≡ Some s
     → sort_at (fields_of_ctor (first_ctor ctors o)) k ≡ s
 field_of_only ctors None k s e = let no : None ≡ Some s = e in cc
 field_of_only ctors (Some t) k s e = by (nat_eq t.count 1) (slice_get ctors t.first.0) e

@@ -83,7 +83,7 @@ operands_are Shl o q s h = numbers_are o q sort.Int s h
 operands_are Shr o q s h = numbers_are o q sort.Int s h
 operands_are Ushr o q s h = numbers_are o q sort.Int s h
 
-operated_binary : (op : BinaryOp) (o q : Option Sort) (s : Sort) → operated_sort op o q ≡ Some s
+pub operated_binary : (op : BinaryOp) (o q : Option Sort) (s : Sort) → operated_sort op o q ≡ Some s
     → binary_sort op o q ≡ Some s
 operated_binary AndAlso o q s h = let no : None ≡ Some s = h in cc
 operated_binary OrElse o q s h = let no : None ≡ Some s = h in cc

@@ -1,5 +1,6 @@
 -- The steps of a round fit its estimate. Source: own.
 use Rattle.std.specs.Prelude.{◌≡◌, ◌<◌, ◌≤◌, ℕ, ◌+◌, ◌^◌, List, ◌++◌, Some, length, map, slice_get, sum}
+use Rattle.pp_limits.specs.declared.TheConstants.{GATES}
 use Rattle.pp_prog.specs.declared.expr.Function.{Function}
 use Rattle.pp_prog.specs.declared.id.CheckId.{CheckId}
 use Rattle.pp_prog.specs.declared.program.Program.{Program}
@@ -30,7 +31,7 @@ abbrev pub RunsFitEstimates : Type 0
 RunsFitEstimates =
     (plan : Plan) (p : Program) → IsPlanOf plan p → (i : ℕ) (f : Function) → slice_get p.functions i ≡ Some f
     → (c : CheckId) → IsCheckOf p i c.0 → (round depth : ℕ) → 1 ≤ depth
-    → estimate p.types p.functions p.checks c.0 round depth ≤ 4000000
+    → estimate p.types p.functions p.checks c.0 round depth ≤ GATES.most
     → (σ : Sorts) → AllSorted p.types σ 0 (run_steps p.functions f c round).steps
     → map σ (run_steps p.functions f c round).arguments ≡ param_sorts f.params
     → length (run_steps p.functions f c round).steps < 2 ^ 32

@@ -148,7 +148,7 @@ module _ {D T : Type 0} (m : Sense D T) (types : TypeTable) (exact : m.exact ≡
           high = subst (λ k. AllHigh types can.sorts can.heights k (drop (length args) steps)) (sym many)
               (subst (λ l. AllHigh types can.sorts can.heights (length params) l) (sym rest_is) can.high);
           few = subst (λ n. n ≤ rest_gates)
-              (sym (exact_all_gates m types exact can.sorts can.heights (m.looks c) (m.compares c) (length args)
+              (sym (exact_all_gates m types exact can.sorts can.heights (m.looks c) (m.compares c) [] (length args)
               (drop (length args) steps)))
               (let e = gates_same in omega arith);
           room =

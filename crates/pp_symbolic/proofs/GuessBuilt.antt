@@ -3,7 +3,6 @@
 use Rattle.std.proofs.Common.{◌≡◌, ℕ, ◌+◌, ◌≤◌, ◌^◌, ◌&&◌, List, [], length, false}
 use Rattle.std.proofs.Common.{Some, sym, subst, arith}
 use Rattle.std.specs.Prelude.{slice_get}
-use Rattle.std.specs.List.{sum_by}
 use Rattle.pp_prog.specs.declared.sort.Sort.{Sort}
 use Rattle.pp_prog.specs.declared.sort.Sort.TheVariants as sort
 use Rattle.pp_prog.specs.declared.types.TypeTable.{TypeTable}
@@ -28,9 +27,9 @@ use Rattle.pp_steps_gates.proofs.Heights.{solved, solved_high}
 use Rattle.pp_build.specs.Built.{CanBuild, IsBuilt}
 use Rattle.pp_build.specs.Words.{AreWords}
 use Rattle.pp_build.specs.StepGates.{all_step_gates}
-use Rattle.pp_symbolic.specs.Guessed.{CanGuess, HaveLiterals, IsGuessed, all_bits, register_bit}
-use Rattle.pp_symbolic.specs.Room.{form_gates, guess_gates, looks_in, tree_gates, widest}
-use Rattle.pp_symbolic.proofs.GuessRoom.{guess_steps_most}
+use Rattle.pp_guess_gates.specs.Measure.{round_gates}
+use Rattle.pp_symbolic.specs.Guessed.{CanGuess, HaveLiterals, IsGuessed, all_bits, guess_gates, register_bit}
+use Rattle.pp_symbolic.proofs.GuessGates.{guess_steps_most}
 
 no_register : {X : Type 0} (k : ℕ) (x : X) → slice_get [] k ≡ Some x → ⊥
 no_register k x at = cc
@@ -52,7 +51,7 @@ module _ {D T : Type 0} (m : Sense D T) (types : TypeTable) (inexact : m.exact �
     heights = solved types can.have.sorts 0 g.steps (λ k. 0)
 
     abbrev pub built_gates : ℕ
-    built_gates = sum_by form_gates g.steps + tree_gates (looks_in g.steps) (widest types)
+    built_gates = round_gates types can.have.sorts [] 0 0 g.steps
 
     pub can_build : CanBuild m types d gs g.steps [] built_gates
     can_build = record {
@@ -67,17 +66,17 @@ module _ {D T : Type 0} (m : Sense D T) (types : TypeTable) (inexact : m.exact �
       fewer = omega arith;
       high = solved_high types can.have.sorts 0 g.steps (λ k. 0) can.reads.reads;
       few =
-          subst (λ l. all_step_gates m types can.have.sorts heights l (m.compares d) 0 g.steps ≤ built_gates)
+          subst (λ l. all_step_gates m types can.have.sorts heights l (m.compares d) [] 0 g.steps ≤ built_gates)
           (sym fresh.looks)
-          (subst (λ k. all_step_gates m types can.have.sorts heights [] k 0 g.steps ≤ built_gates) (sym fresh.compares)
-          (guess_steps_most m types inexact can.have.sorts heights g.steps));
+          (subst (λ k. all_step_gates m types can.have.sorts heights [] k [] 0 g.steps ≤ built_gates)
+          (sym fresh.compares) (guess_steps_most m types inexact can.have.sorts heights g.steps can.looks));
       room = (let room = can.room in omega arith);
     }
 
     module _ (e : D) (hs : List Gate) (later : Moves m types d gs e hs built_gates) where
       -- also where nothing comes after it
-      pub built_moves : Moves m types d gs e hs (guess_gates types g)
-      built_moves = Moves_weaker m types d e gs hs built_gates (guess_gates types g) later (omega arith)
+      pub built_moves : Moves m types d gs e hs (guess_gates types can.have.sorts g)
+      built_moves = Moves_weaker m types d e gs hs built_gates (guess_gates types can.have.sorts g) later (omega arith)
 
       -- there is room for the conjunction
       pub conjunction_room : length hs + length g.supposed ≤ 2 ^ 30
@@ -103,8 +102,9 @@ module _ {D T : Type 0} (m : Sense D T) (types : TypeTable) (inexact : m.exact �
           gates_move : Moves m types e hs e is (length g.supposed)
           gates_move = Moves_gates m types law e hs is (length g.supposed) later.fits adds
 
-          pub all_moves : Moves m types d gs e is (guess_gates types g)
-          all_moves = Moves_more m types d e e gs hs is built_gates (length g.supposed) (guess_gates types g) later
+          pub all_moves : Moves m types d gs e is (guess_gates types can.have.sorts g)
+          all_moves = Moves_more m types d e e gs hs is built_gates (length g.supposed)
+              (guess_gates types can.have.sorts g) later
               gates_move
               (omega arith)
 

@@ -1,8 +1,9 @@
 -- The frame of a guess run: where one fails the check, some assignment says so.
-use Rattle.std.proofs.Common.{◌≡◌, ℕ, zero, suc, ◌+◌, ◌^◌, List, [], ◌∷◌}
+use Rattle.std.proofs.Common.{◌≡◌, ◌≤◌, ◌<◌, ℕ, zero, suc, ◌+◌, ◌*◌, ◌^◌, List, [], ◌∷◌}
 use Rattle.std.proofs.Common.{length, map, Bool, true, false, ◌&&◌, Some, refl, sym, ap}
 use Rattle.std.proofs.Common.{◌∙◌, subst, arith}
 use Rattle.std.specs.Prelude.{slice_get}
+use Rattle.std.specs.List.{sum_by}
 use Rattle.std.proofs.Math.Logic.{∥∥₁_map}
 use Rattle.std.proofs.lemmas.Option.{same_Some}
 use Rattle.pp_prog.specs.declared.check.Check.{Check}
@@ -11,13 +12,16 @@ use Rattle.pp_prog.specs.declared.id.CheckId.{CheckId}
 use Rattle.pp_prog.specs.declared.program.Program.{Program}
 use Rattle.pp_prog.specs.declared.types.Ctor.{Ctor}
 use Rattle.pp_prog.specs.Cone.{IsWordFunction}
+use Rattle.pp_prog.specs.Sizes.{flat}
 use Rattle.pp_prog.specs.Sorts.{param_sorts}
-use Rattle.pp_prog.specs.Values.{greatest}
 use Rattle.pp_clause.specs.Literal.{lit_value}
 use Rattle.pp_gate.specs.declared.gate.Gate.{Gate}
-use Rattle.pp_gate.proofs.Growing.{IsOf_more}
+use Rattle.pp_gate.proofs.Growing.{IsOf_more, length-Grows}
 use Rattle.pp_sound.specs.Sound.{IsCheckOf}
 use Rattle.pp_checks.specs.Plan.{IsPlanOf, Plan}
+use Rattle.pp_estimate.specs.Cut.{top}
+use Rattle.pp_estimate.specs.Estimates.{estimate, single, sum_below}
+use Rattle.pp_estimate_laws.specs.Laws.{GrowsWithDepth, SumsRounds}
 use Rattle.pp_induction.specs.Ends.{GuessFails}
 use Rattle.pp_domain.specs.Answers.{Fresh}
 use Rattle.pp_domain.specs.Laws.{Lawful}
@@ -27,18 +31,21 @@ use Rattle.pp_domain.proofs.Composition.{Moves_weaker}
 use Rattle.pp_steps.specs.declared.step.Step.{Step}
 use Rattle.pp_steps.specs.Guesses.{GuessSteps, guess_steps}
 use Rattle.pp_steps.specs.Meaning.{Does, Missing, Obeys, Values}
-use Rattle.pp_guess_steps.specs.Laws.{GuessesAreSorted, GuessesRead}
-use Rattle.pp_guess_values.specs.NamedGuess.{IsNamedGuess, IsShort}
+use Rattle.pp_guess_steps.specs.Laws.{GuessesAreSorted, GuessesRead, HaveGuessSorts}
+use Rattle.pp_guess_gates.specs.Laws.{FitIn, GuessesFit}
+use Rattle.pp_guess_gates.specs.Measure.{round_gates}
+use Rattle.pp_guess_values.specs.NamedGuess.{IsNamedGuess, IsShort, all_looked_at, fields_at}
+use Rattle.pp_guess_values.proofs.Looking.{guess_looks_before}
 use Rattle.pp_guess_values.proofs.Named.{failing_guess_is_named}
 use Rattle.pp_build.specs.Followed.{CanFollowAll}
 use Rattle.pp_symbolic.specs.declared.frame.Frame.{Frame}
 use Rattle.pp_symbolic.specs.Frame.{IsGuessFrame, IsModel, IsOwner}
-use Rattle.pp_symbolic.specs.Guessed.{CanGuess, IsGuessed, all_bits}
-use Rattle.pp_symbolic.specs.Room.{HasRoom, field_count, guess_gates}
+use Rattle.pp_symbolic.specs.Guessed.{CanGuess, IsGuessed, all_bits, guess_gates}
 use Rattle.pp_symbolic.proofs.GuessArguments.{enough_steps}
 use Rattle.pp_symbolic.proofs.GuessFollows.{goes_true}
 use Rattle.pp_symbolic.proofs.GuessWords.{word_model_fails}
-use Rattle.pp_symbolic.proofs.MostFields.{fields_most}
+use Rattle.pp_symbolic.proofs.FlatFields.{fields_flat}
+use Rattle.pp_symbolic.proofs.GuessGates.{names_paid}
 use Rattle.pp_symbolic.proofs.RunFrame.{first_good}
 
 -- a step of those that values obey
@@ -60,13 +67,32 @@ same_owner p i j c one other =
     let check = same_Some one.check other.check (sym one.listed ∙ other.listed) in
     sym one.owner ∙ ap (λ (k : Check). k.function.0) check ∙ other.owner
 
+-- what is known of the steps of guess runs and of estimates
+pub record GuessLaws : Type 0 where
+  pub read : GuessesRead
+  pub sorted : GuessesAreSorted
+  pub fit : GuessesFit
+  pub sums : SumsRounds
+  pub deep : GrowsWithDepth
+
+below_top : (a b : ℕ) → a ≤ b → b ≤ 4000000 → a < top
+below_top a b le small = omega (arith, le, small)
+
+last_round : (before one all most : ℕ) → all ≡ before + one → all ≤ most → one ≤ most
+last_round before one all most is le = omega (arith, is, le)
+
+few_names : (steps fields gates supposed single most : ℕ) → steps ≤ single → 1 + (gates + supposed) ≤ single
+    → 8 * fields ≤ gates → single ≤ most → most ≤ 4000000 → 2 * steps + fields < 2 ^ 30
+few_names steps fields gates supposed single most few fits paid le small = omega (arith, few, fits, paid, le, small)
+
 and_first : (a b : Bool) → (a && b) ≡ true → a ≡ true
 and_first true b h = refl
 and_first false b h = h
 
 module _ {D T : Type 0} (m : Sense D T) (law : Lawful m) (inexact : m.exact ≡ false) (p : Program) (plan : Plan)
-    (is_plan : IsPlanOf plan p) (c : CheckId) (f : Function) (own : IsOwner p c f) (round : ℕ) (read : GuessesRead) (sorted : GuessesAreSorted)
-    (d : D) (gs : List Gate) (fresh : Fresh m p.types d gs) (one : length gs ≡ 1)
+    (is_plan : IsPlanOf plan p) (c : CheckId) (f : Function) (own : IsOwner p c f) (round depth : ℕ) (some : 1 ≤ depth)
+    (small : estimate p.types p.functions p.checks c.0 round depth ≤ 4000000) (laws : GuessLaws) (d : D)
+    (gs : List Gate) (fresh : Fresh m p.types d gs) (one : length gs ≡ 1)
   where
     abbrev G : GuessSteps
     G = guess_steps p.functions f c round
@@ -74,38 +100,79 @@ module _ {D T : Type 0} (m : Sense D T) (law : Lawful m) (inexact : m.exact ≡ 
     abbrev Can : GuessSteps → Type 0
     Can g = CanGuess p.types gs (param_sorts f.params) g
 
-    can_steps : HasRoom p.types G → Can G
-    can_steps room = record {
-      have = sorted plan p is_plan own.number f own.here c round;
-      reads = read p.functions f c round;
-      enough = enough_steps read p.functions f c round;
-      room = (let gates = room.gates in omega arith);
+    -- what the round is estimated at
+    abbrev most : ℕ
+    most = estimate p.types p.functions p.checks c.0 round depth
+
+    have : HaveGuessSorts p.types G (param_sorts f.params)
+    have = laws.sorted plan p is_plan own.number f own.here c round
+
+    fits : FitIn p.types have.sorts G (single p.types p.functions f round 1)
+    fits = laws.fit plan p is_plan own.number f own.here c round have
+
+    -- the round by itself, on the least arguments, is estimated at no more
+    single_most : single p.types p.functions f round 1 ≤ most
+    single_most =
+        let lower = laws.deep p.types p.functions p.checks c.0 round 1 depth some in
+        let here : slice_get p.functions own.owner.check.function.0 ≡ Some f =
+        ap (slice_get p.functions) own.owner.owner ∙ own.here in
+        let sums = laws.sums p.types p.functions p.checks c.0 round 1 own.owner.check f own.owner.listed here
+        (below_top _ most lower small) in
+        last_round (sum_below round (λ r. single p.types p.functions f r 1)) (single p.types p.functions f round 1)
+        (estimate p.types p.functions p.checks c.0 round 1) most sums lower
+
+    few_gates : guess_gates p.types have.sorts G ≤ most
+    few_gates = let whole = fits.gates in let e = single_most in omega (arith, whole, e)
+
+    can_steps : Can G
+    can_steps = record {
+      have = have;
+      reads = laws.read p.functions f c round;
+      enough = enough_steps laws.read p.functions f c round;
+      looks = guess_looks_before p.functions f c round;
+      room = (let few = few_gates in omega (arith, few, one, small));
     }
 
-    module _ (g : GuessSteps) (is : g ≡ G) (room : HasRoom p.types g) where
+    module _ (g : GuessSteps) (is : g ≡ G) where
       pub can_guess : Can g
-      can_guess = subst Can (sym is) (can_steps (subst (HasRoom p.types) is room))
+      can_guess = subst Can (sym is) can_steps
 
-      pub guess_moves : (e : D) (hs : List Gate) → Moves m p.types d gs e hs (guess_gates p.types g)
-          → Moves m p.types d gs e hs (2 ^ 30)
+      -- what they leave is at most the estimate
+      pub guess_moves : (e : D) (hs : List Gate)
+          → ((can : Can g) → Moves m p.types d gs e hs (guess_gates p.types can.have.sorts g))
+          → Moves m p.types d gs e hs most
+      unfolding can_steps
       guess_moves e hs moves =
-          Moves_weaker m p.types d e gs hs (guess_gates p.types g) (2 ^ 30) moves (let few = room.gates in omega arith)
+          let left : (can : Can G) → Moves m p.types d gs e hs (guess_gates p.types can.have.sorts G) =
+          subst (λ x. (can : Can x) → Moves m p.types d gs e hs (guess_gates p.types can.have.sorts x)) is moves in
+          Moves_weaker m p.types d e gs hs (guess_gates p.types have.sorts G) most (left can_steps) few_gates
+
+      pub guess_size : (e : D) (hs : List Gate)
+          → ((can : Can g) → Moves m p.types d gs e hs (guess_gates p.types can.have.sorts g)) → length hs ≤ most
+      unfolding can_steps
+      guess_size e hs moves =
+          let left : (can : Can G) → Moves m p.types d gs e hs (guess_gates p.types can.have.sorts G) =
+          subst (λ x. (can : Can x) → Moves m p.types d gs e hs (guess_gates p.types can.have.sorts x)) is moves in
+          let grown = (length-Grows gs hs (guess_gates p.types have.sorts G) (left can_steps).grows).1 in
+          let whole = fits.gates in
+          let e = single_most in
+          omega (arith, grown, whole, e, one)
 
       module _ (e : D) (hs : List Gate) (frame : Frame T)
           (evaluated : (can : Can g) → IsGuessed m p.types d gs g can.have.sorts e hs frame)
         where
-          room_of : HasRoom p.types G
-          room_of = subst (HasRoom p.types) is room
-
-          short : IsShort p.types G.steps
+          short : IsShort p.types have.sorts G.steps
           short = record {
-            most = greatest (map field_count p.types.ctors);
-            fields = λ k ctor at. fields_most p.types.ctors k.0 ctor at;
-            few = room_of.names;
+            most = flat p.types;
+            fields = λ k ctor at. fields_flat p.types k.0 ctor at;
+            few = few_names (length G.steps) (sum_by (fields_at (flat p.types) have.sorts) (all_looked_at G.steps))
+                (round_gates p.types have.sorts [] 0 0 G.steps) (length G.supposed)
+                (single p.types p.functions f round 1) most fits.steps fits.gates
+                (names_paid p.types have.sorts G.steps) single_most small;
           }
 
           can : Can G
-          can = can_steps room_of
+          can = can_steps
 
           ev : IsGuessed m p.types d gs G can.have.sorts e hs frame
           ev = subst (λ x. (k : Can x) → IsGuessed m p.types d gs x k.have.sorts e hs frame) is evaluated can
@@ -118,7 +185,7 @@ module _ {D T : Type 0} (m : Sense D T) (law : Lawful m) (inexact : m.exact ≡ 
                 good = first_good m p d gs law fresh one v.naming v.admitted;
                 stand = λ k x at. absurd (no_register k x at);
                 are = v.are;
-                defaults = λ k s le at. v.defaults k s at;
+                looked = λ k s le at. v.looked k s at;
                 does = λ k s le at.
                     does_at p.types.ctors v.missing v.values 0 G.steps k k s v.guess.steps at (omega arith);
               } in
@@ -133,6 +200,7 @@ module _ {D T : Type 0} (m : Sense D T) (law : Lawful m) (inexact : m.exact ≡ 
               )
 
           pub is_guess_frame : IsGuessFrame m p c round e hs frame
+          unfolding can have can_steps
           is_guess_frame = record {
             fails = IsOf_more ev.before hs (length G.supposed) frame.fails ev.joined.grows ev.fails.of;
             circuit_ok = ev.ok.of;

@@ -7,10 +7,10 @@ mod GuessFollows
 mod GuessFrame
 mod GuessWords
 mod WordRegisters
-mod GuessRoom
+mod FlatFields
+mod GuessGates
 mod Owners
 mod RunFrame
 mod Ready
-mod MostFields
 mod Simplified
 mod Whole

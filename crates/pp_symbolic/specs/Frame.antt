@@ -26,12 +26,6 @@ abbrev pub Suits : {D T : Type 0} → Sense D T → Mode → Type 0
 Suits m Real = m.exact ≡ true
 Suits m Guess = m.exact ≡ false
 
--- how many gates and inputs may come in, also where memory ends: of a run as many as its estimate says, of guess runs,
--- of which the size is tested when it is known, as many as a circuit has room for
-abbrev pub left_at_most : Mode → ℕ → ℕ
-left_at_most Real estimated = estimated
-left_at_most Guess estimated = 2 ^ 30
-
 module _ {D T : Type 0} (m : Sense D T) (p : Program) (c : CheckId) (round depth : ℕ) (e : D) (gs : List Gate)
     (frame : Frame T)
   where

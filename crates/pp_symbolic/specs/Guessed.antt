@@ -18,7 +18,8 @@ use Rattle.pp_guess_steps.specs.Laws.{HaveGuessSorts, IsReading}
 use Rattle.pp_build.specs.Built.{IsBuilt}
 use Rattle.pp_build.specs.Words.{AreWords}
 use Rattle.pp_symbolic.specs.declared.frame.Frame.{Frame}
-use Rattle.pp_symbolic.specs.Room.{guess_gates}
+use Rattle.pp_guess_gates.specs.Measure.{round_gates}
+use Rattle.pp_guess_values.specs.LooksBefore.{LooksBefore}
 
 -- ---- registers that are truth values
 
@@ -40,13 +41,18 @@ pub record HaveLiterals {T : Type 0} (gs : List Gate) (rs : List (Symbol T)) : T
 
 -- ---- the steps
 
--- the steps look at earlier ones and have sorts, as many of them as there are parameters and more; and there is room
--- for all of them
+-- what the steps, of these sorts, take, and a gate for each number that is supposed
+abbrev pub guess_gates : TypeTable → Sorts → GuessSteps → ℕ
+guess_gates types σ g = round_gates types σ [] 0 0 g.steps + length g.supposed
+
+-- the steps look at earlier ones and have sorts, as many of them as there are parameters and more; who reads a field
+-- asked for its constructor; and there is room for all of them
 pub record CanGuess (types : TypeTable) (gs : List Gate) (params : List Sort) (g : GuessSteps) : Type 0 where
   pub have : HaveGuessSorts types g params
   pub reads : IsReading g
   pub enough : length params ≤ length g.steps
-  pub room : length gs + guess_gates types g ≤ 2 ^ 30
+  pub looks : LooksBefore [] g.steps
+  pub room : length gs + guess_gates types have.sorts g ≤ 2 ^ 30
 
 -- The steps are built, with registers for all of them, and behind them what is supposed is joined: `fails` is the
 -- register that tells whether the check fails, and `circuit_ok` is true where the condition of the domain holds and all

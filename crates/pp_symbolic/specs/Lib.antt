@@ -1,4 +1,3 @@
 pub mod Frame
 pub mod Evaluated
-pub mod Room
 pub mod Guessed

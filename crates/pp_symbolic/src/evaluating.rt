@@ -1,11 +1,12 @@
 //! The evaluation.
 
 ghost use Rattle.std.specs.Prelude.{◌≡◌, ◌<◌, ◌≤◌, IfOk, OnOk, length};
+ghost use Rattle.pp_limits.specs.declared.TheConstants.{DEPTH, GATES, ROUNDS};
 ghost use Rattle.pp_checks.specs.Plan.{IsPlanOf};
 ghost use Rattle.pp_domain.specs.Answers.{Fresh};
 ghost use Rattle.pp_domain.specs.Moves.{Moves};
 ghost use Rattle.pp_estimate.specs.Estimates.{estimate};
-ghost use Rattle.pp_symbolic.specs.Frame.{IsFrame, IsGuessFrame, Suits, left_at_most};
+ghost use Rattle.pp_symbolic.specs.Frame.{IsFrame, IsGuessFrame, Suits};
 ghost use Rattle.pp_symbolic.specs.declared.frame.Mode.TheVariants.{Guess, Real};
 
 use crate::NoMemory;
@@ -22,8 +23,7 @@ use std::alloc::Global;
 /// of the run of the check's function with the round as its fuel, on arguments up to the depth, over an exact domain;
 /// in mode `Guess` that of its guess runs of the round, on arguments of any height, over a domain that isn't exact.
 /// What the circuit gets, its constant included, is at most the estimate of the round. After want of memory, the only
-/// error, the old gates stand and some new ones may be left. More than 2^32 - 1 steps are want of memory too, and so
-/// is, in mode `Guess`, a circuit that may be too large or that turns out larger than the estimate.
+/// error, the old gates stand and some new ones may be left. More than 2^32 - 1 steps are want of memory too.
 pub fn symbolic<D: Domain>(
     alloc: Global,
     domain: &mut D,
@@ -40,11 +40,12 @@ pub fn symbolic<D: Domain>(
     requires empty { length circuit.old ≡ 1 }
     requires plan { IsPlanOf plan.now program.now }
     requires check { check.0 < length program.now.checks }
-    requires round { round ≤ 12 }
-    requires depth { (1 ≤ depth) × (depth ≤ 6) }
-    requires size { estimate program.now.types program.now.functions program.now.checks check.0 round depth ≤ 4000000 }
-    ensures moves { Moves D.sense program.now.types domain.old circuit.old domain.new circuit.new (left_at_most mode
-        (estimate program.now.types program.now.functions program.now.checks check.0 round depth)) }
+    requires round { round ≤ ROUNDS.most }
+    requires depth { (1 ≤ depth) × (depth ≤ DEPTH.most) }
+    requires size { estimate program.now.types program.now.functions program.now.checks check.0 round depth
+        ≤ GATES.most }
+    ensures moves { Moves D.sense program.now.types domain.old circuit.old domain.new circuit.new
+        (estimate program.now.types program.now.functions program.now.checks check.0 round depth) }
     ensures size { OnOk result (length circuit.new ≤
         estimate program.now.types program.now.functions program.now.checks check.0 round depth) }
     ensures run { IfOk result (λ r. mode ≡ Real

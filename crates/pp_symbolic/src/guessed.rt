@@ -1,6 +1,6 @@
 //! The steps of a guess run, performed over a domain.
 
-ghost use Rattle.std.specs.Prelude.{◌≡◌, ◌+◌, ◌^◌, ◌≤◌, ◌&&◌, false, IfOk, OnOk, length};
+ghost use Rattle.std.specs.Prelude.{◌≡◌, ◌+◌, ◌^◌, ◌≤◌, ◌&&◌, false, IfOk, length};
 ghost use Rattle.pp_prog.specs.Sorts.{param_sorts};
 ghost use Rattle.pp_clause.specs.Literal.{lit_value};
 ghost use Rattle.pp_gate.specs.Circuit.{IsCircuit, IsOf, StandsFor};
@@ -8,8 +8,7 @@ ghost use Rattle.pp_gate.specs.Growth.{AddsGates};
 ghost use Rattle.pp_compile.specs.Guessed.{guess_of};
 ghost use Rattle.pp_domain.specs.Answers.{Fresh};
 ghost use Rattle.pp_domain.specs.Moves.{Moves};
-ghost use Rattle.pp_symbolic.specs.Guessed.{CanGuess, HaveLiterals, IsGuessed, all_bits};
-ghost use Rattle.pp_symbolic.specs.Room.{guess_gates};
+ghost use Rattle.pp_symbolic.specs.Guessed.{CanGuess, HaveLiterals, IsGuessed, all_bits, guess_gates};
 
 use crate::NoMemory;
 use crate::frame::Frame;
@@ -25,7 +24,7 @@ use std::alloc::Global;
 
 /// Performs the steps of the guess run, the arguments' first: the arguments' symbols, with the literal that is true
 /// where the check fails and all that is supposed is true. In a domain that isn't exact each step's register stands for
-/// its value, and heights count for nothing. A circuit of more gates and inputs than `most` is want of memory too.
+/// its value, and heights count for nothing.
 pub(crate) fn evaluate_guess<D: Domain>(
     alloc: Global,
     domain: &mut D,
@@ -33,14 +32,13 @@ pub(crate) fn evaluate_guess<D: Domain>(
     table: &TypeTable,
     params: &[Param],
     guess: &Guess,
-    most: u64,
 ) -> Result<Frame<D::Tree>, NoMemory>
     requires inexact { D.sense.exact ≡ false }
     requires fresh { Fresh D.sense table.now domain.old circuit.old }
     requires can { CanGuess table.now circuit.old (param_sorts params.now) (guess_of guess.now) }
-    ensures moves { Moves D.sense table.now domain.old circuit.old domain.new circuit.new
-        (guess_gates table.now (guess_of guess.now)) }
-    ensures size { OnOk result (length circuit.new ≤ most) }
+    ensures moves { (can : CanGuess table.now circuit.old (param_sorts params.now) (guess_of guess.now))
+        → Moves D.sense table.now domain.old circuit.old domain.new circuit.new
+        (guess_gates table.now can.have.sorts (guess_of guess.now)) }
     ensures guessed { IfOk result (λ r.
         (can : CanGuess table.now circuit.old (param_sorts params.now) (guess_of guess.now))
         → IsGuessed D.sense table.now domain.old circuit.old (guess_of guess.now) can.have.sorts domain.new
@@ -58,9 +56,6 @@ pub(crate) fn evaluate_guess<D: Domain>(
     )?;
     let fails = literal_at(circuit, &registers, guess.fails);
     let circuit_ok = all_true(circuit, &registers, domain.ok(), guess.supposed.as_slice())?;
-    if circuit.gates() as u64 > most {
-        return Err(NoMemory);
-    }
     let arguments = Items::from_slice(alloc, &registers.as_slice()[..params.len()])?;
     Ok(Frame {
         arguments,

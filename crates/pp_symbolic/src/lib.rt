@@ -2,11 +2,11 @@
 //!
 //! `symbolic` writes the steps of the run (`pp_compile`), leaves out what isn't needed (`pp_simplify`), performs the
 //! others over the trees of a domain (`pp_build`), and answers the symbols of the arguments with the literal. Of guess
-//! runs it performs all steps, once it is known that a circuit has room for them. `specs/Frame` says what they mean.
+//! runs it performs all steps, which fit the estimate (`pp_guess_gates`). `specs/Frame` says what they mean.
 //!
 //! - `evaluating`: `symbolic`. `frame`: what it answers.
 //! - `real`, `steps`: the steps of a run, and how they are performed.
-//! - `guess`, `guessed`, `room`: those of guess runs, and whether there is room for them.
+//! - `guess`, `guessed`: those of guess runs.
 //! - `owner`: the function that a check belongs to.
 #![tactic(auto)]
 
@@ -16,7 +16,6 @@ mod guess;
 mod guessed;
 mod owner;
 mod real;
-mod room;
 mod steps;
 
 pub use evaluating::symbolic;

@@ -1,6 +1,7 @@
 //! The circuit of a run.
 
 ghost use Rattle.std.specs.Prelude.{◌≡◌, ◌<◌, ◌≤◌, ℕ, true, IfOk, OnOk, length};
+ghost use Rattle.pp_limits.specs.declared.TheConstants.{DEPTH, GATES, ROUNDS};
 ghost use Rattle.pp_checks.specs.Plan.{IsPlanOf};
 ghost use Rattle.pp_domain.specs.Answers.{Fresh};
 ghost use Rattle.pp_domain.specs.Moves.{Moves};
@@ -41,9 +42,10 @@ pub(crate) fn of_run<D: Domain>(
     requires empty { length circuit.old ≡ 1 }
     requires plan { IsPlanOf plan.now program.now }
     requires check { check.0 < length program.now.checks }
-    requires round { round ≤ 12 }
-    requires depth { (1 ≤ depth) × (depth ≤ 6) }
-    requires size { estimate program.now.types program.now.functions program.now.checks check.0 round depth ≤ 4000000 }
+    requires round { round ≤ ROUNDS.most }
+    requires depth { (1 ≤ depth) × (depth ≤ DEPTH.most) }
+    requires size { estimate program.now.types program.now.functions program.now.checks check.0 round depth
+        ≤ GATES.most }
     ensures moves { Moves D.sense program.now.types domain.old circuit.old domain.new circuit.new
         (estimate program.now.types program.now.functions program.now.checks check.0 round depth) }
     ensures size { OnOk result (length circuit.new ≤

@@ -1,5 +1,5 @@
 pub mod Outside
 pub mod Each
 pub mod Forms
-pub mod Conditions
+pub mod Post
 pub mod Numbering

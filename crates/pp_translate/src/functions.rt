@@ -3,7 +3,6 @@
 ghost use Rattle.std.specs.Prelude.{◌≡◌, ◌<◌, ◌≤◌, ◌^◌, ◌+◌, ◌++◌, ◌∷◌, [], List, Some, All, IfOk, length, map};
 ghost use Rattle.pp_numbers.specs.Tables.{AreTables};
 ghost use Rattle.pp_prog.specs.declared.check.CheckKind.TheVariants as check;
-ghost use Rattle.pp_prog.specs.declared.expr.Expr.{Expr};
 ghost use Rattle.pp_translate.specs.Target.{setting};
 ghost use Rattle.pp_translation.specs.Defs as spec;
 ghost use Rattle.pp_translation.specs.Functions as bare;
@@ -13,15 +12,15 @@ ghost use Rattle.pp_instances.specs.declared.member.Instance.{Instance};
 ghost use Rattle.pp_typed.specs.Stand.{Stands, TypedStands};
 
 use crate::NoMemory;
+use crate::conditions::as_one;
 use crate::exprs::{expr, exprs};
 use crate::target::Target;
 use pp_generic::copies;
 use pp_instances::Instance;
-use pp_list::{Boxed, Items, at};
+use pp_list::{Items, at};
 use pp_numbers::{Numbers, sort_at};
 use pp_prog::{
-    BinaryOp, Check, CheckId, CheckKind, Checks, Expr, Function, FunctionId, Functions, Param,
-    Params, Place,
+    Check, CheckId, CheckKind, Checks, Expr, Function, FunctionId, Functions, Param, Params, Place,
 };
 use pp_text::{Name, Text};
 use pp_translation::{CheckAt, Frame};
@@ -72,20 +71,6 @@ fn params_at(
     Ok(done)
 }
 
-/// The condition, after those before it.
-fn and_also(alloc: Global, before: Option<Expr>, e: Expr) -> Result<Expr, NoMemory>
-    ensures { IfOk result (λ x. (parts : List Expr) → before ≡ bare.as_one parts
-        → Some x ≡ bare.as_one (parts ++ e ∷ [])) }
-{
-    match before {
-        None => Ok(e),
-        Some(before) => {
-            let before = Boxed::new(alloc, before)?;
-            Ok(Expr::Binary(BinaryOp::AndAlso, before, Boxed::new(alloc, e)?, None))
-        }
-    }
-}
-
 /// Several conditions as one, in order; none is no condition.
 fn conditions(
     alloc: Global,
@@ -99,11 +84,8 @@ fn conditions(
     ensures { IfOk result (λ whole. spec.TranslateConditions typed.now (setting target.now) own.now es.now whole
         checks.old checks.new) }
 {
-    let mut whole = None;
-    for e in es {
-        let x = expr(alloc, typed, target, own, e, checks)?;
-        whole = Some(and_also(alloc, whole, x)?);
-    }
+    let parts = exprs(alloc, typed, target, own, es, checks)?;
+    let whole = as_one(alloc, parts)?;
     Ok(whole)
 }
 

@@ -3,6 +3,7 @@
 //! `specs/Numbered` of `pp_translation` says what the code is proved to give.
 #![tactic(auto)]
 
+mod conditions;
 mod covered;
 mod exprs;
 mod functions;

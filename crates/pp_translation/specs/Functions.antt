@@ -1,5 +1,5 @@
 -- The functions of a program, with the numbers of checks left out. Source: own.
-use Rattle.std.specs.Prelude.{ℕ, ◌-◌, List, [], ◌∷◌, ◌++◌, map, Option, Some, None, slice_get}
+use Rattle.std.specs.Prelude.{ℕ, zero, suc, ◌-◌, List, [], ◌∷◌, ◌++◌, map, length, Option, Some, None, slice_get}
 use Rattle.pp_instances.specs.declared.member.Instance.{Instance}
 use Rattle.pp_instances.specs.declared.member.Member.{Member}
 use Rattle.pp_translation.specs.Exprs.{expr_at, unnumbered}
@@ -18,15 +18,21 @@ use Rattle.pp_typed.specs.declared.typed.TypedDef.{TypedDef}
 use Rattle.pp_typed.specs.declared.typed.TypedParam.{TypedParam}
 use Rattle.pp_typed.specs.declared.typed.TypedPost.{TypedPost}
 
--- `a && b && c`, from the left
-abbrev pub and_all : Expr → List Expr → Expr
-and_all e [] = e
-and_all e (c ∷ cs) = and_all (Binary AndAlso e c None) cs
+-- the first condition and the second by `&&`, the third and the fourth, ..; a last one alone stays
+abbrev pub in_pairs : List Expr → List Expr
+in_pairs [] = []
+in_pairs (e ∷ []) = e ∷ []
+in_pairs (a ∷ b ∷ es) = Binary AndAlso a b None ∷ in_pairs es
 
--- several conditions as one, in order; none is no condition
+-- so many times in pairs
+abbrev pub paired : ℕ → List Expr → List Expr
+paired zero es = es
+paired (suc n) es = paired n (in_pairs es)
+
+-- several conditions as one, in order: in pairs until one is left, so that it is no higher than it must be; none is no
+-- condition
 abbrev pub as_one : List Expr → Option Expr
-as_one [] = None
-as_one (e ∷ es) = Some (and_all e es)
+as_one es = slice_get (paired (length es) es) 0
 
 -- the place of an offset of a source, which is numbered from 1
 abbrev pub place_in_text : ℕ → ℕ → Option (List ℕ) → Place

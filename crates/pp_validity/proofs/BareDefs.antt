@@ -7,7 +7,6 @@ use Rattle.pp_instances.proofs.Parts.{map_push}
 use Rattle.pp_instances.specs.declared.member.Instance.{Instance}
 use Rattle.pp_prog.specs.declared.expr.BinaryOp.TheVariants.{AndAlso}
 use Rattle.pp_prog.specs.declared.expr.Expr.{Expr}
-use Rattle.pp_prog.specs.declared.expr.Expr.TheVariants as prog
 use Rattle.pp_prog.specs.declared.expr.Function.{Function}
 use Rattle.pp_prog.specs.declared.expr.Param.{Param}
 use Rattle.pp_prog.specs.declared.id.CheckId.{CheckId}
@@ -17,12 +16,13 @@ use Rattle.pp_translation.specs.Bare.{bare, bare_function, bare_post}
 use Rattle.pp_translation.specs.Defs.{TranslatesDef, TranslatesDefs, TranslatesPost, no_defs, more_defs, none_more}
 use Rattle.pp_translation.specs.Defs.{no_post, one_post}
 use Rattle.pp_translation.specs.Exprs.{expr_at, unnumbered}
-use Rattle.pp_translation.specs.Functions.{and_all, as_one, function_if, function_of, functions_of, param_at, place_at}
+use Rattle.pp_translation.specs.Functions.{as_one, function_if, function_of, functions_of, param_at, place_at}
 use Rattle.pp_translation.specs.Functions.{post_at}
 use Rattle.pp_translation.specs.Numbers.{sort_at}
 use Rattle.pp_translation.specs.Setting.{Setting}
 use Rattle.pp_translation.specs.declared.frame.CheckAt.{CheckAt}
 use Rattle.pp_translation.specs.declared.frame.Frame.{Frame}
+use Rattle.pp_translation.proofs.Conditions.{as_one_of_map}
 use Rattle.pp_typed.specs.declared.expr.TypedExpr.{TypedExpr}
 use Rattle.pp_typed.specs.declared.sort.GenericSort.{GenericSort}
 use Rattle.pp_typed.specs.declared.typed.Typed.{Typed}
@@ -37,14 +37,8 @@ module _ (typed : Typed) (set : Setting) (own : Frame) (d : TypedDef) where
   abbrev Bare : TypedExpr → Expr
   Bare = expr_at typed set.roots set.functions own.args
 
-  bare_and : (a : Expr) (xs : List Expr) → bare (and_all a xs) ≡ and_all (bare a) (map bare xs)
-  bare_and a [] = refl
-  bare_and a (x ∷ xs) = bare_and (prog.Binary AndAlso a x None) xs
-      ∙ ap (λ z. and_all z (map bare xs)) (bare_binary AndAlso a x None)
-
   bare_one : (xs : List Expr) → option_map bare (as_one xs) ≡ as_one (map bare xs)
-  bare_one [] = refl
-  bare_one (x ∷ xs) = ap Some (bare_and x xs)
+  bare_one = as_one_of_map bare (λ (a b : Expr). bare_binary AndAlso a b None)
 
   bare_of_post : (texts : List (List ℕ)) {q : Option TypedPost} {p : Option (CheckId × Expr)} {source : ℕ}
       {old new : List CheckAt} → TranslatesPost typed set own source q p old new

@@ -1,6 +1,6 @@
 -- A translated function is sorted, and its sites are listed in order.
-use Rattle.std.proofs.Common.{◌≡◌, ℕ, suc, Bool, true, false, ◌&&◌, List, [], ◌∷◌, ◌++◌, map, length, refl, sym, ap}
-use Rattle.std.proofs.Common.{◌∙◌, arith}
+use Rattle.std.proofs.Common.{◌≡◌, ℕ, suc, true, ◌&&◌, List, [], ◌∷◌, ◌++◌, map, length, refl, sym, ap}
+use Rattle.std.proofs.Common.{◌∙◌, append_assoc, subst, arith}
 use Rattle.std.specs.Prelude.{Option, Some, None, is_some, Contains, All}
 use Rattle.std.proofs.lemmas.List.{append-nil}
 use Rattle.std.proofs.lemmas.Bool.{and_from}
@@ -24,13 +24,14 @@ use Rattle.pp_prog.specs.declared.id.CheckId.{CheckId}
 use Rattle.pp_prog.specs.declared.sort.Sort.{Sort}
 use Rattle.pp_prog.specs.declared.sort.Sort.TheVariants as of_prog
 use Rattle.pp_translation.specs.Defs.{TranslatesDef, TranslatesPost, no_post, one_post, post_check}
-use Rattle.pp_translation.specs.Functions.{and_all, as_one, param_at}
+use Rattle.pp_translation.specs.Functions.{as_one, param_at}
 use Rattle.pp_translation.specs.Numbered.{Translates, TranslateAll, no_exprs, one_more}
 use Rattle.pp_translation.specs.Numbers.{sort_at}
 use Rattle.pp_translation.specs.Places.{def_offsets, post_offsets, site_offsets}
 use Rattle.pp_translation.specs.Setting.{Setting}
 use Rattle.pp_translation.specs.declared.frame.CheckAt.{CheckAt}
 use Rattle.pp_translation.specs.declared.frame.Frame.{Frame}
+use Rattle.pp_translation.proofs.Conditions.{Chain, LeadsIf, none_leads, one_leads, chain_push, as_one_leads}
 use Rattle.pp_typed.specs.Sorted.{IsSorted, AreSorted, none_sorted, more_sorted, param_sorts, sort_of_param}
 use Rattle.pp_typed.specs.Stand.{Offset}
 use Rattle.pp_typed.specs.WellSorted.{HasSort, IsDef, IsPost}
@@ -51,10 +52,6 @@ use Rattle.pp_validity.proofs.Operators.{same_self}
 use Rattle.pp_validity.proofs.Patterns.{map_map}
 use Rattle.pp_prog.proofs.SiteForms.{sites_binary}
 use Rattle.pp_validity.proofs.Within.{Within, in_left, in_right, in_parts}
-
-and_push : (p : Expr) (ps : List Expr) (e : Expr) → and_all p (ps ++ e ∷ []) ≡ prog.Binary AndAlso (and_all p ps) e None
-and_push p [] e = refl
-and_push p (q ∷ ps) e = and_push (prog.Binary AndAlso p q None) ps e
 
 first_same : {A : Type 0} {a b : A} {ps qs : List A} → a ∷ ps ≡ b ∷ qs → a ≡ b
 first_same h = cc
@@ -118,18 +115,6 @@ module _ (typed : Typed) (set : Setting) (ms : List Member) (fs : List Function)
       more_sorted (head_of (IsSorted typed d.type_params scope) e es h) refl
       (each es (tail_of (IsSorted typed d.type_params scope) e es h))
 
-  and_sorted : (a : Expr) (xs : List Expr) (es : List TypedExpr) → Sorted set.types fs sc a ≡ Some of_prog.Bool
-      → map (Sorted set.types fs sc) xs ≡ map some (map bool_at es)
-      → Sorted set.types fs sc (and_all a xs) ≡ Some of_prog.Bool
-  and_sorted a [] es h are = h
-  and_sorted a (x ∷ xs) [] h are = let no : Sorted set.types fs sc x ∷ map (Sorted set.types fs sc) xs ≡ [] = are in cc
-  and_sorted a (x ∷ xs) (e ∷ es) h are =
-      let heads : Sorted set.types fs sc x ≡ some sort.Bool = first_same are in
-      let tails : map (Sorted set.types fs sc) xs ≡ map some (map bool_at es) = rest_same are in
-      and_sorted (prog.Binary AndAlso a x None) xs es
-      (sort_of_binary set.types fs sc AndAlso a x None ∙ ap (λ z. binary_sort AndAlso z (Sorted set.types fs sc x)) h
-      ∙ ap (λ z. binary_sort AndAlso (Some of_prog.Bool) z) (heads ∙ ap Some (sort_at_bool set.roots own.args))) tails
-
   measure_sorted : (xs : List Expr) (ss : List GenericSort) → map (Sorted set.types fs sc) xs ≡ map some ss
       → is_sorted_measure set.types fs xs sc ≡ true
   measure_sorted [] ss are = refl
@@ -144,29 +129,72 @@ module _ (typed : Typed) (set : Setting) (ms : List Member) (fs : List Function)
 
   -- ---- several conditions as one
 
-  filled_or_not : (xs : List Expr) (x : Expr) {old mid new : List CheckAt} (o p : List Offset)
-      → L (pre_sites set.types fs (as_one xs) sc) o old mid → L (In x) p mid new
-      → L (pre_sites set.types fs (as_one (xs ++ x ∷ [])) sc) (o ++ p) old new
-  filled_or_not [] x {old} {mid} {new} o p a b = two [] (In x) o p old mid new a b
-  filled_or_not (w ∷ xs) x {old} {mid} {new} o p a b =
-      let whole = and_all w xs in
-      same (In whole ++ In x ++ plain None ∷ []) (In (and_all w (xs ++ x ∷ []))) (o ++ p ++ []) (o ++ p) old new
-      (ap In (and_push w xs x) ∙ sites_binary set.types fs sc AndAlso whole x None) (sym (append-nil (o ++ p)))
-      (two (In whole ++ In x) (plain None ∷ []) (o ++ p) [] old new new (two (In whole) (In x) o p old mid new a b)
-      (plain_site set.types fs own.number new))
+  -- a condition is Boolean; this changes nothing
+  abbrev IsBool : Expr → Unit {0} → Unit {0} → Type 0
+  IsBool x s t = Sorted set.types fs sc x ≡ Some of_prog.Bool
+
+  each_bool : (xs : List Expr) (es : List TypedExpr) → map (Sorted set.types fs sc) xs ≡ map some (map bool_at es)
+      → Chain IsBool xs tt tt
+  each_bool [] es are = none_leads
+  each_bool (x ∷ xs) [] are = let no : Sorted set.types fs sc x ∷ map (Sorted set.types fs sc) xs ≡ [] = are in cc
+  each_bool (x ∷ xs) (e ∷ es) are =
+      one_leads (first_same are ∙ ap Some (sort_at_bool set.roots own.args)) (each_bool xs es (rest_same are))
+
+  both_bool : (a b : Expr) (s t u : Unit {0}) → IsBool a s t → IsBool b t u → IsBool (prog.Binary AndAlso a b None) s u
+  both_bool a b s t u h k =
+      sort_of_binary set.types fs sc AndAlso a b None ∙ ap (λ z. binary_sort AndAlso z (Sorted set.types fs sc b)) h
+      ∙ ap (λ z. binary_sort AndAlso (Some of_prog.Bool) z) k
+
+  -- offsets so far, with the checks so far
+  abbrev Listed : Type 0
+  Listed = List Offset × List CheckAt
+
+  -- the sites of a condition are listed, at offsets that follow
+  record ListsOne (x : Expr) (s t : Listed) : Type 0 where
+    at : List Offset
+    follow : t.0 ≡ s.0 ++ at
+    lists : L (In x) at s.1 t.1
+
+  both_list : (a b : Expr) (s t u : Listed) → ListsOne a s t → ListsOne b t u
+      → ListsOne (prog.Binary AndAlso a b None) s u
+  both_list a b s t u h k = record {
+    at = h.at ++ k.at;
+    follow = k.follow ∙ ap (λ (l : List Offset). l ++ k.at) h.follow ∙ append_assoc s.0 h.at k.at;
+    lists = same (In a ++ In b ++ plain None ∷ []) (In (prog.Binary AndAlso a b None)) (h.at ++ k.at ++ [])
+        (h.at ++ k.at) s.1 u.1
+        (sites_binary set.types fs sc AndAlso a b None) (sym (append-nil (h.at ++ k.at)))
+        (two (In a ++ In b) (plain None ∷ []) (h.at ++ k.at) [] s.1 u.1 u.1
+        (two (In a) (In b) h.at k.at s.1 t.1 u.1 h.lists k.lists) (plain_site set.types fs own.number u.1));
+  }
+
+  each_lists : {es : List TypedExpr} {xs : List Expr} {old new : List CheckAt} {ss : List GenericSort}
+      → TranslateAll typed set own es xs old new
+      → AreSorted typed d.type_params scope ss es → Within ms own.args (joined_members (map mentions es))
+      → Chain ListsOne xs ([], old) (joined (map site_offsets es), new)
+  each_lists no_exprs h w = none_leads
+  each_lists (one_more {es = es} {e = e} {xs = xs} {x = x} before t) h w =
+      let r = split typed d.type_params scope es e h in
+      let parts = in_parts ms own.args mentions es e w in
+      chain_push ListsOne (each_lists before r.earlier parts.0) (record {
+        at = site_offsets e;
+        follow = ap joined (map_push site_offsets es e) ∙ joined_push (map site_offsets es) (site_offsets e);
+        lists = lists_expr typed set ms fs known own grouped d.type_params own_types t r.last parts.1;
+      })
+
+  one_lists : (o : Option Expr) (at : List Offset) (old new : List CheckAt) → LeadsIf ListsOne o ([], old) (at, new)
+      → L (pre_sites set.types fs o sc) at old new
+  one_lists None at old new h =
+      same [] [] [] at old new refl (sym (ap (λ (l : Listed). l.0) h))
+      (subst (λ (l : List CheckAt). L [] [] old l) (ap (λ (l : Listed). l.1) h)
+      (lists_none set.types fs own.number old))
+  one_lists (Some x) at old new h = same (In x) (In x) h.at at old new refl h.follow h.lists
 
   pre_lists : {es : List TypedExpr} {xs : List Expr} {old new : List CheckAt} {ss : List GenericSort}
       → TranslateAll typed set own es xs old new
       → AreSorted typed d.type_params scope ss es → Within ms own.args (joined_members (map mentions es))
       → L (pre_sites set.types fs (as_one xs) sc) (joined (map site_offsets es)) old new
-  pre_lists {old = old} no_exprs h w = lists_none set.types fs own.number old
-  pre_lists {old = old} {new = new} (one_more {es = es} {e = e} {xs = xs} {x = x} {mid = mid} before t) h w =
-      let r = split typed d.type_params scope es e h in
-      let parts = in_parts ms own.args mentions es e w in
-      same _ _ _ _ old new refl (ap joined (map_push site_offsets es e)
-      ∙ joined_push (map site_offsets es) (site_offsets e))
-      (filled_or_not xs x (joined (map site_offsets es)) (site_offsets e) (pre_lists before r.earlier parts.0)
-      (lists_expr typed set ms fs known own grouped d.type_params own_types t r.last parts.1))
+  pre_lists {es} {xs} {old} {new} t h w =
+      one_lists (as_one xs) (joined (map site_offsets es)) old new (as_one_leads ListsOne both_list (each_lists t h w))
 
   -- ---- the function
 
@@ -197,14 +225,13 @@ module _ (typed : Typed) (set : Setting) (ms : List Member) (fs : List Function)
         post = in_right ms own.args (a ++ b ++ mentions d.body) (post_mentions d.post) w;
       }
 
+  one_right : (o : Option Expr) → LeadsIf IsBool o tt tt → is_sorted_pre set.types fs o sc ≡ true
+  one_right None h = refl
+  one_right (Some x) h = ap (has_the_sort set.types fs of_prog.Bool) h
+
   pre_right : (xs : List Expr) (es : List TypedExpr) → map (Sorted set.types fs sc) xs ≡ map some (map bool_at es)
       → is_sorted_pre set.types fs (as_one xs) sc ≡ true
-  pre_right [] es are = refl
-  pre_right (w ∷ xs) [] are = let no : Sorted set.types fs sc w ∷ map (Sorted set.types fs sc) xs ≡ [] = are in cc
-  pre_right (w ∷ xs) (e ∷ es) are =
-      let first : Sorted set.types fs sc w ≡ Some of_prog.Bool =
-      first_same are ∙ ap Some (sort_at_bool set.roots own.args) in
-      ap (has_the_sort set.types fs of_prog.Bool) (and_sorted w xs es first (rest_same are))
+  pre_right xs es are = one_right (as_one xs) (as_one_leads IsBool both_bool (each_bool xs es are))
 
   right : (x : Expr) (l : List Sort) (s t : Sort) → sort_of set.types fs x l ≡ Some t → t ≡ s
       → is_of_sort set.types fs s l x ≡ true

@@ -15,6 +15,7 @@ use Rattle.pp_translation.specs.Numbers.{sort_at}
 use Rattle.pp_translation.specs.Setting.{Setting}
 use Rattle.pp_translation.specs.declared.frame.CheckAt.{CheckAt}
 use Rattle.pp_translation.specs.declared.frame.Frame.{Frame}
+use Rattle.pp_translation.proofs.Conditions.{some_as_one}
 use Rattle.pp_typed.specs.Sorted.{param_sorts, sort_of_param}
 use Rattle.pp_typed.specs.declared.expr.TypedExpr.{TypedExpr}
 use Rattle.pp_typed.specs.declared.sort.GenericSort.{GenericSort}
@@ -34,7 +35,7 @@ written_prog_push (y ∷ xs) x = refl
 
 one_is_some : (xs : List Expr) → is_some (as_one xs) ≡ is_written_prog xs
 one_is_some [] = refl
-one_is_some (x ∷ xs) = refl
+one_is_some (x ∷ xs) = some_as_one x xs
 
 module _ (typed : Typed) (set : Setting) (texts : List (List ℕ)) where
   written_alike : {own : Frame} {es : List TypedExpr} {xs : List Expr} {old new : List CheckAt}

@@ -2,7 +2,6 @@
 use Rattle.std.proofs.Common.{◌≡◌, ℕ, ℤ, Bool, List, [], ◌∷◌, ◌++◌, map, refl, sym, ap, ◌∙◌}
 use Rattle.std.specs.Prelude.{Option, Some, None}
 use Rattle.pp_prog.specs.Calls.{joined}
-use Rattle.pp_prog.specs.Listing.{sites}
 use Rattle.pp_translation.specs.Places as places
 use Rattle.pp_translation.specs.Places.{Below, operator_offset, site_offsets}
 use Rattle.pp_tree.specs.declared.operator.BinaryOp.{BinaryOp as TreeBinary}

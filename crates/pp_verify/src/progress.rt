@@ -1,6 +1,7 @@
 //! How far the work on a check has come.
 
 ghost use Rattle.std.specs.Prelude.{◌≡◌, ◌≤◌};
+ghost use Rattle.pp_limits.specs.declared.TheConstants.{ROUNDS};
 ghost use Rattle.pp_verify.specs.Rounds.{step_after};
 
 use pp_induct::{CheckEnd, Limits, Why};
@@ -24,7 +25,7 @@ pub(crate) enum Step {
 impl Progress {
     /// What follows a round that ended nothing: the next one, or that the check is open, where this was the last round.
     pub(crate) fn after(self, limits: Limits) -> Step
-        requires { self.round ≤ 12 }
+        requires { self.round ≤ ROUNDS.most }
         ensures { result ≡ step_after limits self }
     {
         if self.round == limits.rounds {

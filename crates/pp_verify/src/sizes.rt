@@ -1,6 +1,7 @@
 //! The estimates of a function's rounds, each worked out once for all its checks.
 
 ghost use Rattle.std.specs.Prelude.{◌≡◌, ◌≤◌, IfOk, OnOk};
+ghost use Rattle.pp_limits.specs.declared.TheConstants.{DEPTH, ROUNDS};
 ghost use Rattle.pp_checks.specs.Plan.{IsPlanOf};
 ghost use Rattle.pp_estimate.specs.Estimates.{estimate};
 ghost use Rattle.pp_sound.specs.Sound.{IsCheckOf};
@@ -16,8 +17,8 @@ use std::alloc::Global;
 /// The estimates of the first rounds of a function, as many as were asked for.
 pub(crate) type Sizes = Items<u64>;
 
-/// The estimate of a round of a check of the function, which isn't worked out again where it is known. The only error is
-/// want of memory.
+/// The estimate of a round of a check of the function, which isn't worked out again where it is known. The only error
+/// is want of memory.
 pub(crate) fn size_of(
     alloc: Global,
     program: &Program,
@@ -30,8 +31,8 @@ pub(crate) fn size_of(
 ) -> Result<u64, NoMemory>
     requires plan { IsPlanOf plan.now program.now }
     requires check { IsCheckOf program.now function.0 check.0 }
-    requires round { round ≤ 12 }
-    requires depth { (1 ≤ depth) × (depth ≤ 6) }
+    requires round { round ≤ ROUNDS.most }
+    requires depth { (1 ≤ depth) × (depth ≤ DEPTH.most) }
     requires sizes { AreSizes program.now function.0 depth sizes.old }
     ensures size { IfOk result (λ e. e ≡ estimate program.now.types program.now.functions program.now.checks check.0
         round depth) }

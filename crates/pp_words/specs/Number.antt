@@ -1,6 +1,7 @@
 -- The numbers of the command line. Source: own.
 use Rattle.std.specs.Prelude.{ℕ, Bool, ◌&&◌, ◌==◌, ◌+◌, ◌*◌, ◌-◌, ◌∷◌, [], List, None, Option, Some, false}
 use Rattle.std.specs.Prelude.{if◌then◌else◌, length, nat_le, not, option_and_then, true}
+use Rattle.pp_limits.specs.declared.Range.{Range}
 
 abbrev pub is_digit : ℕ → Bool
 is_digit byte = nat_le 48 byte && nat_le byte 57
@@ -25,7 +26,7 @@ number_in low high text =
     if has_no_leading_zero text && nat_le (length text) 7 then option_and_then (within low high)
     (with_digits 0 text) else None
 
--- the number that an option has, where it is given, and else its default
-abbrev pub number_or : ℕ → ℕ → ℕ → Option (List ℕ) → Option ℕ
-number_or default low high None = Some default
-number_or default low high (Some text) = number_in low high text
+-- the number that an option of this range has: the one that is given, and else its default
+abbrev pub number_of : Range → Option (List ℕ) → Option ℕ
+number_of range None = Some range.default
+number_of range (Some text) = number_in range.least range.most text

@@ -1,7 +1,9 @@
--- What is asked of the program: the modes, their options, their ranges and defaults. Source: own.
-use Rattle.std.specs.Prelude.{ℕ, Bool, ◌&&◌, List, None, Option, Some, bytes_eq, codes, if◌then◌else◌, is_none}
-use Rattle.std.specs.Prelude.{length, nat_le, option_and_then, option_map}
-use Rattle.pp_words.specs.Number.{number_or}
+-- What is asked of the program: the modes, and the table of the options with the modes that read them. Source: own.
+use Rattle.std.specs.Prelude.{ℕ, Bool, ◌&&◌, ◌||◌, true, false, List, [], ◌∷◌, None, Option, Some, bytes_eq, codes}
+use Rattle.std.specs.Prelude.{if◌then◌else◌, is_none, length, nat_le, option_and_then, option_map}
+use Rattle.std.specs.List.{list_all, list_any}
+use Rattle.pp_limits.specs.declared.TheConstants.{DEPTH, FUEL, GATES, LEMMAS, MOST_SOURCES, ROUNDS}
+use Rattle.pp_words.specs.Number.{number_of}
 
 pub data Task : Type 0 where
   verify : (rounds depth lemmas gates : ℕ) → Task
@@ -19,59 +21,74 @@ pub record Given : Type 0 where
   pub fuel : Option (List ℕ)
   pub files : List (List ℕ)
 
-abbrev pub rounds_of : Given → Option ℕ
-rounds_of given = number_or 4 0 12 given.rounds
+-- the modes
+pub data Mode : Type 0 where
+  verifying : Mode
+  listing : Mode
+  running : Mode
 
-abbrev pub depth_of : Given → Option ℕ
-depth_of given = number_or 3 1 6 given.depth
+abbrev pub same_mode : Mode → Mode → Bool
+same_mode verifying verifying = true
+same_mode listing listing = true
+same_mode running running = true
+same_mode _ _ = false
 
-abbrev pub lemmas_of : Given → Option ℕ
-lemmas_of given = number_or 10000 1 1000000 given.lemmas
+-- an option: the value that the words give it, and the modes that read it
+pub record Setting : Type 0 where
+  pub value : Given → Option (List ℕ)
+  pub modes : List Mode
 
-abbrev pub gates_of : Given → Option ℕ
-gates_of given = number_or 2000000 1 4000000 given.gates
+abbrev pub setting : (Given → Option (List ℕ)) → List Mode → Setting
+setting value modes = record { value = value; modes = modes }
 
--- at most 100, as long as calls are nested on the machine's own stack
-abbrev pub fuel_of : Given → Option ℕ
-fuel_of given = number_or 100 0 100 given.fuel
+-- the options but `--mode`
+abbrev pub settings : List Setting
+settings =
+    setting (λ given. given.rounds) (verifying ∷ listing ∷ [])
+    ∷ setting (λ given. given.depth) (verifying ∷ listing ∷ [])
+    ∷ setting (λ given. given.lemmas) (verifying ∷ [])
+    ∷ setting (λ given. given.gates) (verifying ∷ [])
+    ∷ setting (λ given. given.function) (running ∷ [])
+    ∷ setting (λ given. given.fuel) (running ∷ [])
+    ∷ []
 
-abbrev pub verify_task : Given → Option Task
-verify_task given =
-    if is_none given.function && is_none given.fuel then
+-- the mode reads each option that is given
+abbrev pub reads_all : Mode → Given → Bool
+reads_all mode given = list_all (λ s. is_none (s.value given) || list_any (same_mode mode) s.modes) settings
+
+-- what is asked in a mode. In mode `run` the function's name is required; it is looked up later.
+abbrev pub asked : Mode → Given → Option Task
+asked verifying given =
     option_and_then (λ rounds. option_and_then
     (λ depth. option_and_then (λ lemmas. option_map (verify rounds depth lemmas)
-    (gates_of given)) (lemmas_of given)) (depth_of given)) (rounds_of given)
+    (number_of GATES given.gates)) (number_of LEMMAS given.lemmas)) (number_of DEPTH given.depth))
+    (number_of ROUNDS given.rounds)
+asked listing given =
+    option_and_then (λ rounds. option_map (list rounds) (number_of DEPTH given.depth)) (number_of ROUNDS given.rounds)
+asked running given =
+    option_and_then (λ function. option_map (run function) (number_of FUEL given.fuel)) given.function
+
+-- the task of a mode, where the values fit it
+abbrev pub task_in : Mode → Given → Option Task
+task_in mode given = if reads_all mode given then asked mode given else None
+
+-- the mode that is written; none is `verify`
+abbrev pub mode_named : List ℕ → Option Mode
+mode_named name =
+    if bytes_eq name (codes "verify") then Some verifying
+    else if bytes_eq name (codes "list") then Some listing
+    else if bytes_eq name (codes "run") then Some running
     else None
 
-abbrev pub list_task : Given → Option Task
-list_task given =
-    if is_none given.lemmas && (is_none given.gates && (is_none given.function && is_none given.fuel)) then
-    option_and_then (λ rounds. option_map (list rounds) (depth_of given)) (rounds_of given)
-    else None
-
--- the function's name is required; it is looked up later
-abbrev pub run_task : Given → Option Task
-run_task given =
-    if is_none given.rounds && (is_none given.depth && (is_none given.lemmas && is_none given.gates)) then
-    option_and_then (λ function. option_map (run function) (fuel_of given)) given.function
-    else None
-
--- the task of a mode that is written
-abbrev pub task_in : List ℕ → Given → Option Task
-task_in mode given =
-    if bytes_eq mode (codes "verify") then verify_task given
-    else if bytes_eq mode (codes "list") then list_task given
-    else if bytes_eq mode (codes "run") then run_task given
-    else None
-
-abbrev pub mode_task : Option (List ℕ) → Given → Option Task
-mode_task None given = verify_task given
-mode_task (Some mode) given = task_in mode given
+abbrev pub mode_of : Option (List ℕ) → Option Mode
+mode_of None = Some verifying
+mode_of (Some name) = mode_named name
 
 -- 1 to 16 sources
 abbrev pub has_files : Given → Bool
-has_files given = nat_le 1 (length given.files) && nat_le (length given.files) 16
+has_files given = nat_le 1 (length given.files) && nat_le (length given.files) MOST_SOURCES
 
 -- what is asked, where the values fit together
 abbrev pub task_of : Given → Option Task
-task_of given = if has_files given then mode_task given.mode given else None
+task_of given =
+    if has_files given then option_and_then (λ mode. task_in mode given) (mode_of given.mode) else None

@@ -2,9 +2,11 @@
 use Rattle.std.specs.Prelude.{ℕ, List, map, option_map}
 use Rattle.std.specs.Borrow.{Bor}
 use Rattle.pp_words.specs.Line.{Line}
-use Rattle.pp_words.specs.Task.{Given, Task, list, run, verify}
+use Rattle.pp_words.specs.Task.{Given, Mode, Task, list, listing, run, running, verify, verifying}
 use Rattle.pp_words.specs.declared.given.Given as code_given
 use Rattle.pp_words.specs.declared.line.Line as code_line
+use Rattle.pp_words.specs.declared.task.Mode as code_mode
+use Rattle.pp_words.specs.declared.task.Mode.TheVariants as mode
 use Rattle.pp_words.specs.declared.task.Task as code_task
 use Rattle.pp_words.specs.declared.task.Task.TheVariants as task
 
@@ -16,6 +18,11 @@ abbrev pub task_told : code_task.Task → Task
 task_told (task.Verify rounds depth lemmas gates) = verify rounds depth lemmas gates
 task_told (task.List rounds depth) = list rounds depth
 task_told (task.Run function fuel) = run function.now fuel
+
+abbrev pub mode_told : code_mode.Mode → Mode
+mode_told mode.Verify = verifying
+mode_told mode.List = listing
+mode_told mode.Run = running
 
 abbrev pub given_told : code_given.Given → Given
 given_told given = record {

@@ -2,7 +2,10 @@
 
 ghost use Rattle.std.specs.Prelude.{◌≡◌, ◌^◌, ◌<◌};
 ghost use Rattle.std.specs.Option.{option_map};
-ghost use Rattle.pp_words.specs.Number.{number_in, number_or as number_or_default};
+ghost use Rattle.pp_words.specs.Number as spec;
+ghost use Rattle.pp_words.specs.Number.{number_in};
+
+use pp_limits::Range;
 
 // The number of one to seven digits, where it is in the range.
 fn number(text: &str, low: u32, high: u32) -> Option<u32>
@@ -23,11 +26,11 @@ fn number(text: &str, low: u32, high: u32) -> Option<u32>
 }
 
 /// The number that an option has, or its default; None where what is written is no number of the range.
-pub(crate) fn number_or(default: u32, low: u32, high: u32, text: Option<&str>) -> Option<u32>
-    ensures { result ≡ number_or_default default low high (option_map (λ text. text.now) text.entry) }
+pub(crate) fn number_of(range: Range, text: Option<&str>) -> Option<u32>
+    ensures { result ≡ spec.number_of range (option_map (λ text. text.now) text.entry) }
 {
     match text {
-        Some(text) => number(text, low, high),
-        None => Some(default),
+        Some(text) => number(text, range.least, range.most),
+        None => Some(range.default),
     }
 }

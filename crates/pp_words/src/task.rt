@@ -3,10 +3,12 @@
 ghost use Rattle.std.specs.Prelude.{◌≡◌};
 ghost use Rattle.std.specs.Option.{option_map};
 ghost use Rattle.pp_words.specs.Task as spec;
-ghost use Rattle.pp_words.specs.Told.{given_told, task_told};
+ghost use Rattle.pp_words.specs.Task.{listing, running, verifying};
+ghost use Rattle.pp_words.specs.Told.{given_told, mode_told, task_told};
 
 use crate::given::Given;
-use crate::number::number_or;
+use crate::number::number_of;
+use pp_limits::{DEPTH, FUEL, GATES, LEMMAS, MOST_SOURCES, ROUNDS};
 
 /// What is asked of the program.
 #[derive(Clone, Copy, Debug, PartialEq, Eq)]
@@ -38,91 +40,78 @@ pub enum Task<'a> {
     },
 }
 
-fn rounds(given: &Given) -> Option<u32>
-    ensures { result ≡ spec.rounds_of (given_told given.now) }
-{
-    number_or(4, 0, 12, given.rounds)
+// The modes.
+#[derive(Clone, Copy, Debug, PartialEq, Eq)]
+enum Mode {
+    Verify,
+    List,
+    Run,
 }
 
-fn depth(given: &Given) -> Option<u32>
-    ensures { result ≡ spec.depth_of (given_told given.now) }
+fn mode_named(name: &str) -> Option<Mode>
+    ensures { option_map mode_told result ≡ spec.mode_named name.now }
 {
-    number_or(3, 1, 6, given.depth)
-}
-
-fn lemmas(given: &Given) -> Option<u32>
-    ensures { result ≡ spec.lemmas_of (given_told given.now) }
-{
-    number_or(10_000, 1, 1_000_000, given.lemmas)
-}
-
-fn gates(given: &Given) -> Option<u32>
-    ensures { result ≡ spec.gates_of (given_told given.now) }
-{
-    number_or(2_000_000, 1, 4_000_000, given.gates)
-}
-
-fn fuel(given: &Given) -> Option<u32>
-    ensures { result ≡ spec.fuel_of (given_told given.now) }
-{
-    number_or(100, 0, 100, given.fuel)
-}
-
-fn verify_task<'a>(given: &Given<'a>) -> Option<Task<'a>>
-    ensures { option_map task_told result ≡ spec.verify_task (given_told given.now) }
-{
-    if given.function.is_some() || given.fuel.is_some() {
-        return None;
+    match name {
+        "verify" => Some(Mode::Verify),
+        "list" => Some(Mode::List),
+        "run" => Some(Mode::Run),
+        _ => None,
     }
+}
+
+// Whether the mode reads each option that is given.
+fn reads_all(mode: Mode, given: &Given) -> bool
+    ensures { result ≡ spec.reads_all (mode_told mode) (given_told given.now) }
+{
+    let limits = given.lemmas.is_none() && given.gates.is_none();
+    let run = given.function.is_none() && given.fuel.is_none();
+    match mode {
+        Mode::Verify => run,
+        Mode::List => limits && run,
+        Mode::Run => given.rounds.is_none() && given.depth.is_none() && limits,
+    }
+}
+
+fn verify<'a>(given: &Given<'a>) -> Option<Task<'a>>
+    ensures { option_map task_told result ≡ spec.asked verifying (given_told given.now) }
+{
     Some(Task::Verify {
-        rounds: rounds(given)?,
-        depth: depth(given)?,
-        lemmas: lemmas(given)?,
-        gates: gates(given)?,
+        rounds: number_of(ROUNDS, given.rounds)?,
+        depth: number_of(DEPTH, given.depth)?,
+        lemmas: number_of(LEMMAS, given.lemmas)?,
+        gates: number_of(GATES, given.gates)?,
     })
 }
 
-fn list_task<'a>(given: &Given<'a>) -> Option<Task<'a>>
-    ensures { option_map task_told result ≡ spec.list_task (given_told given.now) }
+fn list<'a>(given: &Given<'a>) -> Option<Task<'a>>
+    ensures { option_map task_told result ≡ spec.asked listing (given_told given.now) }
 {
-    if given.lemmas.is_some()
-        || given.gates.is_some()
-        || given.function.is_some()
-        || given.fuel.is_some()
-    {
-        return None;
-    }
     Some(Task::List {
-        rounds: rounds(given)?,
-        depth: depth(given)?,
+        rounds: number_of(ROUNDS, given.rounds)?,
+        depth: number_of(DEPTH, given.depth)?,
     })
 }
 
-fn run_task<'a>(given: &Given<'a>) -> Option<Task<'a>>
-    ensures { option_map task_told result ≡ spec.run_task (given_told given.now) }
+fn run<'a>(given: &Given<'a>) -> Option<Task<'a>>
+    ensures { option_map task_told result ≡ spec.asked running (given_told given.now) }
 {
-    if given.rounds.is_some()
-        || given.depth.is_some()
-        || given.lemmas.is_some()
-        || given.gates.is_some()
-    {
-        return None;
-    }
     Some(Task::Run {
         function: given.function?,
-        fuel: fuel(given)?,
+        fuel: number_of(FUEL, given.fuel)?,
     })
 }
 
-fn mode_task<'a>(given: &Given<'a>) -> Option<Task<'a>>
-    ensures { option_map task_told result ≡ spec.mode_task (given_told given.now).mode (given_told given.now) }
+// What the values ask in this mode; None where they don't fit it.
+fn task_in<'a>(mode: Mode, given: &Given<'a>) -> Option<Task<'a>>
+    ensures { option_map task_told result ≡ spec.task_in (mode_told mode) (given_told given.now) }
 {
-    match given.mode {
-        None => verify_task(given),
-        Some(mode) if mode == "verify" => verify_task(given),
-        Some(mode) if mode == "list" => list_task(given),
-        Some(mode) if mode == "run" => run_task(given),
-        Some(_) => None,
+    if !reads_all(mode, given) {
+        return None;
+    }
+    match mode {
+        Mode::Verify => verify(given),
+        Mode::List => list(given),
+        Mode::Run => run(given),
     }
 }
 
@@ -130,8 +119,12 @@ fn mode_task<'a>(given: &Given<'a>) -> Option<Task<'a>>
 pub(crate) fn asked<'a>(given: &Given<'a>) -> Option<Task<'a>>
     ensures { option_map task_told result ≡ spec.task_of (given_told given.now) }
 {
-    if given.files.is_empty() || given.files.len() > 16 {
+    if given.files.is_empty() || given.files.len() > MOST_SOURCES {
         return None;
     }
-    mode_task(given)
+    let mode = match given.mode {
+        Some(name) => mode_named(name)?,
+        None => Mode::Verify,
+    };
+    task_in(mode, given)
 }

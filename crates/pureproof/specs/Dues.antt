@@ -5,18 +5,19 @@ use Rattle.pp_modes.specs.Responses.{Response, refusal}
 use Rattle.pp_modes.specs.declared.status.Status.TheVariants as status
 use Rattle.pp_print.specs.Refusals.{memory_text, read_fault_text, too_long_text, words_text}
 use Rattle.pp_words.specs.Line.{Line, line_of}
-use Rattle.pureproof.specs.Fetched.{AreHeld, AreShort, FailsAt, IsTooLongAt, Shelf, Text}
+use Rattle.pureproof.specs.Fetched.{AreHeld, AreShort, Asks, FailsAt, FetchesNothing, IsTooLongAt, Shelf, Text}
 
--- all files of the line are fetched, and these are their bytes
+-- all files of the line are fetched, each once and in order, and these are their bytes
 pub record AreFetched (shelf : Shelf) (line : Line) (sources : List Text) : Type 0 where
   pub held : AreHeld shelf.held line.files sources
   pub short : AreShort sources
+  pub asks : Asks shelf line.files
   pub calm : shelf.failed_after ≡ shelf.failed
 
 -- why it is due: the words are no line; the fetch of a file failed; a file is too long; the sources say so; there was
 -- no memory
 pub data IsDue (words : List Text) (shelf : Shelf) : Response → Type 0 where
-  no_line : line_of words ≡ None → shelf.failed_after ≡ shelf.failed
+  no_line : line_of words ≡ None → FetchesNothing shelf
       → IsDue words shelf (refusal status.Words words_text)
   unread : (line : Line) (sources : List Text) → line_of words ≡ Some line
       → (fails : FailsAt shelf line.files sources)

@@ -13,7 +13,7 @@ use Rattle.pp_prog.specs.declared.program.Program.{Program}
 use Rattle.pp_seam.specs.Faults.{Rose}
 use Rattle.pp_words.specs.Line.{Line, line_of}
 use Rattle.pureproof.specs.Dues.{AreFetched, IsDue}
-use Rattle.pureproof.specs.Fetched.{AreShort, Shelf, Text}
+use Rattle.pureproof.specs.Fetched.{AreShort, AsksFirst, FailsAt, FetchesNothing, Shelf, Text}
 use Rattle.pureproof.specs.Shown.{Shows, Took, TookAll}
 
 -- a run of the program: its words, and what shelf and sinks tell before and after
@@ -94,8 +94,8 @@ abbrev pub OpenAreSearched : Run → Status → Type 0
 OpenAreSearched = EachPrinted OpenIsSearched
 
 -- `out` took a text, and this says one thing of the program of the fetched sources: the verdict of each function, in
--- order, with its check, its arguments, its round and its reason, and how many functions have each verdict; and all this
--- is true
+-- order, with its check, its arguments, its round and its reason, and how many functions have each verdict; and all
+-- this is true
 pub record ReadsBack (run : Run) (line : Line) (limits : Limits) : Type 0 where
   pub sources : List Text
   pub fetched : AreFetched run.shelf line sources
@@ -110,11 +110,11 @@ abbrev pub TextIsReadBack : Run → Status → Type 0
 TextIsReadBack run s = (line : Line) (limits : Limits) → line_of run.words ≡ Some line
     → line.task ≡ verify_within limits → IsOnVerdicts s → ReadsBack run line limits
 
--- nothing was fetched but files of the line, of which one at most failed
-abbrev pub FetchesFiles : Line → Shelf → Type 0
-FetchesFiles line shelf = (shelf.failed_after ≡ shelf.failed)
-    ⊎ ((path : Text) × Contains line.files path × (shelf.failed_after ≡ shelf.failed ++ path ∷ []))
+-- the first files of the line were asked for, in order, and nothing else; no fetch failed, or that of the last of them
+pub record FetchesFiles (line : Line) (shelf : Shelf) : Type 0 where
+  pub asks : AsksFirst shelf line.files
+  pub failed : (shelf.failed_after ≡ shelf.failed) ⊎ ((sources : List Text) × FailsAt shelf line.files sources)
 
 abbrev pub Fetched : List Text → Shelf → Type 0
-Fetched words shelf = (shelf.failed_after ≡ shelf.failed)
+Fetched words shelf = FetchesNothing shelf
     ⊎ ((line : Line) × (line_of words ≡ Some line) × FetchesFiles line shelf)

@@ -6,7 +6,7 @@ ghost use Rattle.pp_front.specs.Programs.{IsShort, bytes_of};
 ghost use Rattle.pp_seam.specs.Faults.{failed_after};
 ghost use Rattle.pp_text.specs.Limits.{most_bytes};
 ghost use Rattle.pp_words.specs.Told.{texts};
-ghost use Rattle.pureproof.specs.Fetched.{AreHeld, FailsAt, IsHeld, IsTooLongAt, told};
+ghost use Rattle.pureproof.specs.Fetched.{AreHeld, Asks, AsksFirst, FailsAt, IsHeld, IsTooLongAt, told};
 
 use pp_seam::{FetchFault, Shelf};
 use pp_text::MOST_BYTES;
@@ -23,8 +23,8 @@ fn keep(sources: &mut Vec<Vec<u8>>, source: Vec<u8>) -> Result<(), FetchFault>
     }
 }
 
-/// Fetches the files in order, up to the first that can't be fetched. The list is empty before; behind a fault it has
-/// the sources before that file.
+/// Fetches the files in order, each once, up to the first that can't be fetched. The list is empty before; behind a
+/// fault it has the sources before that file.
 ///
 /// # Errors
 /// `Failed` where the fetch of a file failed; `TooLong` where one has more than 262,144 bytes; `Memory`.
@@ -37,12 +37,15 @@ pub(crate) fn fetch_all<S: Shelf>(
     requires none { sources.old.items ≡ [] }
     ensures held { IfOk result (λ _. AreHeld (S.held shelf.old) (texts files.now) (map bytes_of sources.new.items)) }
     ensures short { IfOk result (λ _. All IsShort sources.new.items) }
+    ensures asked { IfOk result (λ _. Asks (told S.held S.asked S.failed S.seen shelf.old shelf.new)
+        (texts files.now)) }
     ensures calm { result ≢ Err FetchFault.Failed → S.failed shelf.new ≡ S.failed shelf.old }
+    ensures front { AsksFirst (told S.held S.asked S.failed S.seen shelf.old shelf.new) (texts files.now) }
     ensures failed { IsErrOf result FetchFault.Failed
-        → FailsAt (told S.held S.failed S.seen shelf.old shelf.new) (texts files.now)
+        → FailsAt (told S.held S.asked S.failed S.seen shelf.old shelf.new) (texts files.now)
         (map bytes_of sources.new.items) }
     ensures long { IsErrOf result FetchFault.TooLong
-        → IsTooLongAt (told S.held S.failed S.seen shelf.old shelf.new) (texts files.now)
+        → IsTooLongAt (told S.held S.asked S.failed S.seen shelf.old shelf.new) (texts files.now)
         (map bytes_of sources.new.items) }
     ensures kept { (p : List ℕ) → S.held shelf.new p ≡ S.held shelf.old p }
 {

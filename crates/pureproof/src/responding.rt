@@ -1,6 +1,7 @@
 //! What is due.
 
 ghost use Rattle.std.specs.Prelude.{◌≡◌, ◌≤◌, IfOk, List, Some, ℕ, length};
+ghost use Rattle.pp_limits.specs.declared.TheConstants.{MOST_SOURCES};
 ghost use Rattle.pp_modes.specs.Answers.{IsInRange};
 ghost use Rattle.pp_modes.specs.Responses.{refusal, response_of};
 ghost use Rattle.pp_print.specs.Refusals.{read_fault_text, too_long_text, words_text};
@@ -44,12 +45,12 @@ fn due_of_files<S: Shelf>(
     shelf: &mut S,
 ) -> Result<Response, NoMemory>
     requires range { IsInRange (task_told task) }
-    requires few { length files.now ≤ 16 }
+    requires few { length files.now ≤ MOST_SOURCES }
     ensures due { IfOk result (λ r. (words : List (List ℕ))
         → line_of words ≡ Some (record { task = task_told task.entry; files = texts files.now })
-        → IsDue words (told S.held S.failed S.seen shelf.old shelf.new) (response_of r)) }
+        → IsDue words (told S.held S.asked S.failed S.seen shelf.old shelf.new) (response_of r)) }
     ensures fetched { FetchesFiles (record { task = task_told task.entry; files = texts files.now })
-        (told S.held S.failed S.seen shelf.old shelf.new) }
+        (told S.held S.asked S.failed S.seen shelf.old shelf.new) }
     ensures kept { (p : List ℕ) → S.held shelf.new p ≡ S.held shelf.old p }
 {
     let mut sources = Vec::new(alloc);
@@ -67,9 +68,9 @@ pub(crate) fn due<'a, S: Shelf>(
     words: &'a [&'a str],
     shelf: &mut S,
 ) -> Result<Response, NoMemory>
-    ensures due { IfOk result (λ r. IsDue (texts words.entry.now) (told S.held S.failed S.seen shelf.old shelf.new)
-        (response_of r)) }
-    ensures fetched { Fetched (texts words.entry.now) (told S.held S.failed S.seen shelf.old shelf.new) }
+    ensures due { IfOk result (λ r.
+        IsDue (texts words.entry.now) (told S.held S.asked S.failed S.seen shelf.old shelf.new) (response_of r)) }
+    ensures fetched { Fetched (texts words.entry.now) (told S.held S.asked S.failed S.seen shelf.old shelf.new) }
     ensures kept { (p : List ℕ) → S.held shelf.new p ≡ S.held shelf.old p }
 {
     match read(alloc, words) {

@@ -26,9 +26,9 @@ fn carry_out<'a, S: Shelf, K: Sink, E: Sink>(
     out: &mut K,
     err: &mut E,
 ) -> Status
-    ensures ends { Ends (the_run (texts words.entry.now) (told S.held S.failed S.seen shelf.old shelf.new)
+    ensures ends { Ends (the_run (texts words.entry.now) (told S.held S.asked S.failed S.seen shelf.old shelf.new)
         (took K.taken K.faults out.old out.new) (took E.taken E.faults err.old err.new)) result }
-    ensures fetched { Fetched (texts words.entry.now) (told S.held S.failed S.seen shelf.old shelf.new) }
+    ensures fetched { Fetched (texts words.entry.now) (told S.held S.asked S.failed S.seen shelf.old shelf.new) }
     ensures kept { (p : List ℕ) → S.held shelf.new p ≡ S.held shelf.old p }
 {
     match due(alloc, words, shelf) {
@@ -48,34 +48,39 @@ pub fn pureproof<'a, S: Shelf, K: Sink, E: Sink>(
     err: &mut E,
 ) -> Status
     // what is shown is an answer to the words and the sources, or why there is none; a fault may cut it
-    ensures ends { Ends (the_run (texts words.entry.now) (told S.held S.failed S.seen shelf.old shelf.new)
+    ensures ends { Ends (the_run (texts words.entry.now) (told S.held S.asked S.failed S.seen shelf.old shelf.new)
         (took K.taken K.faults out.old out.new) (took E.taken E.faults err.old err.new)) result }
 
     // each answer that is due comes, in mode `verify` some report, unless something outside gives out
-    ensures comes { Comes (the_run (texts words.entry.now) (told S.held S.failed S.seen shelf.old shelf.new)
+    ensures comes { Comes (the_run (texts words.entry.now) (told S.held S.asked S.failed S.seen shelf.old shelf.new)
         (took K.taken K.faults out.old out.new) (took E.taken E.faults err.old err.new)) result }
-    ensures reports { Verifies (the_run (texts words.entry.now) (told S.held S.failed S.seen shelf.old shelf.new)
-        (took K.taken K.faults out.old out.new) (took E.taken E.faults err.old err.new)) result }
+    ensures reports { Verifies (the_run (texts words.entry.now)
+        (told S.held S.asked S.failed S.seen shelf.old shelf.new) (took K.taken K.faults out.old out.new)
+        (took E.taken E.faults err.old err.new)) result }
 
     // each function gets one printed line, which says `valid` only where every call that meets the precondition
     // evaluates, with some fuel, to a value that meets the postcondition
-    ensures valid { ValidLinesAreTrue (the_run (texts words.entry.now) (told S.held S.failed S.seen shelf.old shelf.new)
-        (took K.taken K.faults out.old out.new) (took E.taken E.faults err.old err.new)) result }
+    ensures valid { ValidLinesAreTrue (the_run (texts words.entry.now)
+        (told S.held S.asked S.failed S.seen shelf.old shelf.new) (took K.taken K.faults out.old out.new)
+        (took E.taken E.faults err.old err.new)) result }
     // `invalid` only with arguments whose run fails the named check
-    ensures invalid { InvalidFail (the_run (texts words.entry.now) (told S.held S.failed S.seen shelf.old shelf.new)
-        (took K.taken K.faults out.old out.new) (took E.taken E.faults err.old err.new)) result }
+    ensures invalid { InvalidFail (the_run (texts words.entry.now)
+        (told S.held S.asked S.failed S.seen shelf.old shelf.new) (took K.taken K.faults out.old out.new)
+        (took E.taken E.faults err.old err.new)) result }
     // and `open at round n` only where no arguments up to the stated depth fail that check with calls nested at most n
     // deep
-    ensures open_at { OpenAreSearched (the_run (texts words.entry.now) (told S.held S.failed S.seen shelf.old shelf.new)
-        (took K.taken K.faults out.old out.new) (took E.taken E.faults err.old err.new)) result }
+    ensures open_at { OpenAreSearched (the_run (texts words.entry.now)
+        (told S.held S.asked S.failed S.seen shelf.old shelf.new) (took K.taken K.faults out.old out.new)
+        (took E.taken E.faults err.old err.new)) result }
 
     // the printed text tells all this: it is read back as one verdict of each function, with one check, one list of
     // arguments, one round and one reason
-    ensures read_back { TextIsReadBack (the_run (texts words.entry.now) (told S.held S.failed S.seen shelf.old shelf.new)
-        (took K.taken K.faults out.old out.new) (took E.taken E.faults err.old err.new)) result }
+    ensures read_back { TextIsReadBack (the_run (texts words.entry.now)
+        (told S.held S.asked S.failed S.seen shelf.old shelf.new) (took K.taken K.faults out.old out.new)
+        (took E.taken E.faults err.old err.new)) result }
 
     // nothing but the files of the words is fetched, and the shelf holds what it held
-    ensures fetched { Fetched (texts words.entry.now) (told S.held S.failed S.seen shelf.old shelf.new) }
+    ensures fetched { Fetched (texts words.entry.now) (told S.held S.asked S.failed S.seen shelf.old shelf.new) }
     ensures kept { (p : List ℕ) → S.held shelf.new p ≡ S.held shelf.old p }
 {
     one_status();

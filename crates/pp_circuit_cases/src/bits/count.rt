@@ -30,16 +30,51 @@ pub fn counted(alloc: Global, call: Call, width: u32, x: Operand, y: Operand) ->
     requires { width ≤ 32 }
 {
     let mut circuit = Circuit::new(alloc)?;
-    let a = digits(&mut circuit, x, width)?;
-    let b = digits(&mut circuit, y, width)?;
+    counted_in(&mut circuit, call, width, x, y)
+}
+
+/// The call in a circuit that has no gates yet.
+fn counted_in(
+    circuit: &mut Circuit,
+    call: Call,
+    width: u32,
+    x: Operand,
+    y: Operand,
+) -> Result<Count>
+    requires width { width ≤ 32 }
+    requires new { length circuit.old ≤ 1 }
+{
+    let a = digits(circuit, x, width)?;
+    let b = digits(circuit, y, width)?;
+    let inputs = chosen(circuit.allocator(), width, x, y)?;
+    counted_on(circuit, call, &a, &b, &inputs)
+}
+
+/// The call on these digits, where the inputs have these values.
+fn counted_on(
+    circuit: &mut Circuit,
+    call: Call,
+    a: &[Lit],
+    b: &[Lit],
+    inputs: &Assignment,
+) -> Result<Count>
+    requires digits { length a.now ≤ 32 }
+    requires same { length a.now ≡ length b.now }
+    requires left { All (IsOf circuit.old) a.now }
+    requires right { All (IsOf circuit.old) b.now }
+    requires room { length circuit.old + 8192 ≤ 2 ^ 30 }
+{
     let start = circuit.gates();
-    let answer = call.apply(&mut circuit, &a, &b)?;
+    let answer = call.apply(circuit, a, b)?;
+    let gates = circuit.gates().saturating_sub(start);
+    let number = number_of(circuit, &answer, inputs)?;
+    Ok(Count { gates, number })
+}
+
+/// The number of an answer, where the inputs have these values.
+fn number_of(circuit: &Circuit, answer: &[Lit], inputs: &Assignment) -> Result<u64> {
     ensure!(answer.len() <= 64, "more than 64 digits");
-    let all = circuit.complete(&chosen(alloc, width, x, y)?)?;
-    Ok(Count {
-        gates: circuit.gates().saturating_sub(start),
-        number: number(&all, &answer),
-    })
+    Ok(number(&circuit.complete(inputs)?, answer))
 }
 
 /// The digits of an operand.

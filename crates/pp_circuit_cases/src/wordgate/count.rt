@@ -27,23 +27,60 @@ pub struct Count {
     pub value: i32,
 }
 
+/// Two words, and the numbers that they stand for.
+#[derive(Clone, Copy)]
+struct Words {
+    a: Word,
+    b: Word,
+    x: i32,
+    y: i32,
+}
+
 /// A call on two operands in a circuit of their own.
 pub fn counted(alloc: Global, call: Call, x: Operand, y: Operand) -> Result<Count, NoMemory> {
     let mut circuit = Circuit::new(alloc)?;
-    let a = word(&mut circuit, x)?;
-    let b = word(&mut circuit, y)?;
+    counted_in(&mut circuit, call, x, y)
+}
+
+/// The call in a circuit that has no gates yet.
+fn counted_in(circuit: &mut Circuit, call: Call, x: Operand, y: Operand) -> Result<Count, NoMemory>
+    requires { length circuit.old ≤ 1 }
+{
+    let a = word(circuit, x)?;
+    let b = word(circuit, y)?;
+    let (x, y) = (x.number, y.number);
+    counted_on(circuit, call, &Words { a, b, x, y })
+}
+
+/// The call on these words.
+fn counted_on(circuit: &mut Circuit, call: Call, words: &Words) -> Result<Count, NoMemory>
+    requires room { length circuit.old ≤ 65 }
+    requires left { All (IsOf circuit.old) words.now.a }
+    requires right { All (IsOf circuit.old) words.now.b }
+{
     let start = circuit.gates();
-    let answer = call.apply(&mut circuit, a, b)?;
+    let value = called(circuit, call, words)?;
     let once = circuit.gates();
-    call.apply(&mut circuit, a, b)?;
+    call.apply(circuit, words.a, words.b)?;
     let twice = circuit.gates();
-    call.apply(&mut circuit, b, a)?;
+    call.apply(circuit, words.b, words.a)?;
     Ok(Count {
         first: once.saturating_sub(start),
         again: twice.saturating_sub(once),
         swapped: circuit.gates().saturating_sub(twice),
-        value: read(alloc, &circuit, [(a, x.number), (b, y.number)], answer)?,
+        value,
     })
+}
+
+/// The value of the call's answer.
+fn called(circuit: &mut Circuit, call: Call, words: &Words) -> Result<i32, NoMemory>
+    requires room { length circuit.old + 16384 ≤ 2 ^ 30 }
+    requires left { All (IsOf circuit.old) words.now.a }
+    requires right { All (IsOf circuit.old) words.now.b }
+    ensures { Grows circuit.old circuit.new 16384 }
+{
+    let answer = call.apply(circuit, words.a, words.b)?;
+    read(circuit, words, answer)
 }
 
 /// The word of an operand.
@@ -59,19 +96,13 @@ fn word(circuit: &mut Circuit, operand: Operand) -> Result<Word, NoMemory>
     }
 }
 
-/// The value of a word where these words have these numbers.
-fn read(
-    alloc: Global,
-    circuit: &Circuit,
-    words: [(Word, i32); 2],
-    answer: Word,
-) -> Result<i32, NoMemory> {
+/// The value of an answer where the words have their numbers.
+fn read(circuit: &Circuit, words: &Words, answer: Word) -> Result<i32, NoMemory> {
+    let alloc = circuit.allocator();
     let mut values = vec![in alloc; false; circuit.gates() as usize]?;
-    for (word, number) in words {
-        set(&mut values, word, number);
-    }
-    let inputs = Assignment::of(alloc, &values)?;
-    let all = circuit.complete(&inputs)?;
+    set(&mut values, words.a, words.x);
+    set(&mut values, words.b, words.y);
+    let all = circuit.complete(&Assignment::of(alloc, &values)?)?;
     Ok(value(&all, answer))
 }
 

@@ -14,7 +14,7 @@ field-requires-clause-place c =
     let s = at_some k.0.fields c.in_ok-place.place (c.in_ok-place.ensures k.0 k.1) in (s.0, (k.0, k.1, s.1))
 
 pub field-requires-clause-room : goal.field-requires-clause-room
-field-requires-clause-room c =
+field-requires-clause-room c = λ new.
     look_room c.args.table.now c.requires.sample c.args.trees.now c.args.circuit.now c.in_ok-tree.tree c.requires.room
 
 pub returns : goal.returns

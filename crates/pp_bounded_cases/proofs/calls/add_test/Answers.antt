@@ -8,7 +8,7 @@ is_ctor-requires-clause-tree c =
     c.as_slice.ensures c.in_ok-tree.tree c.in_ok-tree.ensures
 
 pub is_ctor-requires-clause-room : goal.is_ctor-requires-clause-room
-is_ctor-requires-clause-room c =
+is_ctor-requires-clause-room c = λ new.
     look_room c.args.table.now c.requires.sample c.args.trees.now c.args.circuit.now c.in_ok-tree.tree c.requires.room
 
 pub returns : goal.returns

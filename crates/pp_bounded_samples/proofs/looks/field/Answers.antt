@@ -3,7 +3,7 @@ use Rattle.pp_bounded_samples.proofs.FieldReading.{field_sort, looked}
 use Rattle.pp_bounded_samples.proofs.looks.field.Goals as goal
 
 pub field-requires-clause-room : goal.field-requires-clause-room
-field-requires-clause-room c = let most = c.in_ok-room.ensures in omega arith
+field-requires-clause-room c = λ new. (let most = c.in_ok-room.ensures in omega arith)
 
 pub field-requires-clause-place : goal.field-requires-clause-place
 field-requires-clause-place c =

@@ -1,4 +1,4 @@
-use Rattle.std.proofs.Common.{◌≡◌, ◌∙◌, ◌+◌, ◌≤◌, ◌-◌, ℕ, suc, List, length, Some, refl, sym, ap, arith, subst}
+use Rattle.std.proofs.Common.{◌≡◌, ◌∙◌, ◌+◌, ◌≤◌, ◌-◌, ℕ, suc, List, length, refl, sym, ap, arith, subst}
 use Rattle.std.proofs.lemmas.List.{length-take-le}
 use Rattle.std.proofs.lemmas.Option.{same_Some, slice_get-get_or, slice_get_within}
 use Rattle.pp_prog.specs.declared.id.CtorId.{CtorId}
@@ -12,15 +12,17 @@ use Rattle.pp_gate.proofs.Growing.{length-Grows}
 use Rattle.pp_gate.proofs.Places.{at_read}
 use Rattle.pp_domain.specs.declared.symbol.Symbol.TheVariants as symbol
 use Rattle.pp_domain.specs.Moves.{Moves}
+use Rattle.pp_domain.specs.Plain.{plain_gates}
+use Rattle.pp_domain.proofs.PlainSymbols.{no_tree_is_word}
 use Rattle.pp_domain.proofs.Composition.{Moves_grown, Moves_more, Moves_none, Moves_weaker}
 use Rattle.pp_bounded_unknown.specs.Full.{AllPossible, AreFull, AreFullAlternatives, IsFull}
 use Rattle.pp_bounded_trees.specs.Possible.{bits_if, ctor_bits, total, has_value}
 use Rattle.pp_bounded_trees.specs.Meaning.{bounded_sense}
 use Rattle.pp_bounded_trees.proofs.Candidates.{next_suc, positive_next, some_possible, take_next, total_taken}
-use Rattle.pp_bounded_trees.proofs.Candidates.{total_within, bits_of_bool, bits_of_int}
+use Rattle.pp_bounded_trees.proofs.Candidates.{total_within}
 use Rattle.pp_bounded_unknown.proofs.Full.{AreFull_none, AreFull_push}
-use Rattle.pp_bounded_unknown.proofs.FullParts.{AreFullAlternatives_none, AreFullAlternatives_push, all_at, bit_full}
-use Rattle.pp_bounded_unknown.proofs.FullParts.{height_within, word_full}
+use Rattle.pp_bounded_unknown.proofs.FullParts.{AreFullAlternatives_none, AreFullAlternatives_push, all_at}
+use Rattle.pp_bounded_unknown.proofs.FullParts.{height_within, plain_few, plain_full}
 use Rattle.pp_bounded_unknown.proofs.FullTree.{full_node}
 use Rattle.pp_bounded_trees.proofs.Known.{Moves_same}
 use Rattle.pp_bounded_trees.proofs.Lawful.{bounded_lawful}
@@ -31,42 +33,31 @@ plus_none n = omega arith
 
 -- ---- one symbol
 
-pub full_symbol-returns-in_err-word-in-Int-clause-moves : goal.full_symbol-returns-in_err-word-in-Int-clause-moves
-full_symbol-returns-in_err-word-in-Int-clause-moves t c =
-    let size = ap (bits c.args.table.now c.args.height) c.in-Int.is ∙ bits_of_int c.args.table.now c.args.height in
-    let word = c.in_err-word-in-Int.ensures in
-    Moves_weaker _ _ _ _ _ _ 32 _
-    (Moves_grown _ _ bounded_lawful _ _ _ 32 c.requires.fits word.grows word.circuit) (omega arith)
+pub full_symbol-unknown_plain-requires-clause-room : goal.full_symbol-unknown_plain-requires-clause-room
+full_symbol-unknown_plain-requires-clause-room t c =
+    let few = plain_few c.args.table.now c.args.height c.args.sort (no_tree_is_word _ c.in_default.not-Tree) in
+    let room = c.requires.room in
+    omega arith
 
-pub full_symbol-returns-in_err-input-in-Bool-clause-moves : goal.full_symbol-returns-in_err-input-in-Bool-clause-moves
-full_symbol-returns-in_err-input-in-Bool-clause-moves t c =
-    let size = ap (bits c.args.table.now c.args.height) c.in-Bool.is ∙ bits_of_bool c.args.table.now c.args.height in
-    let input = c.in_err-input-in-Bool.ensures in
-    Moves_weaker _ _ _ _ _ _ 1 _
-    (Moves_grown _ _ bounded_lawful _ _ _ 1 c.requires.fits input.grows input.circuit) (omega arith)
+pub full_symbol-returns-in_err-plain-in_default-clause-moves :
+    goal.full_symbol-returns-in_err-plain-in_default-clause-moves
+full_symbol-returns-in_err-plain-in_default-clause-moves t c =
+    Moves_weaker _ _ _ _ _ _ (plain_gates c.args.sort) _
+    (Moves_grown _ _ bounded_lawful _ _ _ (plain_gates c.args.sort) c.requires.fits c.unknown_plain.ensures.grows
+    c.unknown_plain.ensures.circuit)
+    (plain_few c.args.table.now c.args.height c.args.sort (no_tree_is_word _ c.in_default.not-Tree))
 
-pub full_symbol-returns-in_ok-word-in-Int-clause-moves : goal.full_symbol-returns-in_ok-word-in-Int-clause-moves
-full_symbol-returns-in_ok-word-in-Int-clause-moves t c =
-    let size = ap (bits c.args.table.now c.args.height) c.in-Int.is ∙ bits_of_int c.args.table.now c.args.height in
-    let word = c.in_ok-word-in-Int.ensures in
-    Moves_weaker _ _ _ _ _ _ 32 _
-    (Moves_grown _ _ bounded_lawful _ _ _ 32 c.requires.fits word.grows word.circuit) (omega arith)
+pub full_symbol-returns-in_ok-plain-in_default-clause-moves :
+    goal.full_symbol-returns-in_ok-plain-in_default-clause-moves
+full_symbol-returns-in_ok-plain-in_default-clause-moves t c =
+    Moves_weaker _ _ _ _ _ _ (plain_gates c.args.sort) _
+    (Moves_grown _ _ bounded_lawful _ _ _ (plain_gates c.args.sort) c.requires.fits c.unknown_plain.ensures.grows
+    c.unknown_plain.ensures.circuit)
+    (plain_few c.args.table.now c.args.height c.args.sort (no_tree_is_word _ c.in_default.not-Tree))
 
-pub full_symbol-returns-in_ok-word-in-Int-clause-full : goal.full_symbol-returns-in_ok-word-in-Int-clause-full
-full_symbol-returns-in_ok-word-in-Int-clause-full t c = rw c.in-Int.is
-    (word_full _ _ _ _ _ _ c.in_ok-word-in-Int.ensures.inputs c.in_ok-word-in-Int.ensures.chosen)
-
-pub full_symbol-returns-in_ok-input-in-Bool-clause-moves : goal.full_symbol-returns-in_ok-input-in-Bool-clause-moves
-full_symbol-returns-in_ok-input-in-Bool-clause-moves t c =
-    let size = ap (bits c.args.table.now c.args.height) c.in-Bool.is ∙ bits_of_bool c.args.table.now c.args.height in
-    let input = c.in_ok-input-in-Bool.ensures in
-    Moves_weaker _ _ _ _ _ _ 1 _
-    (Moves_grown _ _ bounded_lawful _ _ _ 1 c.requires.fits input.grows input.circuit) (omega arith)
-
-pub full_symbol-returns-in_ok-input-in-Bool-clause-full : goal.full_symbol-returns-in_ok-input-in-Bool-clause-full
-full_symbol-returns-in_ok-input-in-Bool-clause-full t c =
-    let input = c.in_ok-input-in-Bool.ensures in
-    rw c.in-Bool.is (bit_full _ _ _ _ _ _ input.grows input.circuit input.of input.input input.var input.value)
+pub full_symbol-returns-in_ok-plain-in_default-clause-full : goal.full_symbol-returns-in_ok-plain-in_default-clause-full
+full_symbol-returns-in_ok-plain-in_default-clause-full t c =
+    plain_full _ _ _ _ _ _ _ (no_tree_is_word _ c.in_default.not-Tree) c.in_ok-plain-in_default.ensures.unknown
 
 -- ---- fields
 

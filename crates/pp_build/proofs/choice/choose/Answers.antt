@@ -29,7 +29,8 @@ returns-clause-moves g c =
 
 pub returns-clause-performs : goal.returns-clause-performs
 returns-clause-performs g c =
-    choice_performed _ _ g.met.D.Domain.lawful _ _ _ c.requires.fits _ _ _ c.choose.ensures.moves c.choose.ensures.looks _ _ _ _ _ _ _
+    choice_performed _ _ g.met.D.Domain.lawful _ _ _ c.requires.fits _ _ _ c.choose.ensures.moves
+    c.choose.ensures.looks _ _ _ _ _ _ _
     c.literal-choice.ensures c.register-left.ensures c.register-right.ensures c.in_ok-chosen.ensures.answer
 
 pub returns-in_err-chosen-clause-words : goal.returns-in_err-chosen-clause-words

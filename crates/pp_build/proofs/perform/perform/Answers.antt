@@ -129,7 +129,8 @@ returns-in_ok-chosen-in-Choose-clause-performs g c = rw c.in-Choose.is c.in_ok-c
 
 pub returns-in_ok-made-in-Unary-clause-performs : goal.returns-in_ok-made-in-Unary-clause-performs
 returns-in_ok-made-in-Unary-clause-performs g c = rw c.in-Unary.is
-    (unary_performed _ _ _ _ _ _ _ _ _ _ _ c.in_ok-made-in-Unary.ensures.moves _ c.register-operand.ensures c.in_ok-made-in-Unary.ensures.answer)
+    (unary_performed _ _ _ _ _ _ _ _ _ _ _ c.in_ok-made-in-Unary.ensures.moves _ c.register-operand.ensures
+    c.in_ok-made-in-Unary.ensures.answer)
 
 pub returns-in_ok-made-in-Binary-clause-moves : goal.returns-in_ok-made-in-Binary-clause-moves
 returns-in_ok-made-in-Binary-clause-moves g c = rw c.in-Binary.is

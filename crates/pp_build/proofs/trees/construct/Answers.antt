@@ -32,4 +32,5 @@ returns-clause-moves g c =
 
 pub returns-clause-performs : goal.returns-clause-performs
 returns-clause-performs g c =
-    construct_performed _ _ _ _ _ _ _ _ c.construct.ensures.moves _ _ _ _ c.in_ok-symbols.ensures c.in_ok-tree.ensures.answer
+    construct_performed _ _ _ _ _ _ _ _ c.construct.ensures.moves _ _ _ _ c.in_ok-symbols.ensures
+    c.in_ok-tree.ensures.answer

@@ -1,6 +1,6 @@
 use Rattle.std.proofs.Common.{sym}
 use Rattle.pp_build.proofs.Operands.{not_other, tree_of}
-use Rattle.pp_build.proofs.Performing.{leaves_by, room_for}
+use Rattle.pp_build.proofs.Performing.{look_leaves, look_room}
 use Rattle.pp_build.proofs.TreeSteps.{ctor_field_count, ctor_field_performed, has_field}
 use Rattle.pp_build.proofs.trees.ctor_field.Goals as goal
 
@@ -30,12 +30,15 @@ returns-in_default g c =
     c.in_default.not-Tree)
 
 pub field-requires-clause-room : goal.field-requires-clause-room
-field-requires-clause-room g c = room_for _ _ _ _ _ _ _ (ctor_field_count _ _ _ _ _ _ _ _ _ c.in-Tree.ensures) c.requires.can
+field-requires-clause-room g c =
+    look_room _ _ _ _ _ _ _ _ c.in-Tree.ensures (ctor_field_count _ _ _ _ _ _ _ _ _ c.in-Tree.ensures) c.requires.can
 
 pub returns-in_err-field-in-Tree-clause-moves : goal.returns-in_err-field-in-Tree-clause-moves
 returns-in_err-field-in-Tree-clause-moves g c =
-    leaves_by _ _ _ _ _ _ _ _ _ (ctor_field_count _ _ _ _ _ _ _ _ _ c.in-Tree.ensures) c.in_err-field-in-Tree.ensures.moves
+    look_leaves _ _ _ _ _ _ _ _ c.in-Tree.ensures (ctor_field_count _ _ _ _ _ _ _ _ _ c.in-Tree.ensures) _ _
+    c.in_err-field-in-Tree.ensures.moves c.in_err-field-in-Tree.ensures.still
 
 pub returns-in_ok-field-in-Tree-clause-moves : goal.returns-in_ok-field-in-Tree-clause-moves
 returns-in_ok-field-in-Tree-clause-moves g c =
-    leaves_by _ _ _ _ _ _ _ _ _ (ctor_field_count _ _ _ _ _ _ _ _ _ c.in-Tree.ensures) c.in_ok-field-in-Tree.ensures.moves
+    look_leaves _ _ _ _ _ _ _ _ c.in-Tree.ensures (ctor_field_count _ _ _ _ _ _ _ _ _ c.in-Tree.ensures) _ _
+    c.in_ok-field-in-Tree.ensures.moves c.in_ok-field-in-Tree.ensures.still

@@ -1,6 +1,6 @@
 use Rattle.std.proofs.Common.{sym}
 use Rattle.pp_build.proofs.Operands.{not_other, tree_of}
-use Rattle.pp_build.proofs.Performing.{leaves_by, room_for}
+use Rattle.pp_build.proofs.Performing.{look_leaves, look_room}
 use Rattle.pp_build.proofs.TreeSteps.{test_count, test_performed}
 use Rattle.pp_build.proofs.trees.has_ctor.Goals as goal
 
@@ -17,7 +17,8 @@ is_ctor-requires-clause-ctor g c =
 
 pub returns-in_ok-has-in-Tree-clause-performs : goal.returns-in_ok-has-in-Tree-clause-performs
 returns-in_ok-has-in-Tree-clause-performs g c =
-    test_performed _ _ _ _ _ _ _ _ c.in_ok-has-in-Tree.ensures.moves _ _ _ _ _ c.in-Tree.ensures c.in_ok-has-in-Tree.ensures.answer
+    test_performed _ _ _ _ _ _ _ _ c.in_ok-has-in-Tree.ensures.moves _ _ _ _ _ c.in-Tree.ensures
+    c.in_ok-has-in-Tree.ensures.answer
 
 pub returns-in_default : goal.returns-in_default
 returns-in_default g c =
@@ -26,12 +27,15 @@ returns-in_default g c =
     c.in_default.not-Tree)
 
 pub is_ctor-requires-clause-room : goal.is_ctor-requires-clause-room
-is_ctor-requires-clause-room g c = room_for _ _ _ _ _ _ _ (test_count _ _ _ _ _ _ _ _ _ c.in-Tree.ensures) c.requires.can
+is_ctor-requires-clause-room g c =
+    look_room _ _ _ _ _ _ _ _ c.in-Tree.ensures (test_count _ _ _ _ _ _ _ _ _ c.in-Tree.ensures) c.requires.can
 
 pub returns-in_err-has-in-Tree-clause-moves : goal.returns-in_err-has-in-Tree-clause-moves
 returns-in_err-has-in-Tree-clause-moves g c =
-    leaves_by _ _ _ _ _ _ _ _ _ (test_count _ _ _ _ _ _ _ _ _ c.in-Tree.ensures) c.in_err-has-in-Tree.ensures.moves
+    look_leaves _ _ _ _ _ _ _ _ c.in-Tree.ensures (test_count _ _ _ _ _ _ _ _ _ c.in-Tree.ensures) _ _
+    c.in_err-has-in-Tree.ensures.moves c.in_err-has-in-Tree.ensures.still
 
 pub returns-in_ok-has-in-Tree-clause-moves : goal.returns-in_ok-has-in-Tree-clause-moves
 returns-in_ok-has-in-Tree-clause-moves g c =
-    leaves_by _ _ _ _ _ _ _ _ _ (test_count _ _ _ _ _ _ _ _ _ c.in-Tree.ensures) c.in_ok-has-in-Tree.ensures.moves
+    look_leaves _ _ _ _ _ _ _ _ c.in-Tree.ensures (test_count _ _ _ _ _ _ _ _ _ c.in-Tree.ensures) _ _
+    c.in_ok-has-in-Tree.ensures.moves c.in_ok-has-in-Tree.ensures.still

@@ -10,15 +10,15 @@ loop-param-preserved g c =
     opened_turn _ _ _ _ _ _ _ _ _ _ _ c.loop-param.invariant c.loop-param-test.true c.param-item.is _ _ _ _
     c.requires.depth c.in_ok-symbol.ensures.moves c.in_ok-symbol.ensures.answer c.in_ok-push.ensures.ok
 
-pub unknown_symbol-requires-clause-fits : goal.unknown_symbol-requires-clause-fits
-unknown_symbol-requires-clause-fits g c = c.loop-param.invariant.moves.fits
+pub unknown-requires-clause-fits : goal.unknown-requires-clause-fits
+unknown-requires-clause-fits g c = c.loop-param.invariant.moves.fits
 
-pub unknown_symbol-requires-clause-sort : goal.unknown_symbol-requires-clause-sort
-unknown_symbol-requires-clause-sort g c =
+pub unknown-requires-clause-sort : goal.unknown-requires-clause-sort
+unknown-requires-clause-sort g c =
     opened_sort _ _ _ _ _ _ _ _ _ _ _ c.loop-param.invariant c.loop-param-test.true c.param-item.is c.requires.sorts
 
-pub unknown_symbol-requires-clause-room : goal.unknown_symbol-requires-clause-room
-unknown_symbol-requires-clause-room g c =
+pub unknown-requires-clause-room : goal.unknown-requires-clause-room
+unknown-requires-clause-room g c =
     opened_room _ _ _ _ _ _ _ _ _ _ _ c.loop-param.invariant c.loop-param-test.true c.param-item.is c.requires.room
 
 pub returns-in_err-symbol-clause-moves : goal.returns-in_err-symbol-clause-moves

@@ -1,6 +1,6 @@
 use Rattle.std.proofs.Common.{◌≡◌, ◌++◌, drop, map}
 use Rattle.pp_prog.specs.Calls.{joined}
-use Rattle.pp_checks.specs.Plain.{Marking, marks_of}
+use Rattle.pp_checks.specs.Marks.{Marking, marks_of}
 use Rattle.pp_checks.proofs.plain.+add_marks.Given as goal
 
 abbrev pub invariant-loop-p : goal.invariant-loop-p

@@ -1,5 +1,5 @@
 use Rattle.std.proofs.Common.{◌≡◌, ◌++◌, drop, map}
-use Rattle.pp_checks.specs.Plain.{descents_in_case, in_all, in_cases, seen}
+use Rattle.pp_checks.specs.Marks.{descents_in_case, in_all, in_cases, seen}
 use Rattle.pp_checks.proofs.plain.+descents.Given as goal
 
 abbrev pub invariant-add_all-loop-e : goal.invariant-add_all-loop-e

@@ -1,6 +1,6 @@
 use Rattle.std.proofs.Common.{map, sym, ap, ◌∙◌}
-use Rattle.pp_checks.specs.Plain.{goes_down, is_inside, seen}
-use Rattle.pp_checks.proofs.Descending.{goes_down_at}
+use Rattle.pp_checks.specs.Marks.{goes_down, is_inside, seen}
+use Rattle.pp_checks.proofs.Listed.{goes_down_at}
 use Rattle.pp_checks.proofs.plain.goes_down.Goals as goal
 
 pub returns-in-Some-at : goal.returns-in-Some-at

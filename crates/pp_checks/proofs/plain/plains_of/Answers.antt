@@ -1,6 +1,5 @@
 use Rattle.std.proofs.Common.{◌∙◌, sym, subst}
-use Rattle.pp_checks.specs.Tables.{MarkPlain}
-use Rattle.pp_checks.proofs.Descending.{all_plain, more_plain, none_plain}
+use Rattle.pp_checks.proofs.Descending.{MarkPlain, all_plain, more_plain, none_plain}
 use Rattle.pp_checks.proofs.plain.plains_of.Goals as goal
 
 pub loop-f-init : goal.loop-f-init

@@ -1,4 +1,4 @@
-use Rattle.pp_checks.specs.Tables.{MarkPlain}
+use Rattle.pp_checks.proofs.Descending.{MarkPlain}
 use Rattle.pp_checks.proofs.plain.plains_of.Given as goal
 
 abbrev pub invariant-loop-f : goal.invariant-loop-f

@@ -1,4 +1,4 @@
-use Rattle.std.proofs.Common.{rules, ◌≡◌, ap, sym, ◌∙◌, arith, map, true, false, length}
+use Rattle.std.proofs.Common.{◌≡◌, ap, sym, ◌∙◌, arith, true, false}
 use Rattle.std.specs.Prelude.{nat_eq}
 use Rattle.pp_generic.specs.declared.expected.Expected.TheVariants as expected
 use Rattle.pp_typed.specs.declared.sort.GenericSort.TheVariants as sort

@@ -1,4 +1,4 @@
-use Rattle.std.proofs.Common.{rules, ◌≡◌, ap, sym, ◌∙◌, arith, map, true}
+use Rattle.std.proofs.Common.{◌≡◌, ap, sym, ◌∙◌, arith, map, true}
 use Rattle.std.specs.Prelude.{nat_eq}
 use Rattle.pp_generic.specs.Found.{learn, learn_all}
 use Rattle.pp_generic.proofs.Ends.{learn_rest, learn_roots}

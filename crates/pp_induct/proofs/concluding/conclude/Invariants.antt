@@ -1,4 +1,4 @@
-use Rattle.pp_induct.specs.Verdicts.{AreVerdictsTo}
+use Rattle.pp_induct.proofs.Firsts.{AreVerdictsTo}
 use Rattle.pp_induct.proofs.concluding.conclude.Given as goal
 
 abbrev pub invariant-loop-f : goal.invariant-loop-f

@@ -1,4 +1,4 @@
-use Rattle.pp_induct.specs.Verdicts.{MarkUndone}
+use Rattle.pp_induct.specs.Concluding.{MarkUndone}
 use Rattle.pp_induct.proofs.concluding.undone_functions.Given as goal
 
 abbrev pub invariant-loop-f : goal.invariant-loop-f

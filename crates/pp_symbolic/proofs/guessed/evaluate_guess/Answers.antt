@@ -12,10 +12,10 @@ build-requires-clause-can g c =
     c.new-registers.ensures
 
 pub returns-in_err-build-clause-moves : goal.returns-in_err-build-clause-moves
-returns-in_err-build-clause-moves g c =
-    let later = later_at _ _ c.requires.inexact _ _ c.requires.fresh _ _ c.requires.can _ c.as_slice.ensures _
+returns-in_err-build-clause-moves g c = λ can.
+    let later = later_at _ _ c.requires.inexact _ _ c.requires.fresh _ _ can _ c.as_slice.ensures _
     c.new-registers.ensures _ _ c.build.ensures.moves in
-    built_moves _ _ c.requires.inexact _ _ c.requires.fresh _ _ c.requires.can _ _ later
+    built_moves _ _ c.requires.inexact _ _ c.requires.fresh _ _ can _ _ later
 
 pub all_true-requires-clause-circuit : goal.all_true-requires-clause-circuit
 all_true-requires-clause-circuit g c =
@@ -46,21 +46,12 @@ all_true-requires-clause-room g c =
     omega (arith, room, same)
 
 pub returns-in_err-circuit_ok-clause-moves : goal.returns-in_err-circuit_ok-clause-moves
-returns-in_err-circuit_ok-clause-moves g c =
-    let later = later_at _ _ c.requires.inexact _ _ c.requires.fresh _ _ c.requires.can _ c.as_slice.ensures _
+returns-in_err-circuit_ok-clause-moves g c = λ can.
+    let later = later_at _ _ c.requires.inexact _ _ c.requires.fresh _ _ can _ c.as_slice.ensures _
     c.new-registers.ensures _ _ c.build.ensures.moves in
-    let built = built_at _ _ c.requires.inexact _ _ c.requires.fresh _ _ c.requires.can _ c.as_slice.ensures _
+    let built = built_at _ _ c.requires.inexact _ _ c.requires.fresh _ _ can _ c.as_slice.ensures _
     c.new-registers.ensures _ _ _ c.in_ok-build.ensures.built in
-    all_moves _ _ c.requires.inexact _ _ c.requires.fresh _ _ c.requires.can _ _ later _ built g.met.D.Domain.lawful _
-    c.as_slice-2.ensures _ c.all_true.ensures.adds
-
-pub returns-then-gates-most-clause-moves : goal.returns-then-gates-most-clause-moves
-returns-then-gates-most-clause-moves g c =
-    let later = later_at _ _ c.requires.inexact _ _ c.requires.fresh _ _ c.requires.can _ c.as_slice.ensures _
-    c.new-registers.ensures _ _ c.build.ensures.moves in
-    let built = built_at _ _ c.requires.inexact _ _ c.requires.fresh _ _ c.requires.can _ c.as_slice.ensures _
-    c.new-registers.ensures _ _ _ c.in_ok-build.ensures.built in
-    all_moves _ _ c.requires.inexact _ _ c.requires.fresh _ _ c.requires.can _ _ later _ built g.met.D.Domain.lawful _
+    all_moves _ _ c.requires.inexact _ _ c.requires.fresh _ _ can _ _ later _ built g.met.D.Domain.lawful _
     c.as_slice-2.ensures _ c.all_true.ensures.adds
 
 pub slice_bounds-from_slice-end : goal.slice_bounds-from_slice-end
@@ -75,21 +66,21 @@ slice_bounds-from_slice-end g c =
     sym (length-take-le (length c.args.params.now) c.as_slice-3.result.now (omega (arith, enough, many, same)))
 
 pub returns-in_err-arguments-clause-moves : goal.returns-in_err-arguments-clause-moves
-returns-in_err-arguments-clause-moves g c =
-    let later = later_at _ _ c.requires.inexact _ _ c.requires.fresh _ _ c.requires.can _ c.as_slice.ensures _
+returns-in_err-arguments-clause-moves g c = λ can.
+    let later = later_at _ _ c.requires.inexact _ _ c.requires.fresh _ _ can _ c.as_slice.ensures _
     c.new-registers.ensures _ _ c.build.ensures.moves in
-    let built = built_at _ _ c.requires.inexact _ _ c.requires.fresh _ _ c.requires.can _ c.as_slice.ensures _
+    let built = built_at _ _ c.requires.inexact _ _ c.requires.fresh _ _ can _ c.as_slice.ensures _
     c.new-registers.ensures _ _ _ c.in_ok-build.ensures.built in
-    all_moves _ _ c.requires.inexact _ _ c.requires.fresh _ _ c.requires.can _ _ later _ built g.met.D.Domain.lawful _
+    all_moves _ _ c.requires.inexact _ _ c.requires.fresh _ _ can _ _ later _ built g.met.D.Domain.lawful _
     c.as_slice-2.ensures _ c.all_true.ensures.adds
 
 pub returns-clause-moves : goal.returns-clause-moves
-returns-clause-moves g c =
-    let later = later_at _ _ c.requires.inexact _ _ c.requires.fresh _ _ c.requires.can _ c.as_slice.ensures _
+returns-clause-moves g c = λ can.
+    let later = later_at _ _ c.requires.inexact _ _ c.requires.fresh _ _ can _ c.as_slice.ensures _
     c.new-registers.ensures _ _ c.build.ensures.moves in
-    let built = built_at _ _ c.requires.inexact _ _ c.requires.fresh _ _ c.requires.can _ c.as_slice.ensures _
+    let built = built_at _ _ c.requires.inexact _ _ c.requires.fresh _ _ can _ c.as_slice.ensures _
     c.new-registers.ensures _ _ _ c.in_ok-build.ensures.built in
-    all_moves _ _ c.requires.inexact _ _ c.requires.fresh _ _ c.requires.can _ _ later _ built g.met.D.Domain.lawful _
+    all_moves _ _ c.requires.inexact _ _ c.requires.fresh _ _ can _ _ later _ built g.met.D.Domain.lawful _
     c.as_slice-2.ensures _ c.all_true.ensures.adds
 
 pub returns-clause-guessed : goal.returns-clause-guessed

@@ -1,5 +1,5 @@
 use Rattle.pp_translate.specs.Target.{setting}
-use Rattle.pp_translate.proofs.Conditions.{is_no_post, is_post}
+use Rattle.pp_translate.proofs.Post.{is_no_post, is_post}
 use Rattle.pp_translate.proofs.functions.post_of.Goals as goal
 
 pub returns-in-None : goal.returns-in-None

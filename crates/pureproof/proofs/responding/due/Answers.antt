@@ -3,6 +3,7 @@ use Rattle.std.proofs.lemmas.List.{length-map}
 use Rattle.pp_modes.proofs.Asked.{if_ok}
 use Rattle.pp_words.specs.Told.{line_told, texts}
 use Rattle.pp_modes.proofs.Ranges.{line_fits}
+use Rattle.pureproof.proofs.Held.{asks_nothing}
 use Rattle.pureproof.specs.Dues.{IsDue, no_line}
 use Rattle.pureproof.specs.Fetched.{told}
 use Rattle.pureproof.proofs.responding.due.Goals as goal
@@ -21,6 +22,9 @@ due_of_files-requires-clause-few g c =
 pub returns-in-Err-Refused-clause-due : goal.returns-in-Err-Refused-clause-due
 returns-in-Err-Refused-clause-due g c =
     if_ok c.no_line.result c.no_line.ensures
-    (λ r is. subst (IsDue (texts c.args.words.now) (told g.S.Shelf.held g.S.Shelf.failed g.S.Shelf.seen c.args.shelf.now
+    (λ r is. subst (IsDue (texts c.args.words.now) (told g.S.Shelf.held g.S.Shelf.asked g.S.Shelf.failed
+    g.S.Shelf.seen c.args.shelf.now
     c.args.shelf.now))
-    (sym is) (no_line (c.read.ensures.refused (c.in-Err-Refused.is ∙ ap Err c.in-Err-Refused.field-0-is)) refl))
+    (sym is) (no_line (c.read.ensures.refused (c.in-Err-Refused.is ∙ ap Err c.in-Err-Refused.field-0-is))
+    (asks_nothing (told g.S.Shelf.held g.S.Shelf.asked g.S.Shelf.failed g.S.Shelf.seen c.args.shelf.now
+    c.args.shelf.now) refl refl)))

@@ -19,10 +19,11 @@ respond-requires-clause-few g c =
 pub returns-in-Ok-clause-due : goal.returns-in-Ok-clause-due
 returns-in-Ok-clause-due g c =
     if_ok c.respond.result c.respond.ensures
-    (λ r answers words is. due_answered words (told g.S.Shelf.held g.S.Shelf.failed g.S.Shelf.seen c.args.shelf.now
+    (λ r answers words is. due_answered words (told g.S.Shelf.held g.S.Shelf.asked g.S.Shelf.failed g.S.Shelf.seen
+    c.args.shelf.now
     c.fetch_all.new.shelf) _ is
     c.fetch_all.new.sources.items c.deref.result.now (response_of r) c.deref.ensures.value c.in-Ok.ensures.held
-    c.in-Ok.ensures.short
+    c.in-Ok.ensures.short c.in-Ok.ensures.asked
     (c.in-Ok.ensures.calm ok_err) answers)
 
 pub bounds-files-len : goal.bounds-files-len
@@ -39,14 +40,16 @@ returns-in-Err-Failed-clause-due g c =
     let files = length-map c.args.files.now (λ word. word.now) in
     let len = c.len.ensures in
     if_ok c.unread.result c.unread.ensures
-    (λ r says words is. due_unread words (told g.S.Shelf.held g.S.Shelf.failed g.S.Shelf.seen c.args.shelf.now
+    (λ r says words is. due_unread words (told g.S.Shelf.held g.S.Shelf.asked g.S.Shelf.failed g.S.Shelf.seen
+    c.args.shelf.now
     c.fetch_all.new.shelf) _ is
     c.fetch_all.new.sources.items c.args.files.now c.len.result _ (response_of r) fails refl (omega (arith, len))
     (omega (arith, less, files, len)) says)
 
 pub returns-in-Err-Failed-clause-fetched : goal.returns-in-Err-Failed-clause-fetched
 returns-in-Err-Failed-clause-fetched g c =
-    fails_file (told g.S.Shelf.held g.S.Shelf.failed g.S.Shelf.seen c.args.shelf.now c.fetch_all.new.shelf)
+    fails_file (told g.S.Shelf.held g.S.Shelf.asked g.S.Shelf.failed g.S.Shelf.seen c.args.shelf.now
+    c.fetch_all.new.shelf)
     (record { task = task_told c.args.task; files = texts c.args.files.now }) c.fetch_all.new.sources.items
     (c.in-Err-Failed.ensures.failed (ap Err c.in-Err-Failed.field-0-is))
 
@@ -71,6 +74,7 @@ returns-in-Err-TooLong-clause-due g c =
     let long = c.in-Err-TooLong.ensures.long (ap Err c.in-Err-TooLong.field-0-is) in
     let len = c.len-in-Err-TooLong.ensures in
     if_ok c.too_long.result c.too_long.ensures
-    (λ r says words is. due_too_long words (told g.S.Shelf.held g.S.Shelf.failed g.S.Shelf.seen c.args.shelf.now
+    (λ r says words is. due_too_long words (told g.S.Shelf.held g.S.Shelf.asked g.S.Shelf.failed g.S.Shelf.seen
+    c.args.shelf.now
     c.fetch_all.new.shelf) _ is
     c.fetch_all.new.sources.items _ (response_of r) long (omega (arith, len)) says)

@@ -3,45 +3,16 @@ use Rattle.pp_prog.specs.declared.sort.Sort.{Sort}
 use Rattle.pp_prog.specs.declared.sort.Sort.TheVariants as sort
 use Rattle.pp_domain.specs.declared.symbol.Symbol.TheVariants as symbol
 use Rattle.pp_bounded_trees.specs.Fields.{IsBlank}
-use Rattle.pp_bits.proofs.Growing.{IsOf_negated}
+use Rattle.pp_bounded_trees.specs.Meaning.{bounded_sense}
+use Rattle.pp_domain.proofs.UnknownSymbols.{plain_height, plain_symbol}
 use Rattle.pp_bounded_trees.proofs.Blank.{Moves_unmoved, empty_fits, field_sort_same, pushed_fits}
 use Rattle.pp_bounded_trees.proofs.Known.{Moves_same}
 use Rattle.pp_bounded_trees.proofs.Pushed.{Moves_pushed}
 use Rattle.pp_bounded_trees.proofs.arena.Trees.blank.Goals as goal
 
-pub returns-in_err-word-in-Int-clause-moves : goal.returns-in_err-word-in-Int-clause-moves
-returns-in_err-word-in-Int-clause-moves c = Moves_unmoved _ _ _ _ c.requires.fits c.in_err-word-in-Int.ensures.same
-
 pub returns-in_err-tree-in-Tree-clause-moves : goal.returns-in_err-tree-in-Tree-clause-moves
 returns-in_err-tree-in-Tree-clause-moves c =
     Moves_same _ _ _ _ c.requires.fits c.in_err-tree-in-Tree.ensures.err c.in_err-tree-in-Tree.ensures.ok
-
-pub returns-in_ok-word-in-Int-clause-moves : goal.returns-in_ok-word-in-Int-clause-moves
-returns-in_ok-word-in-Int-clause-moves c = Moves_unmoved _ _ _ _ c.requires.fits c.in_ok-word-in-Int.ensures.same
-
-pub returns-in_ok-word-in-Int-clause-answer : goal.returns-in_ok-word-in-Int-clause-answer
-returns-in_ok-word-in-Int-clause-answer c = λ s has.
-    let is : sort.Int ≡ s = sym c.in-Int.is ∙ field_sort_same c.args.table.now c.args.ctor c.args.place _ s
-    c.field_sort.ensures has in
-    subst (λ (q : Sort). IsBlank c.args.self.now c.constant.new.circuit c.args.height q
-    (symbol.Word c.in_ok-word-in-Int.word)) is
-    (record {
-      of = (c.in_ok-word-in-Int.ensures.stands.len, c.in_ok-word-in-Int.ensures.stands.of);
-      height = refl;
-    })
-
-pub returns-in-Bool-clause-moves : goal.returns-in-Bool-clause-moves
-returns-in-Bool-clause-moves c = Moves_unmoved _ _ _ _ c.requires.fits refl
-
-pub returns-in-Bool-clause-answer : goal.returns-in-Bool-clause-answer
-returns-in-Bool-clause-answer c = λ s has.
-    let is : sort.Bool ≡ s = sym c.in-Bool.is ∙ field_sort_same c.args.table.now c.args.ctor c.args.place _ s
-    c.field_sort.ensures has in
-    subst (λ (q : Sort). IsBlank c.args.self.now c.args.circuit.now c.args.height q (symbol.Bit c.negated.result)) is
-    (record {
-      of = IsOf_negated _ _ _ c.negated.ensures c.truth.ensures.stands.of;
-      height = refl;
-    })
 
 pub returns-in_ok-tree-in-Tree-clause-moves : goal.returns-in_ok-tree-in-Tree-clause-moves
 returns-in_ok-tree-in-Tree-clause-moves c =
@@ -51,7 +22,7 @@ returns-in_ok-tree-in-Tree-clause-moves c =
 pub returns-in_ok-tree-in-Tree-clause-answer : goal.returns-in_ok-tree-in-Tree-clause-answer
 returns-in_ok-tree-in-Tree-clause-answer c = λ s has.
     let is : sort.Tree c.in-Tree.of ≡ s = sym c.in-Tree.is ∙ field_sort_same c.args.table.now c.args.ctor
-    c.args.place _ s c.field_sort.ensures has in
+    c.args.place _ s c.field_sort-sort.ensures has in
     let tree = c.in_ok-tree-in-Tree.ensures in
     subst (λ (q : Sort). IsBlank c.push.new.self c.args.circuit.now c.args.height q
     (symbol.Tree c.in_ok-tree-in-Tree.tree)) is
@@ -61,4 +32,21 @@ returns-in_ok-tree-in-Tree-clause-answer c = λ s has.
         tree.of,
       );
       height = tree.height;
+    })
+
+pub returns-in_err-plain-in_default-clause-moves : goal.returns-in_err-plain-in_default-clause-moves
+returns-in_err-plain-in_default-clause-moves c = Moves_unmoved _ _ _ _ c.requires.fits refl
+
+pub returns-in_ok-plain-in_default-clause-moves : goal.returns-in_ok-plain-in_default-clause-moves
+returns-in_ok-plain-in_default-clause-moves c = Moves_unmoved _ _ _ _ c.requires.fits refl
+
+pub returns-in_ok-plain-in_default-clause-answer : goal.returns-in_ok-plain-in_default-clause-answer
+returns-in_ok-plain-in_default-clause-answer c = λ s has.
+    let is : c.field_sort-sort.result ≡ s = field_sort_same c.args.table.now c.args.ctor c.args.place _ s
+    c.field_sort-sort.ensures has in
+    let plain = c.in_ok-plain-in_default.ensures.blank.of in
+    subst (λ (q : Sort). IsBlank c.args.self.now c.args.circuit.now c.args.height q c.in_ok-plain-in_default.plain) is
+    (record {
+      of = plain_symbol bounded_sense c.args.self.now _ _ _ plain;
+      height = plain_height bounded_sense c.args.self.now _ _ _ _ plain;
     })

@@ -1,4 +1,4 @@
-use Rattle.std.proofs.Common.{◌≡◌, ◌∙◌, List, Option, ℕ, slice_get, ap, sym}
+use Rattle.std.proofs.Common.{◌∙◌, List, Option, ℕ, slice_get, ap, sym}
 use Rattle.pp_checks.specs.Plan.{Plan}
 use Rattle.pp_checks.specs.Tables.{is_at_most}
 use Rattle.pp_checks.proofs.Plans.{nested_told}

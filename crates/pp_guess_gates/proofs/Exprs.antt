@@ -1,0 +1,198 @@
+-- Expressions: their steps weigh at most what their visits are worth, where those of calls do.
+use Rattle.std.proofs.Common.{ℕ, List, [], ◌∷◌, map, Option, Some, None, refl, sym, ◌∙◌, subst, arith}
+use Rattle.std.proofs.lemmas.Option.{same_Some}
+use Rattle.pp_prog.specs.declared.expr.Case.{Case}
+use Rattle.pp_prog.specs.declared.expr.Expr.{Expr}
+use Rattle.pp_prog.specs.declared.expr.Expr.TheFolds.{fold-Case, fold-roll-Case, fold-roll-Expr, ind-Expr, map-Case}
+use Rattle.pp_prog.specs.declared.expr.Expr.TheFolds.{map-Expr}
+use Rattle.pp_prog.specs.declared.expr.Expr.TheOpen as layer
+use Rattle.pp_prog.specs.declared.expr.Expr.TheViews.{roll-Case, roll-Expr}
+use Rattle.pp_prog.specs.declared.expr.Pattern.{Pattern}
+use Rattle.pp_prog.specs.declared.id.CheckId.{CheckId}
+use Rattle.pp_prog.specs.declared.program.Program.{Program}
+use Rattle.pp_prog.specs.declared.sort.Sort.TheVariants as sort
+use Rattle.pp_prog.specs.ExprSorts as sorts
+use Rattle.pp_prog.specs.ExprSorts.{Sorting, sort_of, sort_step}
+use Rattle.pp_prog.specs.Sorts.{is_int}
+use Rattle.pp_estimate.specs.declared.shape.Shape.{Shape}
+use Rattle.pp_estimate.specs.Visits as visits
+use Rattle.pp_estimate.specs.Visits.{Calls, Visiting, node, shape, shape_at, visit, visit_case, visit_of, visit_step}
+use Rattle.pp_prog.proofs.PartSorts.{sort_there}
+use Rattle.pp_steps.specs.declared.step.OpenCall.{OpenCall}
+use Rattle.pp_steps.specs.declared.step.Step.TheVariants as steps
+use Rattle.pp_steps.specs.Compile.{Arm, Compiling, Site, arm, arm_step, compile, compile_step, one}
+use Rattle.pp_steps.specs.Piece.{plain}
+use Rattle.pp_steps.specs.Sorted.{Sorts}
+use Rattle.pp_guess_gates.proofs.Cases.{AllArms, ArmCovers, match_covers}
+use Rattle.pp_guess_gates.proofs.Forms.{assert_covers, if_covers, unary_covers, val_covers}
+use Rattle.pp_guess_gates.proofs.Lists.{AllCover, Answers, call_covers, construct_covers, field_covers}
+use Rattle.pp_guess_gates.proofs.Operators.{binary_covers}
+use Rattle.pp_guess_gates.proofs.Pieces.{Is, one_light, plain_light}
+use Rattle.pp_guess_gates.proofs.Prices.{Prices}
+use Rattle.pp_guess_gates.proofs.Scopes.{Covers, are_at, covered}
+
+module _ (p : Program) (σ : Sorts) (ψ : Prices) (left : OpenCall → ℕ) where
+  module _ (old : List Shape) (asked : Option CheckId) (site : Site) (calls : Calls)
+      (its : Answers p.types σ ψ left old p.functions site calls) where
+    abbrev C : Compiling → Visiting → Sorting → Type 0
+    C = Covers p.types σ ψ left old
+
+    abbrev compiled : Expr → Compiling
+    compiled = compile asked site
+
+    abbrev visited : Expr → Visiting
+    visited = visit_of p.types calls
+
+    abbrev sorted : Expr → Sorting
+    sorted = sort_of p.types p.functions
+
+    abbrev compiled_arm : Case → Arm
+    compiled_arm = arm asked site
+
+    abbrev visited_arm : Case → visits.Arm
+    visited_arm = visit_case p.types calls
+
+    abbrev sorted_arm : Case → sorts.Arm
+    sorted_arm = fold-Case Sorting sorts.Arm (sort_step p.types p.functions) sorts.arm_step
+
+    abbrev P : Expr → Type 0
+    P e = C (compiled e) (visited e) (sorted e)
+
+    abbrev Q : Case → Type 0
+    Q k = ArmCovers p σ ψ left old (compiled_arm k) (visited_arm k) (sorted_arm k)
+
+    abbrev E : Type 0
+    E = (e : Expr) × P e
+
+    abbrev K : Type 0
+    K = (k : Case) × Q k
+
+    abbrev exprs : List E → List Expr
+    exprs ys = map (λ z. z.0) ys
+
+    abbrev cases : List K → List Case
+    cases ys = map (λ z. z.0) ys
+
+    all_cover : (ys : List E)
+        → AllCover p.types σ ψ left old (map compiled (exprs ys)) (map visited (exprs ys)) (map sorted (exprs ys))
+    all_cover [] = tt
+    all_cover (y ∷ ys) = (y.1, all_cover ys)
+
+    arms_cover : (ys : List K)
+        → AllArms p σ ψ left old (map compiled_arm (cases ys)) (map visited_arm (cases ys)) (map sorted_arm (cases ys))
+    arms_cover [] = tt
+    arms_cover (y ∷ ys) = (y.1, arms_cover ys)
+
+    abbrev under : layer.Expr-F E K → layer.Expr-F Expr Case
+    under y = map-Expr E K Expr Case (λ z. z.0) (λ z. z.0) y
+
+    abbrev compiled_level : layer.Expr-F Expr Case → Compiling
+    compiled_level z = compile_step asked site (map-Expr Expr Case Compiling Arm compiled compiled_arm z)
+
+    abbrev visited_level : layer.Expr-F Expr Case → Visiting
+    visited_level z = visit_step p.types calls (map-Expr Expr Case Visiting visits.Arm visited visited_arm z)
+
+    abbrev sorted_level : layer.Expr-F Expr Case → Sorting
+    sorted_level z = sort_step p.types p.functions (map-Expr Expr Case Sorting sorts.Arm sorted sorted_arm z)
+
+    level : (y : layer.Expr-F E K) → C (compiled_level (under y)) (visited_level (under y)) (sorted_level (under y))
+    level (layer.Int n) k env reach shapes scope s are r h m =
+        let same = sort_there (is_int n) sort.Int s h in
+        covered p.types σ ψ left k (one (steps.Int n) k reach) s (visit (shape sort.Int 0) (node 0)) 1 same.1
+        (one_light p.types σ ψ left (Is p.types σ ψ left s) (steps.Int n) k reach (m.0.0 ∙ same.1) r) (omega arith)
+    level (layer.Bool b) k env reach shapes scope s are r h m =
+        let same = same_Some sort.Bool s h in
+        covered p.types σ ψ left k (one (steps.Bool b) k reach) s (visit (shape sort.Bool 0) (node 0)) 1 same
+        (one_light p.types σ ψ left (Is p.types σ ψ left s) (steps.Bool b) k reach (m.0 ∙ same) r) (omega arith)
+    level (layer.Var i) k env reach shapes scope s are r h m =
+        let x = are_at σ env shapes scope i s are h in
+        covered p.types σ ψ left k (plain [] _ reach) s (visit (shape_at shapes i) (node 0)) 0 x.shape
+        (plain_light p.types σ ψ left (Is p.types σ ψ left s) k _ reach x.has r) (omega arith)
+    level (layer.Unary op a) k env reach shapes scope s are r h m =
+        unary_covers p.types σ ψ left old op (compiled a.0) (visited a.0) (sorted a.0) a.1
+        k env reach shapes scope s are r h m
+    level (layer.Binary op a b check) k env reach shapes scope s are r h m =
+        binary_covers p.types σ ψ left old asked op check (compiled a.0) (compiled b.0) (visited a.0) (visited b.0)
+        (sorted a.0) (sorted b.0) a.1 b.1 k env reach shapes scope s are r h m
+    level (layer.Construct c args) k env reach shapes scope s are r h m =
+        construct_covers p.types σ ψ left old c (map compiled (exprs args)) (map visited (exprs args))
+        (map sorted (exprs args)) (all_cover args) k env reach shapes scope s are r h m
+    level (layer.Field x i) k env reach shapes scope s are r h m =
+        field_covers p.types σ ψ left old p.functions i (compiled x.0) (visited x.0) (sorted x.0) x.1
+        k env reach shapes scope s are r h m
+    level (layer.If t a b) k env reach shapes scope s are r h m =
+        if_covers p.types σ ψ left old (compiled t.0) (compiled a.0) (compiled b.0) (visited t.0) (visited a.0)
+        (visited b.0) (sorted t.0) (sorted a.0) (sorted b.0) t.1 a.1 b.1 k env reach shapes scope s are r h m
+    level (layer.Match x ys check) k env reach shapes scope s are r h m =
+        match_covers p σ ψ left old asked (compiled x.0) (visited x.0) (sorted x.0) x.1 (map compiled_arm (cases ys))
+        (map visited_arm (cases ys)) (map sorted_arm (cases ys)) (arms_cover ys) check
+        k env reach shapes scope s are r h m
+    level (layer.Val a b) k env reach shapes scope s are r h m =
+        val_covers p.types σ ψ left old (compiled a.0) (compiled b.0) (visited a.0) (visited b.0) (sorted a.0)
+        (sorted b.0) a.1 b.1 k env reach shapes scope s are r h m
+    level (layer.Assert check t b) k env reach shapes scope s are r h m =
+        assert_covers p.types σ ψ left old asked (Some check) (compiled t.0) (compiled b.0) (visited t.0) (visited b.0)
+        (sorted t.0) (sorted b.0) t.1 b.1 k env reach shapes scope s are r h m
+    level (layer.Call g args pre down) k env reach shapes scope s are r h m =
+        call_covers p.types σ ψ left old p.functions site calls its g pre down (map compiled (exprs args))
+        (map visited (exprs args)) (map sorted (exprs args)) (all_cover args) k env reach shapes scope s are r h m
+
+    at_level : (y : layer.Expr-F E K) → P (roll-Expr (under y))
+    at_level y =
+        let z = under y in
+        subst (λ (m : Compiling). C m (visited (roll-Expr z)) (sorted (roll-Expr z)))
+        (sym (fold-roll-Expr Compiling Arm (compile_step asked site) arm_step z))
+        (subst (λ (v : Visiting). C (compiled_level z) v (sorted (roll-Expr z)))
+        (sym (fold-roll-Expr Visiting visits.Arm (visit_step p.types calls) (visits.arm_step p.types) z))
+        (subst (λ (t : Sorting). C (compiled_level z) (visited_level z) t)
+        (sym (fold-roll-Expr Sorting sorts.Arm (sort_step p.types p.functions) sorts.arm_step z)) (level y)))
+
+    abbrev compiled_parts : layer.Case-F Expr Case → Arm
+    compiled_parts z = arm_step (map-Case Expr Case Compiling Arm compiled compiled_arm z)
+
+    abbrev visited_parts : layer.Case-F Expr Case → visits.Arm
+    visited_parts z = visits.arm_step p.types (map-Case Expr Case Visiting visits.Arm visited visited_arm z)
+
+    abbrev sorted_parts : layer.Case-F Expr Case → sorts.Arm
+    sorted_parts z = sorts.arm_step (map-Case Expr Case Sorting sorts.Arm sorted sorted_arm z)
+
+    at_parts : (q : Pattern) (o : Option E) (b : E) → let y : layer.Case-F E K =
+        record { pattern = q; guard = o; body = b } in
+        let z = map-Case E K Expr Case (λ w. w.0) (λ w. w.0) y in
+        ArmCovers p σ ψ left old (compiled_parts z) (visited_parts z) (sorted_parts z)
+    at_parts q None b = record {
+      guard = None;
+      body = visited b.0;
+      visit_is = refl;
+      pattern_is = refl;
+      guard_covers = tt;
+      body_covers = b.1;
+    }
+    at_parts q (Some e) b = record {
+      guard = Some (visited e.0);
+      body = visited b.0;
+      visit_is = refl;
+      pattern_is = refl;
+      guard_covers = e.1;
+      body_covers = b.1;
+    }
+
+    at_case : (y : layer.Case-F E K) → Q (roll-Case (map-Case E K Expr Case (λ z. z.0) (λ z. z.0) y))
+    at_case y =
+        let z = map-Case E K Expr Case (λ w. w.0) (λ w. w.0) y in
+        subst (λ (a : Arm). ArmCovers p σ ψ left old a (visited_arm (roll-Case z)) (sorted_arm (roll-Case z)))
+        (sym (fold-roll-Case Compiling Arm (compile_step asked site) arm_step z))
+        (subst (λ (w : visits.Arm). ArmCovers p σ ψ left old (compiled_parts z) w (sorted_arm (roll-Case z)))
+        (sym (fold-roll-Case Visiting visits.Arm (visit_step p.types calls) (visits.arm_step p.types) z))
+        (subst (λ (t : sorts.Arm). ArmCovers p σ ψ left old (compiled_parts z) (visited_parts z) t)
+        (sym (fold-roll-Case Sorting sorts.Arm (sort_step p.types p.functions) sorts.arm_step z))
+        (at_parts y.pattern y.guard y.body)))
+
+    pub expr_covers : (e : Expr) → C (compiled e) (visited e) (sorted e)
+    expr_covers = ind-Expr P Q (λ x y is. subst (λ z. P (roll-Expr z)) is (at_level y))
+        (λ x y is. subst (λ z. Q (roll-Case z)) is (at_case y))
+
+    pub list_covers : (es : List Expr)
+        → AllCover p.types σ ψ left old (map compiled es) (map visited es) (map sorted es)
+    list_covers [] = tt
+    list_covers (e ∷ es) = (expr_covers e, list_covers es)
