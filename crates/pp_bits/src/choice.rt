@@ -17,7 +17,6 @@ pub(crate) fn no_digits(circuit: &Circuit, width: usize) -> Result<Vec<Lit>, NoM
     ensures items { IfOk result (λ r. r.items ≡ []) }
     ensures circuit { IsCircuit circuit.now }
 {
-    let _gates = circuit.gates();
     let digits = Vec::with_capacity(circuit.allocator(), width)?;
     Ok(digits)
 }

@@ -99,7 +99,7 @@ fn choose_symbol(
             let tree = choose_tree(trees, circuit, table, choice, t, u)?;
             Ok(Symbol::Tree(tree))
         }
-        _ => Ok(*left),
+        _ => unreachable!(),
     }
 }
 

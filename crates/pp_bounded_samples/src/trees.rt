@@ -35,7 +35,6 @@ pub fn fresh(circuit: &mut Circuit, table: &TypeTable, choice: Lit) -> Result<Bo
     ensures choice { OnOk result (IsOf circuit.new choice) }
 {
     let domain = Bounded::fresh(circuit)?;
-    let _table = table;
     Ok(domain)
 }
 

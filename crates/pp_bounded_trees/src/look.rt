@@ -58,7 +58,6 @@ impl Trees {
         requires tree { TreeFits self.now.nodes (length self.now.nodes) tree.now }
         ensures { IsCtorTest bounded_sense table.now self.now circuit.now self.now circuit.now tree.now ctor result }
     {
-        let _table = table;
         let alternatives = self.nodes.as_slice()[tree.number as usize]
             .alternatives
             .as_slice();

@@ -84,7 +84,7 @@ fn of_alike<D: Domain>(
             let bit = of_truths(circuit, op, *a, *b)?;
             Ok(Symbol::Bit(bit))
         }
-        _ => Ok(*left),
+        _ => unreachable!(),
     }
 }
 

@@ -48,7 +48,7 @@ pub fn goes_down<D: Domain>(
             Ok(Symbol::Bit(down))
         }
         (Symbol::Bit(_), Symbol::Bit(_)) => Ok(Symbol::Bit(circuit.truth().negated())),
-        _ => Ok(*new),
+        _ => unreachable!(),
     }
 }
 

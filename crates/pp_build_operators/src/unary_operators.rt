@@ -39,7 +39,7 @@ pub fn unary<D: Domain>(
             Ok(Symbol::Word(word))
         }
         Symbol::Bit(a) => Ok(Symbol::Bit(a.negated())),
-        Symbol::Tree(_) => Ok(*x),
+        Symbol::Tree(_) => unreachable!(),
     }
 }
 

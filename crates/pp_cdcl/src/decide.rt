@@ -127,6 +127,7 @@ fn branch(
             Ok(None)
         }
         None => {
+            // `len` tells that each of them is a clause
             let _count = search.watch.clauses().len();
             let found = assignment(alloc, &search.watch)?;
             Ok(Some(Answer::Sat(found)))
@@ -136,7 +137,6 @@ fn branch(
 
 /// Decides a literal.
 fn decide(search: &mut Search, lit: Lit)
-    requires low { 1 ≤ lit.var }
     requires up_to { lit.var ≤ search.old.watch.vars }
     requires absent { All (λ s. s.lit.var ≢ lit.var) search.old.watch.steps }
     ensures watch { search.new.watch ≡ record search.old.watch
@@ -146,6 +146,5 @@ fn decide(search: &mut Search, lit: Lit)
     ensures analysis { search.new.analysis ≡ search.old.analysis }
     ensures room { length search.old.watch.steps < search.old.watch.vars }
 {
-    let _steps = search.watch.trail();
     search.watch.decide(lit);
 }

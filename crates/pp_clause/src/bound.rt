@@ -1,6 +1,7 @@
 //! The greatest variable of clauses and literals.
 ghost use Rattle.std.specs.Prelude.{ℕ, ◌≤◌, ◌^◌, All};
 ghost use Rattle.pp_clause.specs.Bound.{IsUpTo};
+ghost use Rattle.pp_clause.specs.Clause.{IsClause};
 
 use crate::clauses::Clauses;
 use crate::lit::Lit;
@@ -10,6 +11,7 @@ pub fn greatest_var(clauses: &Clauses) -> u32
     ensures up_to { All (IsUpTo result) clauses.now }
     ensures least { (vars : ℕ) → All (IsUpTo vars) clauses.now → result ≤ vars }
     ensures small { result ≤ 2 ^ 30 }
+    ensures order { All IsClause clauses.now }
 {
     let mut greatest = 0;
     for place in 0..clauses.len() {

@@ -71,6 +71,7 @@ impl Clauses {
         ensures ok { OnOk result (self.new ≡ self.old ++ clause ∷ []) }
         ensures err { OnErr result (self.new ≡ self.old) }
     {
+        // tells that its literals are in order: nothing else is asked of it here
         let _lits = clause.lits();
         self.items.push(clause)?;
         Ok(())

@@ -53,6 +53,7 @@ impl Log {
         ensures ok { OnOk result (self.new ≡ self.old ++ item ∷ []) }
         ensures err { OnErr result (self.new ≡ self.old) }
     {
+        // these tell what a lemma is: nothing else is asked of it here
         let _lits = item.clause.lits();
         let _numbers = item.chain.numbers();
         self.lemmas.push(item)?;

@@ -51,7 +51,7 @@ pub fn choose<D: Domain>(
             let tree = domain.merge(circuit, table, choice, t, u)?;
             Ok(Symbol::Tree(tree))
         }
-        _ => Ok(*left),
+        _ => unreachable!(),
     }
 }
 
@@ -87,7 +87,7 @@ pub fn equal<D: Domain>(
             let same = domain.equal(circuit, table, t, u)?;
             Ok(same)
         }
-        _ => Ok(circuit.truth()),
+        _ => unreachable!(),
     }
 }
 

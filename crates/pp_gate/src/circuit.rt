@@ -48,7 +48,9 @@ impl Circuit {
 
     /// Where the circuit takes its memory.
     #[inline]
-    pub fn allocator(&self) -> Global {
+    pub fn allocator(&self) -> Global
+        ensures { IsCircuit self.now }
+    {
         *self.gates.allocator()
     }
 
@@ -79,6 +81,7 @@ impl Circuit {
         ensures positive { result.positive ≡ true }
         ensures circuit { IsCircuit self.now }
     {
+        // a use of the field tells the type's invariant, by which the first gate is the constant
         let _gates = &self.gates;
         Lit::new(1, true)
     }

@@ -52,7 +52,6 @@ pub fn below(
     ensures answer { IfOk result (λ l. IsComparison named_sense table.now trees.now circuit.old trees.now circuit.new
         new.now old.now l) }
 {
-    let _table = table;
     let expansions = trees.expansions.as_slice();
     let mut search = start(circuit, expansions.len(), old)?;
     let mut next = 0;

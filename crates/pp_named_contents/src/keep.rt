@@ -18,7 +18,6 @@ fn keep_symbol(
     ensures keeps { Keeps circuit.now trees.old trees.new }
     ensures kept { OnOk result (AreKept trees.new.nodes (symbol.now ∷ [])) }
 {
-    let _circuit = circuit;
     match symbol {
         Symbol::Tree(tree) => {
             trees.keep(&Node {

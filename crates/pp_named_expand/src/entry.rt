@@ -32,7 +32,6 @@ fn condition(
     ensures adds { AddsGates circuit.old circuit.new (condition_gates trees.now y.now) }
     ensures condition { IfOk result (λ l. IsCondition table.now circuit.new trees.now y.now l) }
 {
-    let _table = table;
     let agree = agreements(circuit, y, trees.expansions.as_slice())?;
     let ordered = in_order(circuit, trees.groups.as_slice(), trees.levels.as_slice(), y)?;
     let both = circuit.and(agree, ordered)?;

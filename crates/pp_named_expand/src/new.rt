@@ -36,7 +36,6 @@ fn highest(trees: &NamedTrees, fields: &[Symbol<NamedTree>]) -> u64
 fn height_of(trees: &NamedTrees, symbol: &Symbol<NamedTree>) -> u64
     ensures { result ≡ symbol_height named_sense trees.now symbol.now }
 {
-    let _trees = trees;
     match symbol {
         Symbol::Word(_) => 0,
         Symbol::Bit(_) => 0,

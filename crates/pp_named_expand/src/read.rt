@@ -32,7 +32,6 @@ fn ctor_in<'a>(
     requires ctor { IsCtorOf table.now ctor tree.now.of }
     ensures { IsCtorIn trees.now.expansions tree.now ctor result.now }
 {
-    let _circuit = circuit;
     let place = place_of(trees.expansions.as_slice(), tree);
     let first = table.datatype(tree.of).first.0;
     let alternatives = trees.expansions.as_slice()[place].alternatives.as_slice();

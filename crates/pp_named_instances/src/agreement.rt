@@ -42,7 +42,7 @@ fn same_symbol(
             let same = pp_bits::equal(circuit, t.name.lits(), u.name.lits())?;
             Ok(same)
         }
-        _ => Ok(circuit.truth()),
+        _ => unreachable!(),
     }
 }
 

@@ -52,7 +52,6 @@ fn make_level(
     ensures levels { AddsLevels table.now trees.old circuit.old trees.new circuit.new 32 }
     ensures has { OnOk result (HasLevel trees.new.groups trees.new.levels d) }
 {
-    let _table = table;
     if is_first(trees.groups.as_slice(), d) {
         return Ok(());
     }

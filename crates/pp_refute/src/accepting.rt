@@ -26,7 +26,6 @@ pub fn accepts(
     ensures sound { IfOk result (λ yes. IsTrue yes → IsUnsatisfiable clauses.now assumptions.now) }
 {
     let lemmas = log.as_slice();
-    let _count = clauses.len();
     let mut table = vec![in alloc; None; table_len(clauses, lemmas)]?;
     Ok(refutes(clauses, assumptions, lemmas, &mut table))
 }

@@ -15,7 +15,6 @@ pub(crate) fn copied(circuit: &Circuit, a: &[Lit]) -> Result<Vec<Lit>, NoMemory>
     ensures value { IfOk result (λ r. r.items ≡ a.now) }
     ensures circuit { IsCircuit circuit.now }
 {
-    let _gates = circuit.gates();
     let mut digits = Vec::with_capacity(circuit.allocator(), a.len())?;
     digits.extend_from_slice(a)?;
     Ok(digits)
@@ -32,7 +31,6 @@ pub(crate) fn raised(
         (length a.now - min by (length a.now)) a.now) }
     ensures circuit { IsCircuit circuit.now }
 {
-    let _gates = circuit.gates();
     let places = by.min(a.len());
     let mut digits = vec![in circuit.allocator(); fill; places]?;
     digits.extend_from_slice(&a[..a.len() - places])?;
@@ -50,7 +48,6 @@ pub(crate) fn lowered(
         fill) }
     ensures circuit { IsCircuit circuit.now }
 {
-    let _gates = circuit.gates();
     let places = by.min(a.len());
     let mut digits = a[places..].to_vec(circuit.allocator())?;
     digits.resize(a.len(), fill)?;

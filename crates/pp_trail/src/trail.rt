@@ -57,7 +57,9 @@ impl Trail {
     pub fn decide(&mut self, lit: Lit)
         requires up_to { lit.var ≤ self.old.vars }
         requires absent { All (λ s. s.lit.var ≢ lit.var) self.old.steps }
-        ensures { self.new ≡ record self.old { steps = self.old.steps ++ record { lit = lit; reason = None } ∷ [] } }
+        ensures value { self.new ≡ record self.old
+            { steps = self.old.steps ++ record { lit = lit; reason = None } ∷ [] } }
+        ensures room { length self.old.steps < self.old.vars }
     {
         self.push(Step { lit, reason: None });
     }
@@ -121,6 +123,7 @@ impl Trail {
     pub fn place(&self, var: u32) -> Option<u32>
         ensures some { IfSome result (IsPlaceOf self.now.steps var) }
         ensures none { IfNone result (All (λ s. s.lit.var ≢ var) self.now.steps) }
+        ensures trail { IsTrail self.now.clauses self.now.vars self.now.steps }
     {
         match self.mark(var) {
             Some(mark) => Some(mark.place),
@@ -154,7 +157,8 @@ impl Trail {
         requires up_to { step.lit.var ≤ self.old.vars }
         requires absent { All (λ s. s.lit.var ≢ step.lit.var) self.old.steps }
         requires reason { IfSome step.reason (IsReason self.old.clauses (lits self.old.steps) step.lit) }
-        ensures { self.new ≡ record self.old { steps = self.old.steps ++ step ∷ [] } }
+        ensures value { self.new ≡ record self.old { steps = self.old.steps ++ step ∷ [] } }
+        ensures room { length self.old.steps < self.old.vars }
     {
         let var = step.lit.var();
         let mark = Mark {

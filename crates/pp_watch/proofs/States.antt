@@ -96,6 +96,10 @@ pub clause_of_number : (cs : List (List Literal)) (vars n k : ℕ) (c : List Lit
     ≡ k + 1 → clause_at cs k ≡ c
 clause_of_number cs vars n k c h e = ap (clause_at cs) (let f : k ≡ n - 1 = omega arith in f) ∙ h.at
 
+pub clause_at_number : (cs : List (List Literal)) (vars n : ℕ) (c : List Literal) → IsClauseOf cs vars n c →
+    IsClauseOf cs vars n (clause_at cs (n - 1))
+clause_at_number cs vars n c h = subst (λ (z : List Literal). IsClauseOf cs vars n z) (sym h.at) h
+
 pub var_within : (cs : List (List Literal)) (vars n k : ℕ) (c : List Literal) (l : Literal) →
     IsClauseOf cs vars n c → n ≡ k + 1 → has (clause_at cs k) l ≡ true → l.var ≤ vars
 var_within cs vars n k c l h e held = has-All (λ m. m.var ≤ vars) c l h.up_to

@@ -85,6 +85,10 @@ pub record IsBeside (s : State) (l : Literal) (place number : ℕ) (other : Lite
       ⊎ ((code (head_at s.heads.items (number - 1)).second ≡ code l) ×
       ((head_at s.heads.items (number - 1)).first ≡ other))
 
+-- the clause with this number is one of the state's, and no variable of it is above the greatest
+abbrev pub IsNumbered : State → ℕ → Type 0
+IsNumbered s number = IsClauseOf s.trail.clauses s.trail.vars number (clause_at s.trail.clauses (number - 1))
+
 -- all literals of the clause with this number are false but this one
 abbrev pub AreOthersFalse : State → ℕ → Literal → Type 0
 AreOthersFalse s number other =

@@ -2,7 +2,7 @@
 ghost use Rattle.std.specs.Prelude.{◌≡◌, ◌+◌, ◌<◌, ◌^◌, length, IfSome, IfNone, IfOk, OnErr};
 ghost use Rattle.pp_trail.specs.Trail.{lits, IsFalse};
 ghost use Rattle.pp_watch.specs.Watching.{IsSound, IsSized};
-ghost use Rattle.pp_watch.specs.Looking.{IsChoice};
+ghost use Rattle.pp_watch.specs.Looking.{IsChoice, IsNumbered};
 ghost use Rattle.pp_watch.specs.Attaching.{Attaches, CanWatch, Settles, waiting};
 
 use crate::NoMemory;
@@ -24,7 +24,8 @@ impl State {
         ensures conflict { IfOk result (λ o. IfSome o (IsFalse self.new.trail.clauses (lits self.new.trail.steps))) }
     {
         while self.heads.len() < self.trail.clauses().len() {
-            if let Some(number) = self.attach()? {
+            let next = self.heads.len() as u32 + 1;
+            if let Some(number) = self.attach(next)? {
                 return Ok(Some(number));
             }
         }
@@ -32,16 +33,15 @@ impl State {
     }
 
     /// Lets the first clause that waits watch two of its literals.
-    fn attach(&mut self) -> Result<Option<u32>, NoMemory>
+    fn attach(&mut self, number: u32) -> Result<Option<u32>, NoMemory>
         requires sound { IsSound self.old }
+        requires next { number ≡ length self.old.heads.items + 1 }
         requires some { length self.old.heads.items < length self.old.trail.clauses }
         ensures attaches { IfOk result (λ _. Attaches self.old self.new) }
         ensures more { IfOk result (λ o. IfNone o (length self.new.heads.items ≡ length self.old.heads.items + 1)) }
         ensures sized { OnErr result (IsSized self.new) }
         ensures conflict { IfOk result (λ o. IfSome o (IsFalse self.new.trail.clauses (lits self.new.trail.steps))) }
     {
-        let _few = self.trail.clauses().len();
-        let number = self.heads.len() as u32 + 1;
         let head = choose(&self.trail, lits_of(&self.trail, number));
         match head {
             Some(head) => {
@@ -58,13 +58,13 @@ impl State {
         requires sound { IsSound self.old }
         requires next { number ≡ length self.old.heads.items + 1 }
         requires some { length self.old.heads.items < length self.old.trail.clauses }
+        requires clause { IsNumbered self.old number }
         requires choice { IsChoice (lits self.old.trail.steps) (waiting self.old) head.now }
         ensures { Settles self.old head.now self.new }
     {
         if let Some(bound) = bound(&self.trail, head) {
             cut(&mut self.levels, bound);
             if !is_true(&self.trail, head.first) {
-                let _lits = lits_of(&self.trail, number);
                 self.trail.push(Step {
                     lit: head.first,
                     reason: Some(number),
@@ -77,6 +77,7 @@ impl State {
     fn watch(&mut self, head: &Head, number: u32) -> Result<(), NoMemory>
         requires sound { IsSound self.old }
         requires next { number ≡ length self.old.heads.items + 1 }
+        requires clause { IsNumbered self.old number }
         requires can { CanWatch self.old head.now }
         ensures trail { self.new.trail ≡ self.old.trail }
         ensures visited { self.new.visited ≡ self.old.visited }
@@ -84,7 +85,6 @@ impl State {
         ensures more { IfOk result (λ _. length self.new.heads.items ≡ length self.old.heads.items + 1) }
         ensures sized { OnErr result (IsSized self.new) }
     {
-        let _lits = lits_of(&self.trail, number);
         self.lists.push(
             head.first,
             Watcher {

@@ -52,9 +52,9 @@ impl State {
         ensures trail { self.new.trail ≡ record self.old.trail { steps = take len self.old.trail.steps } }
         ensures sound { IsSound self.new }
     {
-        let _few = self.trail.steps();
         self.trail.undo(len);
-        cut(&mut self.levels, len + 1);
+        let kept = self.trail.steps().len();
+        cut(&mut self.levels, kept + 1);
         match self.levels.last() {
             Some(level) => self.visited = *level,
             None => self.forget(),

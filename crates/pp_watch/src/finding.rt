@@ -133,7 +133,6 @@ pub fn bound(trail: &Trail, head: &Head) -> Option<usize>
     ensures some { IfSome result (IsBound trail.now.steps head.now) }
     ensures none { IfNone result (IsFree trail.now.steps head.now) }
 {
-    let _trail = trail.steps();
     if head.first.index() == head.second.index() {
         return Some(0);
     }

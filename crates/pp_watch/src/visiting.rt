@@ -5,7 +5,7 @@ ghost use Rattle.pp_clause.specs.Clause.{has};
 ghost use Rattle.pp_trail.specs.Trail.{lits, IsFalse};
 ghost use Rattle.pp_watch.specs.Watching.{IsSound, IsSized, Grows, clause_at};
 ghost use Rattle.pp_watch.specs.Lists.{code, watchers_of};
-ghost use Rattle.pp_watch.specs.Looking.{AreLookedAt, AreOthersFalse, Advances, HasOther, IsBeside};
+ghost use Rattle.pp_watch.specs.Looking.{AreLookedAt, AreOthersFalse, Advances, HasOther, IsBeside, IsNumbered};
 
 use crate::NoMemory;
 use crate::finding::{Found, is_false, is_true, lits_of, other_not_false};
@@ -41,12 +41,12 @@ impl State {
     fn visit(&mut self, lit: Lit) -> Result<Option<u32>, NoMemory>
         requires sound { IsSound self.old }
         requires negated { has (lits self.old.trail.steps) (opposite lit) ≡ true }
+        requires listed { code lit < length self.old.lists }
         ensures advances { IfOk result (λ _. Advances self.old self.new) }
         ensures looked { IfOk result (λ o. IfNone o (AreLookedAt self.new lit 0)) }
         ensures conflict { IfOk result (λ o. IfSome o (IsFalse self.new.trail.clauses (lits self.new.trail.steps))) }
         ensures sized { OnErr result (IsSized self.new) }
     {
-        let _trail = self.trail.steps();
         let mut place = self.lists.count(lit);
         while place > 0 {
             place -= 1;
@@ -151,13 +151,13 @@ impl State {
         requires looked { AreLookedAt self.old lit (place + 1) }
         requires beside { IsBeside self.old lit place number other }
         requires apart { code other ≢ code lit }
+        requires clause { IsNumbered self.old number }
         requires new { HasOther self.old number other new.lit }
         ensures advances { IfOk result (λ _. Advances self.old self.new) }
         ensures looked { IfOk result (λ _. AreLookedAt self.new lit place) }
         ensures within { IfOk result (λ _. place ≤ length (watchers_of self.new.lists lit)) }
         ensures sized { OnErr result (IsSized self.new) }
     {
-        let _lits = lits_of(&self.trail, number);
         self.lists.push(
             new.lit,
             Watcher {
@@ -180,6 +180,7 @@ impl State {
         requires sound { IsSound self.old }
         requires looked { AreLookedAt self.old lit (place + 1) }
         requires beside { IsBeside self.old lit place number other }
+        requires clause { IsNumbered self.old number }
         requires not_true { has (lits self.old.trail.steps) other ≡ false }
         requires others { AreOthersFalse self.old number other }
         ensures advances { Advances self.old self.new }
@@ -187,7 +188,6 @@ impl State {
         ensures within { IfNone result (place ≤ length (watchers_of self.new.lists lit)) }
         ensures conflict { IfSome result (IsFalse self.new.trail.clauses (lits self.new.trail.steps)) }
     {
-        let _lits = lits_of(&self.trail, number);
         if is_false(&self.trail, other) {
             return Some(number);
         }

@@ -56,7 +56,9 @@ impl Watch {
     pub fn decide(&mut self, lit: Lit)
         requires up_to { lit.var ≤ self.old.vars }
         requires absent { All (λ s. s.lit.var ≢ lit.var) self.old.steps }
-        ensures { self.new ≡ record self.old { steps = self.old.steps ++ record { lit = lit; reason = None } ∷ [] } }
+        ensures value { self.new ≡ record self.old
+            { steps = self.old.steps ++ record { lit = lit; reason = None } ∷ [] } }
+        ensures room { length self.old.steps < self.old.vars }
     {
         self.state.trail.decide(lit);
     }

@@ -1,5 +1,4 @@
-use Rattle.std.proofs.Common.{◌∙◌, sym, arith}
-use Rattle.pp_domain.proofs.Composition.{Moves_none, Moves_weaker}
+use Rattle.std.proofs.Common.{◌∙◌, sym}
 use Rattle.pp_build_operators.proofs.TwoOperands.{number_binary, number_moves, order_binary, order_moves}
 use Rattle.pp_build_operators.proofs.TwoOperands.{truth_binary, truth_moves}
 use Rattle.pp_build_operators.proofs.binary_operators.of_alike.Goals as goal
@@ -52,7 +51,3 @@ pub returns-in_ok-bit-in-Bit-Bit-clause-answer : goal.returns-in_ok-bit-in-Bit-B
 returns-in_ok-bit-in-Bit-Bit-clause-answer g c = rw (c.in-Bit-Bit.is-0, c.in-Bit-Bit.is-1)
     (truth_binary _ _ g.met.D.Domain.lawful _ _ _ _ 1 _ _ _ c.requires.fits c.requires.other
     c.in_ok-bit-in-Bit-Bit.ensures.adds c.in_ok-bit-in-Bit-Bit.ensures.stands)
-
-pub returns-in_default-clause-moves : goal.returns-in_default-clause-moves
-returns-in_default-clause-moves g c = Moves_weaker _ _ _ _ _ _ 0 _
-    (Moves_none _ _ g.met.D.Domain.lawful _ _ c.requires.fits) (omega arith)

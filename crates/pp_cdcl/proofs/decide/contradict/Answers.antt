@@ -13,10 +13,11 @@ decide-requires-clause-absent c = rw c.undo.ensures (place_absent _ _ _ _ c.args
 pub refute-requires-clause-assumed : goal.refute-requires-clause-assumed
 refute-requires-clause-assumed c =
     let w = c.requires.place.stands.within in
-    rw (c.decide.ensures, c.undo.ensures)
+    rw (c.decide.ensures.value, c.undo.ensures)
     (assumed_decided _ _ c.args.place c.args.lit c.requires.assumed (omega arith) c.requires.missing.held)
 
 pub refute-requires-clause-conflict : goal.refute-requires-clause-conflict
 refute-requires-clause-conflict c =
-    rw (c.decide.ensures, c.undo.ensures) (false_decided _ c.args.search.now.watch.vars _ c.args.place _ c.args.lit
-    c.trail.ensures.trail (rw c.trail.ensures.value at c.reason_at-reason.ensures))
+    rw (c.decide.ensures.value, c.undo.ensures)
+    (false_decided _ c.args.search.now.watch.vars _ c.args.place _ c.args.lit c.trail.ensures.trail
+    (rw c.trail.ensures.value at c.reason_at-reason.ensures))

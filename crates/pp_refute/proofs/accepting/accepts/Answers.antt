@@ -3,4 +3,4 @@ use Rattle.pp_refute.proofs.accepting.accepts.Goals as goal
 
 pub returns-clause-sound : goal.returns-clause-sound
 returns-clause-sound c =
-    λ yes. refuted_law c.args.clauses.now c.args.assumptions.now _ c.len-count.ensures.order (c.refutes.ensures.yes yes)
+    λ yes. refuted_law c.args.clauses.now c.args.assumptions.now _ c.table_len.ensures.order (c.refutes.ensures.yes yes)

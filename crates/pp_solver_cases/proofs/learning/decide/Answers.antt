@@ -12,5 +12,5 @@ returns-in-Some c =
     rw c.in-Some.is at c.in_ok-number.ensures.conflict in
     let start : c.in_ok-start.start ≡ length old.steps =
     (let e = c.in_ok-start.ensures in let v = ap (λ (z : List Step). length z) c.trail.ensures.value in omega arith) in
-    is_conflict old c.decide.new.self new c.args.lit c.in-Some.number c.in_ok-start.start c.requires start c.decide.ensures
-    c.in_ok-number.ensures.grows now
+    is_conflict old c.decide.new.self new c.args.lit c.in-Some.number c.in_ok-start.start c.requires start
+    c.decide.ensures.value c.in_ok-number.ensures.grows now

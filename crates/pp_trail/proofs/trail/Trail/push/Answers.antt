@@ -39,3 +39,11 @@ invariant_of-self c =
     (sound_push _ _ _ _ _ _ step c.len.result c.self.invariant c.push-pushed.ensures.capacity
     (omega (arith, c.var-var.ensures.low, c.var-var.ensures.value)) high absent
     (rw (clauses, same) c.requires.reason) (omega (arith, c.self.inside.steps.ok.0)))
+
+pub returns-clause-room : goal.returns-clause-room
+returns-clause-room c =
+    let same = ap (λ (t : Trail). t.steps) c.self.view_is in
+    let vars = ap (λ (t : Trail). t.vars) c.self.view_is in
+    rw (← same, ← vars) (room_for _ _ _ c.args.step.lit.var c.self.invariant.trail
+    (omega (arith, c.var-var.ensures.low, c.var-var.ensures.value)) (rw vars c.requires.up_to)
+    (rw same c.requires.absent))

@@ -1,4 +1,5 @@
 use Rattle.std.proofs.Common.{sym, ◌∙◌}
+use Rattle.pp_watch.proofs.States.{clause_at_number}
 use Rattle.pp_watch.proofs.Looked.{beside_true, beside_single, beside_held}
 use Rattle.pp_watch.proofs.state.State.look_beside.Goals as goal
 
@@ -11,3 +12,9 @@ returns-then-index-clause-looked c =
 pub block-requires-clause-held : goal.block-requires-clause-held
 block-requires-clause-held c =
     beside_held c.args.self.now c.args.lit c.args.place c.args.number c.args.other c.requires.sound c.requires.beside
+
+pub rewatch-requires-clause-clause : goal.rewatch-requires-clause-clause
+rewatch-requires-clause-clause c = clause_at_number _ _ _ _ c.lits_of.ensures
+
+pub force-requires-clause-clause : goal.force-requires-clause-clause
+force-requires-clause-clause c = clause_at_number _ _ _ _ c.lits_of.ensures

@@ -7,7 +7,7 @@ use Rattle.pp_watch.proofs.state.State.rewatch.Goals as goal
 pub push-requires : goal.push-requires
 push-requires c =
     let low = c.requires.beside.low in
-    code_of_clause _ _ c.args.number (c.args.number - 1) _ c.args.new.lit _ _ c.lits_of-lits.ensures
+    code_of_clause _ _ c.args.number (c.args.number - 1) _ c.args.new.lit _ _ c.requires.clause
     (omega arith) c.requires.new.held c.requires.sound.watching
 
 -- the state after the watcher has moved
@@ -25,7 +25,7 @@ moved c =
     c.args.new.place c.push.new.self c.remove.result
     c.requires.sound c.requires.looked c.requires.beside c.requires.negated c.requires.apart c.requires.new
     (code_from_watcher c.args.self.now.lists c.args.lit c.args.place c.requires.beside.within)
-    (code_of_clause _ _ c.args.number (c.args.number - 1) _ c.args.new.lit _ _ c.lits_of-lits.ensures
+    (code_of_clause _ _ c.args.number (c.args.number - 1) _ c.args.new.lit _ _ c.requires.clause
     (omega arith) c.requires.new.held c.requires.sound.watching)
     refl refl refl refl c.in_ok-push.ensures.ok c.remove.ensures.value c.remove.ensures.lists
 

@@ -2,12 +2,8 @@ use Rattle.std.proofs.Common.{arith, subst, ℕ, ◌≡◌}
 use Rattle.pp_clause.specs.Literal.{opposite}
 use Rattle.pp_watch.specs.Looking.{AreLookedAt}
 use Rattle.pp_watch.proofs.States.{has_grown}
-use Rattle.pp_watch.proofs.Looked.{advances_none, advances_along, looked_all, trail_code}
+use Rattle.pp_watch.proofs.Looked.{advances_none, advances_along, looked_all}
 use Rattle.pp_watch.proofs.state.State.visit.Goals as goal
-
-pub count-place-requires : goal.count-place-requires
-count-place-requires c = trail_code c.args.self.now c.args.lit c.steps-trail.ensures.trail c.requires.sound
-    c.requires.negated
 
 pub loop-place-init : goal.loop-place-init
 loop-place-init c = record {

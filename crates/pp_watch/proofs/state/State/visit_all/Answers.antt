@@ -2,6 +2,7 @@ use Rattle.std.proofs.Common.{arith, sym, ap, ◌≡◌, ◌∙◌, ◌<◌, len
 use Rattle.pp_trail.specs.declared.step.Step.{Step}
 use Rattle.pp_clause.specs.Literal.{opposite}
 use Rattle.pp_watch.proofs.States.{grows_along}
+use Rattle.pp_watch.proofs.Looked.{trail_code}
 use Rattle.pp_watch.proofs.Visited.{negated_step, visit_done, visits_fewer}
 use Rattle.pp_watch.proofs.state.State.visit_all.Goals as goal
 
@@ -16,6 +17,11 @@ visit-requires-clause-negated c =
     negated_step c.loop-self.self.trail.steps c.loop-self.self.visited c.index-steps-self.result
     c.negated-lit.result lt is (c.negated-lit.ensures ∙ ap (λ (z : Step). opposite z.lit)
     (sym c.index-steps-self.is))
+
+pub visit-requires-clause-listed : goal.visit-requires-clause-listed
+visit-requires-clause-listed c =
+    trail_code c.loop-self.self c.negated-lit.result c.steps.ensures.trail c.loop-self.invariant.sound
+    (visit-requires-clause-negated c)
 
 pub returns-in-Some-clause-grows : goal.returns-in-Some-clause-grows
 returns-in-Some-clause-grows c = grows_along c.args.self.now.trail c.loop-self.self.trail c.visit.new.self.trail
