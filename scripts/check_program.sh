@@ -102,6 +102,33 @@ check 'sixteen sources' 0 'f16 = 16' ''
 run --mode run --function f16 "${sixteen[@]}" edge.scala
 check 'seventeen sources' 4 '' 'words refused'
 
+run --mode make --seed 3
+check 'a made source' 0 "$(printf 'made 6 functions\n6 valid, 0 invalid, 0 open, 0 depending')" ''
+for _ in 1 2; do
+    run --mode make --seed 40
+    check 'a made source of forty numbers' 0 \
+        "$(printf 'made 80 functions\n80 valid, 0 invalid, 0 open, 0 depending')" ''
+done
+begun=$SECONDS
+run --mode make --seed 200
+check 'the longest made source' 0 "$(printf 'made 400 functions\n400 valid, 0 invalid, 0 open, 0 depending')" ''
+if [ $((SECONDS - begun)) -gt 60 ]; then
+    failed=$((failed + 1))
+    printf 'check_program: the longest made source: %s seconds\n' "$((SECONDS - begun))"
+fi
+run --mode make --seed 1 --depth 6 --rounds 12 --lemmas 1000000 --gates 4000000
+check 'a made source within the widest limits' 0 \
+    "$(printf 'made 2 functions\n2 valid, 0 invalid, 0 open, 0 depending')" ''
+run --mode make --seed 1 --gates 1
+check 'a made source within few gates' 2 "$(printf 'made 2 functions\n0 valid, 0 invalid, 2 open, 0 depending')" ''
+for words in '' '--seed 0' '--seed 201' '--seed 03' '--seed 3 or.scala' '--seed 3 --fuel 3'; do
+    # shellcheck disable=SC2086
+    run --mode make $words
+    check "refused words of mode make: $words" 4 '' 'words refused'
+done
+run --mode list --seed 3 or.scala
+check 'a seed in mode list' 4 '' 'words refused'
+
 : > out
 if [ -w /dev/full ]; then
     "$root/pureproof" or.scala > /dev/full 2> err

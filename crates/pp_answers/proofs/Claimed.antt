@@ -8,17 +8,21 @@ use Rattle.pp_answers.proofs.Once.{AreAlike, one_program}
 use Rattle.pp_answers.specs.Answers.{accepted, refused}
 use Rattle.pp_answers.specs.Claims.{Claim, InvalidFails, OpenIsSearched, ValidIsGood}
 use Rattle.pp_answers.specs.Laws.{InvalidMeansFailed, IsAlwaysTrue, OneLineEach, OpenMeansSearched, ValidMeansGood}
-use Rattle.pp_answers.specs.Laws.{verify_within}
+use Rattle.pp_answers.specs.Laws.{make_within, verify_within}
 use Rattle.pp_induct.specs.declared.limits.Limits.{Limits}
-use Rattle.pp_modes.specs.Answers.{AnswersTask, verified as verifies}
+use Rattle.pp_modes.specs.Answers.{AnswersTask, made as makes, verified as verifies}
 use Rattle.pp_modes.specs.Responses.{Response}
-use Rattle.pp_modes.specs.Verdicts.{AnswersVerify}
+use Rattle.pp_modes.specs.Verdicts.{AnswersMake, AnswersVerify}
 use Rattle.pp_prog.specs.declared.expr.Function.{Function}
 use Rattle.pp_prog.specs.declared.program.Program.{Program}
 
 pub of_verify : (p : Program) (limits : Limits) {r : Response} → AnswersTask p (verify_within limits) r
     → AnswersVerify p limits r
 of_verify p limits (verifies a) = a
+
+pub of_make : (p : Program) (seed : ℕ) (limits : Limits) {r : Response} → AnswersTask p (make_within seed limits) r
+    → AnswersMake p limits r
+of_make p seed limits (makes a) = a
 
 -- a claim that is true of the lines of each answer, and of programs that are alike
 always : (IsTrue : Limits → Claim)

@@ -10,3 +10,5 @@ pub mod Statuses
 pub mod Claimed
 pub mod Readings
 pub mod Texts
+pub mod Made
+mod Seeds

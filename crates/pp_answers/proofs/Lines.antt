@@ -14,8 +14,8 @@ use Rattle.pp_induct.specs.declared.verdict.Verdict.{Verdict}
 use Rattle.pp_induct.specs.declared.verdict.Verdict.TheVariants.{Valid, Depends, Invalid, Open}
 use Rattle.pp_modes.specs.Lists.{own_checks}
 use Rattle.pp_modes.specs.Responses.{Response, lines_in}
-use Rattle.pp_modes.specs.Verdicts.{AnswersVerify, check_text, depending_text, reason_of, summary_by, verdict_lines}
-use Rattle.pp_modes.specs.Verdicts.{verdict_text}
+use Rattle.pp_modes.specs.Verdicts.{AnswersMake, AnswersVerify, check_text, depending_text, reason_of, summary_by}
+use Rattle.pp_modes.specs.Verdicts.{verdict_lines, verdict_report, verdict_text}
 use Rattle.pp_print.specs.Lines.{depends_text, invalid_text, open_text, valid_text}
 use Rattle.pp_prog.specs.Cone.{InCone}
 use Rattle.pp_prog.specs.declared.expr.Function.{Function}
@@ -130,6 +130,13 @@ module _ (p : Program) (limits : Limits) (ends : List CheckEnd) (are : AreEnds p
       }
   tells (Invalid c) so is = failed c so.has is
   tells (Open c) so is = left_open c so.1.has is
+
+-- ---- functions that were made
+
+-- the report of their text is that of lines on each
+abbrev pub as_verify : (p : Program) (limits : Limits) (r : Response) (a : AnswersMake p limits r)
+    → AnswersVerify p limits (verdict_report p a.found)
+as_verify p limits r a = record { found = a.found; holds = a.holds; valid = a.valid; says = refl }
 
 -- ---- the line of each function
 

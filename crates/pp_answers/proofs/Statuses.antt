@@ -5,24 +5,25 @@ use Rattle.std.proofs.lemmas.Bool.{cases_lt}
 use Rattle.std.proofs.lemmas.Option.{slice_get_within}
 use Rattle.pp_answers.proofs.Alike.{counterexample_there, same_run}
 use Rattle.pp_answers.proofs.Excluded.{excluded}
+use Rattle.pp_answers.proofs.Lines.{as_verify}
 use Rattle.pp_answers.proofs.Meaning.{told_each, told_failed, told_good}
 use Rattle.pp_answers.proofs.Once.{AreAlike, one_program, swapped}
-use Rattle.pp_answers.specs.Answers.{accepted, refused}
+use Rattle.pp_answers.specs.Answers.{accepted, refused, sources_of}
 use Rattle.pp_answers.specs.Claims.{IsStatusOf, all_valid, some_invalid, some_open}
 use Rattle.pp_answers.specs.Laws as laws
 use Rattle.pp_answers.specs.Laws.{Agree, FailsListed, IsOnVerdicts, IsVerify, OneStatus, RunsAreRuns, StaysOpen}
-use Rattle.pp_answers.specs.Laws.{is_verify}
+use Rattle.pp_answers.specs.Laws.{is_make, is_verify}
 use Rattle.pp_eval.proofs.Lasts.{lasts}
 use Rattle.pp_eval.specs.Runs.{IsGood, run as run_of}
 use Rattle.pp_eval.specs.declared.outcome.Outcome.{Outcome}
 use Rattle.pp_eval.specs.declared.outcome.Outcome.TheVariants.{Deep, Done, Fails, Inner, Outside}
 use Rattle.pp_induct.specs.declared.limits.Limits.{Limits}
-use Rattle.pp_modes.specs.Answers.{AnswersTask, listed, run_ends, verified as verifies}
+use Rattle.pp_modes.specs.Answers.{AnswersTask, listed, made as makes, run_ends, verified as verifies}
 use Rattle.pp_modes.proofs.Asked.{same_function}
 use Rattle.pp_modes.specs.Responses.{Response, lines_in, report, status_in}
 use Rattle.pp_modes.specs.Runs.{AnswersRun, IsAsked, fails_line, inner_line, no_function, outcome_report}
 use Rattle.pp_modes.specs.Runs.{outcome_text, ran, status_of}
-use Rattle.pp_modes.specs.Verdicts.{AnswersVerify, limits_of}
+use Rattle.pp_modes.specs.Verdicts.{AnswersMake, AnswersVerify, limits_of, verdict_report}
 use Rattle.pp_modes.specs.declared.status.Status.{Status}
 use Rattle.pp_modes.specs.declared.status.Status.TheVariants as status
 use Rattle.pp_print.specs.Runs.{done_text}
@@ -176,21 +177,35 @@ module _ (p q : Program) (alike : AreAlike p q) (l m : Limits) (r s : Response) 
       ⊎_elim (λ same. inl same) (λ open_in. inr (is, open_in))
       (agree (status_in r) (status_in s) (told_each p l r a).status (told_each q m s b).status)
 
+-- so it is with functions that were made
+made_status : (p q : Program) → AreAlike p q → (l m : Limits) (r s : Response) → AnswersMake p l r → AnswersMake q m s
+    → (task : Task) → IsVerify task → Agree task (status_in r) (status_in s)
+made_status p q alike l m r s a b task is =
+    let one = verdict_report p a.found in
+    let other = verdict_report q b.found in
+    subst (λ t. Agree task t (status_in s)) (sym (ap status_in a.says))
+    (subst (Agree task (status_in one)) (sym (ap status_in b.says))
+    (verify_status p q alike l m one other (as_verify p l r a) (as_verify q m s b) task is))
+
 -- ---- all tasks
 
 task_status : (p q : Program) → AreAlike p q → {task : Task} {r s : Response} → AnswersTask p task r
     → AnswersTask q task s → Agree task (status_in r) (status_in s)
-task_status p q alike {task} {r} {s} (verifies {rounds = n} {depth = d} {lemmas = l} {gates = g} a) (verifies b) =
-    verify_status p q alike (limits_of n d l g) (limits_of n d l g) r s a b task (is_verify (limits_of n d l g))
+task_status p q alike {task} {r} {s} (verifies {numbers = n} a) (verifies b) =
+    verify_status p q alike (limits_of n) (limits_of n) r s a b task (is_verify (limits_of n))
+task_status p q alike {task} {r} {s} (makes {seed = k} {numbers = n} a) (makes b) =
+    made_status p q alike (limits_of n) (limits_of n) r s a b task (is_make k (limits_of n))
 task_status p q alike listed listed = inl refl
 task_status p q alike (run_ends {name = name} {fuel = fuel} a) (run_ends b) = inl (run_status p q alike name fuel a b)
 
 pub one_status : OneStatus
 one_status task sources r s (refused a) (refused b) = inl refl
-one_status task sources r s (refused {line = line} a) (accepted p is b) = absurd (excluded sources line p a is)
-one_status task sources r s (accepted p is a) (refused {line = line} b) = absurd (excluded sources line p b is)
+one_status task sources r s (refused {line = line} a) (accepted p is b) =
+    absurd (excluded (sources_of task sources) line p a is)
+one_status task sources r s (accepted p is a) (refused {line = line} b) =
+    absurd (excluded (sources_of task sources) line p b is)
 one_status task sources r s (accepted p is a) (accepted q also b) =
-    task_status p q (one_program sources p q is.program also.program) a b
+    task_status p q (one_program (sources_of task sources) p q is.program also.program) a b
 
 of_run : (p : Program) (name : List ℕ) (fuel : ℕ) {r : Response} → AnswersTask p (run name fuel) r
     → AnswersRun p name fuel r

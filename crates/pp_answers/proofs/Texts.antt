@@ -14,8 +14,8 @@ use Rattle.pp_answers.proofs.Once.{AreAlike, one_program, swapped}
 use Rattle.pp_answers.proofs.Readings.{content_of, legible, meant, means_there, printed, prints_there}
 use Rattle.pp_answers.specs.Answers.{accepted, refused}
 use Rattle.pp_answers.specs.Laws.{TextReadBack}
-use Rattle.pp_answers.specs.Readings.{IsFirstUnsettled, IsTextReadBack, Means, counts_of, is_depending, is_failed}
-use Rattle.pp_answers.specs.Readings.{is_left_open, is_valid}
+use Rattle.pp_answers.specs.Readings.{AreTrue, IsFirstUnsettled, IsTextReadBack, Means, counts_of, is_depending}
+use Rattle.pp_answers.specs.Readings.{is_failed, is_left_open, is_valid}
 use Rattle.pp_induct.specs.Reports.{AreLimits}
 use Rattle.pp_induct.specs.declared.ends.CheckEnd.{CheckEnd}
 use Rattle.pp_induct.specs.declared.limits.Limits.{Limits}
@@ -37,7 +37,7 @@ use Rattle.pp_prog.specs.declared.program.Program.{Program}
 -- ---- counts
 
 -- the contents have the verdicts
-record HaveVerdicts (cs : List Content) (vs : List Verdict) : Type 0 where
+pub record HaveVerdicts (cs : List Content) (vs : List Verdict) : Type 0 where
   pub size : length cs ≡ length vs
   pub valid : count_by is_valid cs ≡ count_by verdict.is_valid vs
   pub invalid : count_by is_failed cs ≡ count_by verdict.is_invalid vs
@@ -60,7 +60,8 @@ one_more c v cs vs one rest = record {
   depending = same_count is_depending verdict.is_depending c cs v vs one.depending rest.depending;
 }
 
-same_counts : (cs : List Content) (vs : List Verdict) → HaveVerdicts cs vs → summary_by vs ≡ counts_text (counts_of cs)
+pub same_counts : (cs : List Content) (vs : List Verdict) → HaveVerdicts cs vs
+    → summary_by vs ≡ counts_text (counts_of cs)
 same_counts cs vs have =
     let v = count_by is_valid cs in
     let i = count_by is_failed cs in
@@ -110,12 +111,12 @@ module _ (p : Program) (limits : Limits) where
       by (suc k) d w at here = rest.each k d w at here
 
   -- the contents are true of the functions, the first of which has this number
-  abbrev AreTrue : ℕ → List Function → List Content → Type 0
-  AreTrue n fs cs = (k : ℕ) (f : Function) (c : Content) → slice_get fs k ≡ Some f → slice_get cs k ≡ Some c
+  abbrev pub AreTrueFrom : ℕ → List Function → List Content → Type 0
+  AreTrueFrom n fs cs = (k : ℕ) (f : Function) (c : Content) → slice_get fs k ≡ Some f → slice_get cs k ≡ Some c
       → Means limits p (n + k) f c
 
   one_more_true : (n : ℕ) (f : Function) (fs : List Function) (c : Content) (cs : List Content) → Means limits p n f c
-      → AreTrue (suc n) fs cs → AreTrue n (f ∷ fs) (c ∷ cs)
+      → AreTrueFrom (suc n) fs cs → AreTrueFrom n (f ∷ fs) (c ∷ cs)
   one_more_true n f fs c cs one rest zero g d at here =
       let same : n ≡ n + 0 = omega arith in
       subst (λ k. Means limits p k g d) same
@@ -128,14 +129,14 @@ module _ (p : Program) (limits : Limits) where
       subst (λ m. Means limits p m g d) same (rest k g d at here)
 
 module _ (p : Program) (limits : Limits) (r : Response) (a : AnswersVerify p limits r) (range : AreLimits limits) where
-  abbrev ends : List CheckEnd
+  abbrev pub ends : List CheckEnd
   ends = a.found.checks
 
   -- what the lines say of these functions, the first of which has this number, and which have these verdicts
-  record AreTold (n : ℕ) (fs : List Function) (vs : List Verdict) : Type 0 where
+  pub record AreTold (n : ℕ) (fs : List Function) (vs : List Verdict) : Type 0 where
     pub contents : List Content
     pub prints : PrintEach p n fs (verdict_lines p ends n fs vs) contents
-    pub are_true : AreTrue p limits n fs contents
+    pub are_true : AreTrueFrom p limits n fs contents
     pub counts : HaveVerdicts contents vs
     pub show : ShowEach contents vs
 
@@ -170,35 +171,50 @@ module _ (p : Program) (limits : Limits) (r : Response) (a : AnswersVerify p lim
         show = one_more_shown p limits content v rest.contents vs (shows_it p limits n f line v t) rest.show;
       }
 
+  -- and of all functions
+  pub told_all : AreTold 0 p.functions a.found.verdicts
+  told_all =
+      all_told 0 p.functions a.found.verdicts a.holds.verdicts.size (from_start p.functions)
+      (from_start a.found.verdicts)
+
+  pub told_true : AreTrue limits p told_all.contents
+  told_true = record {
+    true_of = λ i f c at here.
+        let same : 0 + i ≡ i = omega arith in
+        subst (λ n. Means limits p n f c) same (told_all.are_true i f c at here);
+    depends = first_unsettled p ends a.found.verdicts a.holds.verdicts told_all.contents told_all.show;
+  }
+
+  pub told_small : AreSmall (counts_of told_all.contents)
+  told_small =
+      let most = p.few_functions in
+      let size = told_all.counts.size in
+      let even = a.holds.verdicts.size in small told_all.contents (omega (arith, most, size, even))
+
   pub told_text : IsLegible p → IsTextReadBack limits p (concat (lines_in r))
   told_text legible =
-      let even = a.holds.verdicts.size in
-      let all = all_told 0 p.functions a.found.verdicts even (from_start p.functions) (from_start a.found.verdicts) in
-      let content : ReportContent = record { functions = all.contents; counts = counts_of all.contents } in
+      let contents = told_all.contents in
+      let content : ReportContent = record { functions = contents; counts = counts_of contents } in
       let prints : PrintsReport p (concat (lines_in r)) content = record {
         lines = verdict_lines p ends 0 p.functions a.found.verdicts;
-        each = all.prints;
-        small = small all.contents
-            (let most = p.few_functions in let size = all.counts.size in omega (arith, most, size, even));
+        each = told_all.prints;
+        small = told_small;
         whole = ap (λ s. concat (lines_in s)) a.says
             ∙ ap (λ l. concat (verdict_lines p ends 0 p.functions a.found.verdicts ++ l ∷ []))
-            (same_counts all.contents a.found.verdicts all.counts);
+            (same_counts contents a.found.verdicts told_all.counts);
       } in
       record {
         content = content;
         printed = prints;
         only = λ other h. texts_tell_contents p legible (concat (lines_in r)) other content h prints;
-        true_of = λ i f c at here.
-            let same : 0 + i ≡ i = omega arith in
-            subst (λ n. Means limits p n f c) same (all.are_true i f c at here);
-        depends = first_unsettled p ends a.found.verdicts a.holds.verdicts all.contents all.show;
+        holds = told_true;
         counted = refl;
       }
 
 -- ---- programs that are alike
 
 module _ (p q : Program) (alike : AreAlike p q) where
-  each_there : {i : ℕ} {fs : List Function} {lines : List (List ℕ)} {cs : List Content} → PrintEach p i fs lines cs
+  pub each_there : {i : ℕ} {fs : List Function} {lines : List (List ℕ)} {cs : List Content} → PrintEach p i fs lines cs
       → PrintEach q i fs lines cs
   each_there no_lines = no_lines
   each_there (more_lines {i = i} {f = f} {line = line} {c = c} one rest) =
@@ -212,17 +228,23 @@ module _ (p q : Program) (alike : AreAlike p q) where
     whole = h.whole;
   }
 
+pub true_there : (p q : Program) → AreAlike p q → (limits : Limits) (cs : List Content) → AreTrue limits p cs
+    → AreTrue limits q cs
+true_there p q alike limits cs h = record {
+  true_of = λ i f c at here.
+      means_there p q alike i f [] limits c
+      (h.true_of i f c (ap (λ fs. slice_get fs i) alike.functions ∙ at) here);
+  depends = λ i g checks at.
+      subst (λ fs. IsFirstUnsettled fs cs i g.0) alike.functions (h.depends i g checks at);
+}
+
 text_there : (p q : Program) → AreAlike p q → (limits : Limits) (text : List ℕ) → IsTextReadBack limits p text
     → IsTextReadBack limits q text
 text_there p q alike limits text h = record {
   content = h.content;
   printed = report_there p q alike text h.content h.printed;
   only = λ other k. h.only other (report_there q p (swapped alike) text other k);
-  true_of = λ i f c at here.
-      means_there p q alike i f [] limits c
-      (h.true_of i f c (ap (λ fs. slice_get fs i) alike.functions ∙ at) here);
-  depends = λ i g checks at.
-      subst (λ fs. IsFirstUnsettled fs h.content.functions i g.0) alike.functions (h.depends i g checks at);
+  holds = true_there p q alike limits h.content.functions h.holds;
   counted = h.counted;
 }
 

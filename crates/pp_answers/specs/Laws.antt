@@ -1,14 +1,15 @@
 -- What answers mean. Source: own.
-use Rattle.std.specs.Prelude.{◌≡◌, ◌⊎◌, ◌<◌, ℕ, List, [], Some, length, slice_get}
+use Rattle.std.specs.Prelude.{◌≡◌, ◌⊎◌, ◌<◌, ℕ, List, [], ◌∷◌, Some, length, slice_get}
 use Rattle.std.specs.List.{concat}
 use Rattle.pp_answers.specs.Answers.{Answers, IsAccepted}
 use Rattle.pp_answers.specs.Claims.{AreLinesOf, Claim, InvalidFails, OpenIsSearched, ValidIsGood}
-use Rattle.pp_answers.specs.Readings.{IsReadBack, IsTextReadBack}
+use Rattle.pp_answers.specs.Readings.{IsMadeReadBack, IsReadBack, IsTextReadBack}
 use Rattle.pp_eval.specs.Runs.{run as run_of}
 use Rattle.pp_eval.specs.declared.outcome.Outcome.{Outcome}
 use Rattle.pp_eval.specs.declared.outcome.Outcome.TheVariants.{Fails, Inner}
 use Rattle.pp_induct.specs.Reports.{AreLimits}
 use Rattle.pp_induct.specs.declared.limits.Limits.{Limits}
+use Rattle.pp_made.specs.Made.{made_source}
 use Rattle.pp_modes.specs.Responses.{Response, lines_in, status_in}
 use Rattle.pp_modes.specs.Runs.{IsAsked, outcome_report}
 use Rattle.pp_modes.specs.declared.status.Status.{Status}
@@ -17,17 +18,27 @@ use Rattle.pp_ordinary.specs.Laws.{AreShort}
 use Rattle.pp_prog.specs.declared.expr.Function.{Function}
 use Rattle.pp_prog.specs.declared.program.Program.{Program}
 use Rattle.pp_sound.specs.Sound.{IsCheckOf}
-use Rattle.pp_words.specs.Task.{Task, run, verify}
+use Rattle.pp_words.specs.Task.{Task, make, run, verify}
+use Rattle.pp_words.specs.declared.task.Numbers.{Numbers}
+
+-- the numbers of a task that name these limits
+abbrev pub numbers_of : Limits → Numbers
+numbers_of l = record { rounds = l.rounds; depth = l.depth; lemmas = l.lemmas; gates = l.gates }
 
 -- the task to verify within these limits
 abbrev pub verify_within : Limits → Task
-verify_within limits = verify limits.rounds limits.depth limits.lemmas limits.gates
+verify_within limits = verify (numbers_of limits)
+
+-- the task to verify so the source that is made from a seed
+abbrev pub make_within : ℕ → Limits → Task
+make_within seed limits = make seed (numbers_of limits)
 
 -- ---- statuses
 
 -- functions are verified
 pub data IsVerify : Task → Type 0 where
   is_verify : (limits : Limits) → IsVerify (verify_within limits)
+  is_make : (seed : ℕ) (limits : Limits) → IsVerify (make_within seed limits)
 
 -- a status on the verdicts of functions
 pub data IsOnVerdicts : Status → Type 0 where
@@ -95,6 +106,15 @@ abbrev pub TextReadBack : Type 0
 TextReadBack = (limits : Limits) (sources : List (List ℕ)) (r : Response) → AreLimits limits → AreShort sources
     → Answers (verify_within limits) sources r → (p : Program) → IsAccepted sources p
     → IsTextReadBack limits p (concat (lines_in r))
+
+-- ---- mode `make`
+
+-- what is read back from the text on functions that were made is what was printed, and it is true: how many there are,
+-- and how many have each verdict; the status is by these counts
+abbrev pub MadeReadBack : Type 0
+MadeReadBack = (seed : ℕ) (limits : Limits) (fetched : List (List ℕ)) (r : Response) → AreLimits limits
+    → Answers (make_within seed limits) fetched r → (p : Program) → IsAccepted (made_source seed ∷ []) p
+    → IsMadeReadBack limits p (concat (lines_in r)) (status_in r)
 
 -- ---- mode `run`
 

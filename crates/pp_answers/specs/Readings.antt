@@ -1,14 +1,16 @@
 -- What is read back from the line of a function, and from the whole text of a report. Source: own.
 use Rattle.std.specs.Prelude.{◌≡◌, ◌⊎◌, ◌<◌, ◌≤◌, ℕ, suc, Bool, true, false, ◌||◌, List, Option, Some, None, count_by}
-use Rattle.std.specs.Prelude.{slice_get}
+use Rattle.std.specs.Prelude.{length, slice_get}
 use Rattle.pp_eval.specs.Runs.{IsGood}
 use Rattle.pp_estimate.specs.Estimates.{estimate}
 use Rattle.pp_induct.specs.Reports.{IsNotPlain, next_round}
 use Rattle.pp_induct.specs.declared.limits.Limits.{Limits}
 use Rattle.pp_induction.specs.Ends.{NoLowRunFails}
 use Rattle.pp_line_contents.specs.Contents.{Content, Prints, depending, failed, left_open, valid}
-use Rattle.pp_line_contents.specs.Reports.{Counts, PrintsReport, ReportContent}
+use Rattle.pp_line_contents.specs.Reports.{Counts, MadeContent, PrintEach, PrintsMade, PrintsReport, ReportContent}
 use Rattle.pp_modes.specs.Lists.{own_checks}
+use Rattle.pp_modes.specs.Verdicts.{status_for}
+use Rattle.pp_modes.specs.declared.status.Status.{Status}
 use Rattle.pp_print.specs.declared.line.Reason.{Reason}
 use Rattle.pp_print.specs.declared.line.Reason.TheVariants as reason
 use Rattle.pp_prog.specs.Cone.{InCone}
@@ -98,15 +100,36 @@ pub record IsFirstUnsettled (functions : List Function) (cs : List Content) (i g
   pub unsettled : IsUnsettled cs g
   pub first : (h : ℕ) → h < g → InCone functions i h → IsUnsettled cs h → ⊥
 
--- The text prints a content of each function, in order, and counts, and no others. What it says of each function is
--- true, a function that depends on another one depends on the first that it reaches and of which the text says that it
--- is invalid or open, and the counts are those of the verdicts.
+-- What the contents say of each function of the program is true, and a function that depends on another one depends
+-- on the first that it reaches and of which they say that it is invalid or open.
+pub record AreTrue (limits : Limits) (p : Program) (cs : List Content) : Type 0 where
+  pub true_of : (i : ℕ) (f : Function) (c : Content) → slice_get p.functions i ≡ Some f → slice_get cs i ≡ Some c
+      → Means limits p i f c
+  pub depends : (i : ℕ) (g : FunctionId) (checks : ℕ) → slice_get cs i ≡ Some (depending g checks)
+      → IsFirstUnsettled p.functions cs i g.0
+
+-- The text prints a content of each function, in order, and counts, and no others. The contents are true, and the
+-- counts are those of the verdicts.
 pub record IsTextReadBack (limits : Limits) (p : Program) (text : List ℕ) : Type 0 where
   pub content : ReportContent
   pub printed : PrintsReport p text content
   pub only : (other : ReportContent) → PrintsReport p text other → other ≡ content
-  pub true_of : (i : ℕ) (f : Function) (c : Content) → slice_get p.functions i ≡ Some f
-      → slice_get content.functions i ≡ Some c → Means limits p i f c
-  pub depends : (i : ℕ) (g : FunctionId) (checks : ℕ) → slice_get content.functions i ≡ Some (depending g checks)
-      → IsFirstUnsettled p.functions content.functions i g.0
+  pub holds : AreTrue limits p content.functions
   pub counted : content.counts ≡ counts_of content.functions
+
+-- ---- functions that were made
+
+-- The text prints a number of functions and counts, and no others. So many functions the program has. Lines as those of
+-- mode `verify` say one verdict of each function, in order, on its own checks. What they say is true, the counts are
+-- those of these verdicts, and the status is by the counts.
+pub record IsMadeReadBack (limits : Limits) (p : Program) (text : List ℕ) (s : Status) : Type 0 where
+  pub content : MadeContent
+  pub printed : PrintsMade text content
+  pub only : (other : MadeContent) → PrintsMade text other → other ≡ content
+  pub all : content.functions ≡ length p.functions
+  pub verdicts : List Content
+  pub lines : List (List ℕ)
+  pub one_each : PrintEach p 0 p.functions lines verdicts
+  pub holds : AreTrue limits p verdicts
+  pub counted : content.counts ≡ counts_of verdicts
+  pub status : s ≡ status_for content.counts.invalid content.counts.undecided content.counts.depending

@@ -1,7 +1,7 @@
 //! What answers mean: each function does nothing, and its contract is the law.
 
-ghost use Rattle.pp_answers.specs.Laws.{InvalidMeansFailed, LinesReadBack, OneLineEach, OneStatus};
-ghost use Rattle.pp_answers.specs.Laws.{OpenMeansSearched, RunsAreRuns, TextReadBack, ValidMeansGood};
+ghost use Rattle.pp_answers.specs.Laws.{InvalidMeansFailed, LinesReadBack, MadeReadBack, OneLineEach};
+ghost use Rattle.pp_answers.specs.Laws.{OneStatus, OpenMeansSearched, RunsAreRuns, TextReadBack, ValidMeansGood};
 
 /// A task and sources have one status, as far as functions that are verified don't stay open. It does nothing: its
 /// contract is the law.
@@ -27,6 +27,13 @@ pub fn lines_read_back()
 /// and nothing else, and all this is true. It does nothing: its contract is the law.
 pub fn text_read_back()
     ensures { TextReadBack }
+{}
+
+/// The text on functions that were made tells how many there are, and how many have each verdict, and nothing else; the
+/// verdicts that are counted are true, one of each function, and the status is by the counts. It does nothing: its
+/// contract is the law.
+pub fn made_read_back()
+    ensures { MadeReadBack }
 {}
 
 /// A function is called valid only where it is good: every call that meets the precondition evaluates, with some fuel,

@@ -1,8 +1,9 @@
 //! How large circuits of bounded trees are, and how fast they are built: `benches/bounded.sh` times them.
 
+ghost use Rattle.std.specs.Prelude.{◌≡◌, length};
 ghost use Rattle.pp_gate.specs.Circuit.{IsOf};
 ghost use Rattle.pp_bounded_samples.specs.Kept.{KeepsPair};
-ghost use Rattle.pp_bounded_samples.specs.Sample.{IsSample};
+ghost use Rattle.pp_bounded_samples.specs.Sample.{IsLow, IsSample};
 
 use anyhow::{Context, Result, bail, ensure};
 use pp_bounded::Bounded;
@@ -42,17 +43,31 @@ fn measured(alloc: Global, table: &TypeTable, case: &str, call: &str) -> Result<
     };
     ensure!(is_low(of, height), "no such trees");
     let mut circuit = Circuit::new(alloc)?;
+    measured_in(&mut circuit, table, of, height, call)
+}
+
+/// These numbers, in a circuit that has no gates yet.
+fn measured_in(
+    circuit: &mut Circuit,
+    table: &TypeTable,
+    of: DataId,
+    height: u32,
+    call: &str,
+) -> Result<(u32, u32)>
+    requires sample { IsSample table.now }
+    requires low { IsLow of height }
+    requires new { length circuit.old ≡ 1 }
+{
     let choice = circuit.input()?;
-    let mut domain = fresh(&mut circuit, table, choice)?;
-    let pair = unknown_pair(&mut domain, &mut circuit, table, of, height)?;
+    let mut domain = fresh(circuit, table, choice)?;
+    let pair = unknown_pair(&mut domain, circuit, table, of, height)?;
     let trees = circuit.gates();
-    call_on(alloc, &mut domain, &mut circuit, table, call, choice, &pair)?;
+    call_on(&mut domain, circuit, table, call, choice, &pair)?;
     Ok((trees, circuit.gates().saturating_sub(trees)))
 }
 
 /// The call of this name.
 fn call_on(
-    alloc: Global,
     domain: &mut Bounded,
     circuit: &mut Circuit,
     table: &TypeTable,
@@ -74,6 +89,7 @@ fn call_on(
             let _tree = merge(domain, circuit, table, choice, pair)?;
         }
         "read" => {
+            let alloc = circuit.allocator();
             let all = circuit.complete(&Assignment::of(alloc, &[])?)?;
             let _value = read(alloc, domain, circuit, table, &all, &pair.left)?;
         }

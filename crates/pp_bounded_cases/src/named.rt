@@ -1,6 +1,7 @@
 //! What calls of named trees add, and what the solver makes of what is asked of them.
 
 ghost use Rattle.std.specs.Prelude.{OnOk};
+ghost use Rattle.pp_named_trees.specs.Meaning.{NamedFits};
 ghost use Rattle.pp_bounded_samples.specs.Sample.{IsSample};
 ghost use Rattle.pp_bounded_cases.specs.Registers.{AreHeld};
 
@@ -23,27 +24,39 @@ pub fn answer(alloc: Global, table: &TypeTable, line: &str) -> Result<String>
     requires { IsSample table.now }
 {
     let mut words = words_of(alloc, line)?;
-    let mut answer = String::new(alloc);
     let mut circuit = Circuit::new(alloc)?;
     let mut trees = NamedTrees::over(&circuit);
+    answer_in(alloc, &mut trees, &mut circuit, table, &mut words)
+}
+
+/// The answer to the calls, in a domain that has made none.
+fn answer_in(
+    alloc: Global,
+    trees: &mut NamedTrees,
+    circuit: &mut Circuit,
+    table: &TypeTable,
+    words: &mut Vec<&str>,
+) -> Result<String>
+    requires sample { IsSample table.now }
+    requires fits { NamedFits table.now trees.old circuit.old }
+{
+    let mut answer = String::new(alloc);
     let mut symbols = Items::new(alloc);
     let mut asked = Vec::new(alloc);
     for _ in 0..words.len() {
         next_call(
-            &mut trees,
-            &mut circuit,
+            trees,
+            circuit,
             table,
             &mut symbols,
             &mut asked,
-            &mut words,
+            words,
             &mut answer,
         )?;
     }
     asked.push(trees.ok)?;
-    match assignment(alloc, &circuit, &asked)? {
-        None => write!(answer, "unsat")?,
-        Some(_) => write!(answer, "sat")?,
-    }
+    let found = assignment(alloc, circuit, &asked)?;
+    answer.push_str(if found.is_some() { "sat" } else { "unsat" })?;
     Ok(answer)
 }
 

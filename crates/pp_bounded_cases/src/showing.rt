@@ -29,8 +29,8 @@ pub fn value_of(
     read(alloc, domain, circuit, table, a, tree)?.context("no value")
 }
 
-/// For each constructor of the tree's datatype whether the tree has it, and behind the one that it has what is read of
-/// its fields, each in brackets.
+/// Adds for each constructor of the tree's datatype whether the tree has it, and behind the one that it has what is
+/// read of its fields, each in brackets.
 pub fn show_parts(
     alloc: Global,
     domain: &mut Bounded,
@@ -38,18 +38,18 @@ pub fn show_parts(
     table: &TypeTable,
     a: &Assignment,
     tree: &BoundedTree,
-) -> Result<String>
+    line: &mut String,
+) -> Result<()>
     requires { CanRead table.now domain.old circuit.old (assigned a.now) tree.now }
     ensures { OnOk result (Looked table.now domain.old circuit.old domain.new circuit.new) }
 {
-    let mut line = String::new(alloc);
     for number in 0..table.ctors.len() {
         let ctor = CtorId(u32::try_from(number)?);
         if is_ctor_of(table, ctor, tree.of) {
-            show_ctor(alloc, domain, circuit, table, a, tree, ctor, &mut line)?;
+            show_ctor(alloc, domain, circuit, table, a, tree, ctor, line)?;
         }
     }
-    Ok(line)
+    Ok(())
 }
 
 /// Adds whether the tree has the constructor, and then its fields.

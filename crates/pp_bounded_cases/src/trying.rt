@@ -1,6 +1,6 @@
 //! What the domain makes of two values.
 
-ghost use Rattle.std.specs.Prelude.{◌≡◌, IfOk, OnOk};
+ghost use Rattle.std.specs.Prelude.{◌≡◌, IfOk, OnOk, length};
 ghost use Rattle.pp_clause.specs.Assignment.{assigned};
 ghost use Rattle.pp_gate.specs.Circuit.{Gives, IsOf};
 ghost use Rattle.pp_bounded_trees.specs.Meaning.{BoundedFits};
@@ -40,23 +40,27 @@ pub fn answer(alloc: Global, table: &TypeTable, line: &str) -> Result<String>
 {
     let mut case = Case::read(alloc, line)?;
     let mut circuit = Circuit::new(alloc)?;
+    answer_in(alloc, &mut circuit, table, &mut case)
+}
+
+/// The answer to the case, in a circuit that has no gates yet.
+fn answer_in(
+    alloc: Global,
+    circuit: &mut Circuit,
+    table: &TypeTable,
+    case: &mut Case,
+) -> Result<String>
+    requires sample { IsSample table.now }
+    requires new { length circuit.old ≡ 1 }
+{
     let choice = circuit.input()?;
-    let mut domain = fresh(&mut circuit, table, choice)?;
+    let mut domain = fresh(circuit, table, choice)?;
     let chosen = if case.left_chosen {
         choice
     } else {
         choice.negated()
     };
-    let answer = answer_from(
-        alloc,
-        &mut domain,
-        &mut circuit,
-        table,
-        choice,
-        chosen,
-        &mut case,
-    )?;
-    Ok(answer)
+    answer_from(alloc, &mut domain, circuit, table, choice, chosen, case)
 }
 
 /// The answer to the case, where a choice of the inputs is made so that the literal `chosen` is true.
@@ -161,6 +165,36 @@ fn told(
     requires kept { AreKept table.now domain.old circuit.old compared.now }
     requires gives { Gives (assigned a.now) circuit.old }
 {
+    let mut line = told_values(alloc, domain, circuit, table, a, compared, case)?;
+    let left = &compared.pair.left;
+    line.push_str(" |")?;
+    show_parts(alloc, domain, circuit, table, a, left, &mut line)?;
+    line.push_str(" |")?;
+    show_parts(
+        alloc,
+        domain,
+        circuit,
+        table,
+        a,
+        &compared.merged,
+        &mut line,
+    )?;
+    Ok(line)
+}
+
+/// What is read and compared under the assignment.
+fn told_values(
+    alloc: Global,
+    domain: &Bounded,
+    circuit: &Circuit,
+    table: &TypeTable,
+    a: &Assignment,
+    compared: &Compared,
+    case: &Case,
+) -> Result<String>
+    requires kept { AreKept table.now domain.now circuit.now compared.now }
+    requires gives { Gives (assigned a.now) circuit.now }
+{
     let found = Found {
         left: value_of(alloc, domain, circuit, table, a, &compared.pair.left)?,
         right: value_of(alloc, domain, circuit, table, a, &compared.pair.right)?,
@@ -169,8 +203,5 @@ fn told(
         merged: value_of(alloc, domain, circuit, table, a, &compared.merged)?,
     };
     found.check(case)?;
-    let values = found.show(alloc)?;
-    let left_parts = show_parts(alloc, domain, circuit, table, a, &compared.pair.left)?;
-    let merged_parts = show_parts(alloc, domain, circuit, table, a, &compared.merged)?;
-    Ok(format!(in alloc; "{values} |{left_parts} |{merged_parts}")?)
+    found.show(alloc)
 }

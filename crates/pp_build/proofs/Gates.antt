@@ -1,16 +1,15 @@
 -- The gates that operations on symbols take, as steps with the symbols' sorts and heights count them.
-use Rattle.std.proofs.Common.{◌≡◌, ℕ, ◌+◌, ◌*◌, max, min, length, sym, subst, arith, Bool, true, false}
-use Rattle.std.proofs.Common.{if◌then◌else◌, List, Some, slice_get, refl, ap}
-use Rattle.std.proofs.Common.{◌∙◌}
+use Rattle.std.proofs.Common.{◌≡◌, ℕ, ◌+◌, ◌*◌, max, min, length, sym, subst, arith, Bool, true, false, if◌then◌else◌}
+use Rattle.std.proofs.Common.{List, Some, slice_get, refl, ap, ◌∙◌}
 use Rattle.pp_prog.specs.declared.id.CtorId.{CtorId}
 use Rattle.pp_prog.specs.declared.sort.Sort.{Sort}
 use Rattle.pp_prog.specs.declared.sort.Sort.TheVariants as sort
 use Rattle.pp_prog.specs.declared.types.Ctor.{Ctor}
 use Rattle.pp_prog.specs.declared.types.TypeTable.{TypeTable}
-use Rattle.pp_prog.specs.declared.expr.BinaryOp.{BinaryOp}
-use Rattle.pp_prog.specs.declared.expr.BinaryOp.TheVariants.{Add, Sub, Mul, Div, Rem, Equal, Differ, Less, AtMost}
-use Rattle.pp_prog.specs.declared.expr.BinaryOp.TheVariants.{More}
-use Rattle.pp_prog.specs.declared.expr.BinaryOp.TheVariants.{AtLeast, AndAlso, OrElse, And, Or, Xor, Shl, Shr, Ushr}
+use Rattle.pp_operators.specs.declared.class.OperatorClass.{OperatorClass}
+use Rattle.pp_operators.specs.declared.class.OperatorClass.TheVariants as class
+use Rattle.pp_tree.specs.declared.operator.BinaryOp.{BinaryOp}
+use Rattle.pp_tree.specs.declared.operator.BinaryOp.TheVariants.{Equal}
 use Rattle.pp_prog.specs.ExprSorts.{sort_if, then_sort}
 use Rattle.pp_prog.specs.Sizes.{bits, by_sort, nodes}
 use Rattle.pp_prog.specs.Sorts.{same_sort}
@@ -23,11 +22,11 @@ use Rattle.pp_domain.specs.Allowance.{nodes_at}
 use Rattle.pp_domain.specs.AnySort.{choose_gates, compare_gates}
 use Rattle.pp_domain.specs.Sense.{Sense}
 use Rattle.pp_domain.specs.Symbols.{IsSymbol, symbol_height}
-use Rattle.pp_steps.specs.Gates.{binary_gates}
-use Rattle.pp_steps.specs.Sorted.{operated_sort}
+use Rattle.pp_steps.specs.Gates.{binary_gates, class_gates}
+use Rattle.pp_steps.specs.Sorted.{class_operated, operated_sort}
 use Rattle.pp_build.specs.StepGates.{one_look}
-use Rattle.pp_build_operators.specs.Budget.{goes_down_gates, is_equality, operator_gates, symbol_sort}
-use Rattle.pp_build_operators.specs.Budget.{tree_down_gates}
+use Rattle.pp_operators.specs.Classes.{class_is_equality, class_of, is_equality}
+use Rattle.pp_build_operators.specs.Budget.{goes_down_gates, operator_gates, symbol_sort, tree_down_gates}
 use Rattle.pp_build_operators.proofs.SymbolSorts.{compare_gates_are, symbol_sort_is}
 
 equal_sorts : (p q r : Sort) → operated_sort Equal (Some p) (Some q) ≡ Some r → p ≡ q
@@ -77,7 +76,7 @@ module _ {D T : Type 0} (m : Sense D T) (types : TypeTable) where
       → operator_gates m types op d x y ≡ (if is_equality op
       then by_sort 64 1 (λ of. equality_gates m types of (min (symbol_height m d x) (symbol_height m d y))) s
       else binary_gates types op 0 s)
-  operator_gates_are op d gs s t u x y is other sorted = by op sorted
+  operator_gates_are op d gs s t u x y is other sorted = by (class_of op) sorted
     where
       h : ℕ
       h = min (symbol_height m d x) (symbol_height m d y)
@@ -86,31 +85,21 @@ module _ {D T : Type 0} (m : Sense D T) (types : TypeTable) where
       compared same =
           compare_gates_are m types d gs s x y is (subst (λ q. IsSymbol m d gs q y) (sym same) other)
 
-      plain : (o : BinaryOp) → binary_gates types o 0 (symbol_sort m types d x) ≡ binary_gates types o 0 s
-      plain o = ap (binary_gates types o 0) (symbol_sort_is m types d gs s x is)
+      plain : (o : OperatorClass) → class_gates types o 0 (symbol_sort m types d x) ≡ class_gates types o 0 s
+      plain o = ap (class_gates types o 0) (symbol_sort_is m types d gs s x is)
 
-      by : (o : BinaryOp) → operated_sort o (Some s) (Some t) ≡ Some u
-          → operator_gates m types o d x y ≡ (if is_equality o
-          then by_sort 64 1 (λ of. equality_gates m types of h) s else binary_gates types o 0 s)
-      by Equal sorted = compared (equal_sorts s t u sorted)
-      by Differ sorted = compared (equal_sorts s t u sorted)
-      by Add sorted = plain Add
-      by Sub sorted = plain Sub
-      by Mul sorted = plain Mul
-      by Div sorted = plain Div
-      by Rem sorted = plain Rem
-      by Less sorted = plain Less
-      by AtMost sorted = plain AtMost
-      by More sorted = plain More
-      by AtLeast sorted = plain AtLeast
-      by AndAlso sorted = plain AndAlso
-      by OrElse sorted = plain OrElse
-      by And sorted = plain And
-      by Or sorted = plain Or
-      by Xor sorted = plain Xor
-      by Shl sorted = plain Shl
-      by Shr sorted = plain Shr
-      by Ushr sorted = plain Ushr
+      by : (o : OperatorClass) → class_operated o (Some s) (Some t) ≡ Some u
+          → (if class_is_equality o then compare_gates m types d x y
+          else class_gates types o 0 (symbol_sort m types d x)) ≡ (if class_is_equality o
+          then by_sort 64 1 (λ of. equality_gates m types of h) s else class_gates types o 0 s)
+      by class.Equality sorted = compared (equal_sorts s t u sorted)
+      by class.Sum sorted = plain class.Sum
+      by class.Product sorted = plain class.Product
+      by class.Quotient sorted = plain class.Quotient
+      by class.Order sorted = plain class.Order
+      by class.Logic sorted = plain class.Logic
+      by class.Bitwise sorted = plain class.Bitwise
+      by class.Shift sorted = plain class.Shift
 
   pub goes_down_gates_are : (d : D) (gs : List Gate) (s : Sort) (x y : Symbol T) → IsSymbol m d gs s x
       → IsSymbol m d gs s y

@@ -1,9 +1,8 @@
 -- Performed steps that are operators, and steps of which nothing is known.
 use Rattle.std.proofs.Common.{◌≡◌, ◌+◌, ◌*◌, if◌then◌else◌, ℕ, min, true, false, List, [], ◌∷◌, ◌++◌, arith, length}
-use Rattle.std.proofs.Common.{Some}
-use Rattle.std.proofs.Common.{slice_get, refl, sym, ap, ◌∙◌, subst}
-use Rattle.pp_prog.specs.declared.expr.BinaryOp.{BinaryOp}
-use Rattle.pp_prog.specs.declared.expr.UnaryOp.{UnaryOp}
+use Rattle.std.proofs.Common.{Some, slice_get, refl, sym, ap, ◌∙◌, subst}
+use Rattle.pp_tree.specs.declared.operator.BinaryOp.{BinaryOp}
+use Rattle.pp_tree.specs.declared.operator.UnaryOp.{UnaryOp}
 use Rattle.pp_prog.specs.declared.sort.Sort.{Sort}
 use Rattle.pp_prog.specs.declared.sort.Sort.TheVariants as sort
 use Rattle.pp_prog.specs.declared.types.TypeTable.{TypeTable}
@@ -30,7 +29,8 @@ use Rattle.pp_build.specs.StepGates.{looked_trees}
 use Rattle.pp_build.proofs.Expanded.{none_expanded}
 use Rattle.pp_build.proofs.StepGates.{keeps_compared, keeps_same}
 use Rattle.pp_steps.specs.Meaning.{Values, applied, value_or}
-use Rattle.pp_build_operators.specs.Budget.{goes_down_gates, is_equality, operator_gates}
+use Rattle.pp_operators.specs.Classes.{is_equality}
+use Rattle.pp_build_operators.specs.Budget.{goes_down_gates, operator_gates}
 use Rattle.pp_build_operators.specs.Operated.{IsBinary, IsDescent, IsUnary, StandsAs}
 use Rattle.pp_build.specs.Performed.{CanPerform, Performs}
 use Rattle.pp_build.proofs.Operands.{operand_stands, step_known}

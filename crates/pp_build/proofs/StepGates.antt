@@ -1,13 +1,12 @@
 -- The gates of steps: in an exact domain those by heights, in another one no more after fewer looks.
-use Rattle.std.proofs.Common.{◌≡◌, ℕ, suc, ◌+◌, ◌*◌, ◌≤◌, max, min, nat_eq, Bool, true, false, if◌then◌else◌}
-use Rattle.std.proofs.Common.{List, []}
-use Rattle.std.proofs.Common.{◌∷◌, ◌++◌, drop, length, map, sum, Some, slice_get, refl, sym, ap, ◌∙◌, subst, arith}
-use Rattle.std.proofs.Common.{inl, inr, ◌⊎◌}
+use Rattle.pp_tree.specs.declared.operator.BinaryOp.{BinaryOp}
+use Rattle.std.proofs.Common.{◌≡◌, ℕ, suc, ◌+◌, ◌*◌, ◌≤◌, max, min, nat_eq, Bool, true, false, if◌then◌else◌, List, []}
+use Rattle.std.proofs.Common.{◌∷◌, ◌++◌, drop, length, map, sum, Some, slice_get, refl, sym, ap, ◌∙◌, subst, arith, inl}
+use Rattle.std.proofs.Common.{inr, ◌⊎◌}
 use Rattle.std.proofs.lemmas.Bool.{eq-eqb, eqb-true}
-use Rattle.pp_prog.specs.declared.expr.BinaryOp.{BinaryOp}
-use Rattle.pp_prog.specs.declared.expr.BinaryOp.TheVariants.{Add, Sub, Mul, Div, Rem, Equal, Differ, Less, AtMost}
-use Rattle.pp_prog.specs.declared.expr.BinaryOp.TheVariants.{More}
-use Rattle.pp_prog.specs.declared.expr.BinaryOp.TheVariants.{AtLeast, AndAlso, OrElse, And, Or, Xor, Shl, Shr, Ushr}
+use Rattle.pp_operators.specs.Classes.{class_is_equality, class_of}
+use Rattle.pp_operators.specs.declared.class.OperatorClass.{OperatorClass}
+use Rattle.pp_operators.specs.declared.class.OperatorClass.TheVariants as class
 use Rattle.pp_prog.specs.declared.id.DataId.{DataId}
 use Rattle.pp_prog.specs.declared.sort.Sort.{Sort}
 use Rattle.pp_prog.specs.declared.sort.Sort.TheVariants as sort
@@ -19,11 +18,11 @@ use Rattle.pp_domain.specs.Sense.{Inexact, Sense}
 use Rattle.pp_gate.specs.declared.gate.Gate.{Gate}
 use Rattle.pp_steps.specs.declared.step.Step.{Step}
 use Rattle.pp_steps.specs.declared.step.Step.TheVariants as steps
-use Rattle.pp_steps.specs.Gates.{Heights, all_gates, gates_of, open_gates}
+use Rattle.pp_steps.specs.Gates.{Heights, all_gates, class_gates, gates_of, open_gates}
 use Rattle.pp_steps.specs.Sorted.{Sorts}
 use Rattle.pp_build.proofs.StepLists.{drop_at}
-use Rattle.pp_build.specs.StepGates.{AtMostIn, KeepsLooks, all_step_gates, compared, looked, one_look}
-use Rattle.pp_build.specs.StepGates.{is_seen, looked_trees, opened_gates, step_gates}
+use Rattle.pp_build.specs.StepGates.{AtMostIn, KeepsLooks, all_step_gates, compared, looked, one_look, is_seen}
+use Rattle.pp_build.specs.StepGates.{looked_trees, opened_gates, step_gates}
 use Rattle.pp_build_operators.specs.Operated.{CountsOne}
 
 -- ---- fewer looks
@@ -295,7 +294,7 @@ module _ {D T : Type 0} (m : Sense D T) (types : TypeTable) (exact : m.exact ≡
       chosen sort.Bool = refl
       chosen (sort.Tree of) = ap (λ n. 32 + n) (bits_are of (max (η a) (η b)))
   exact_gates looks compares seen k (steps.Unary op a) = refl
-  exact_gates looks compares seen k (steps.Binary op a b) = by op
+  exact_gates looks compares seen k (steps.Binary op a b) = by (class_of op)
     where
       h : ℕ
       h = min (η a) (η b)
@@ -306,28 +305,17 @@ module _ {D T : Type 0} (m : Sense D T) (types : TypeTable) (exact : m.exact ≡
       compared sort.Bool = refl
       compared (sort.Tree of) = ap (λ (b : Bool). if b then 4 * (32 + bits types h (sort.Tree of)) else 64) exact
 
-      by : (o : BinaryOp)
-          → step_gates m types σ η looks compares seen k (steps.Binary o a b)
-          ≡ gates_of types σ η k (steps.Binary o a b)
-      by Equal = compared (σ a)
-      by Differ = compared (σ a)
-      by Add = refl
-      by Sub = refl
-      by Mul = refl
-      by Div = refl
-      by Rem = refl
-      by Less = refl
-      by AtMost = refl
-      by More = refl
-      by AtLeast = refl
-      by AndAlso = refl
-      by OrElse = refl
-      by And = refl
-      by Or = refl
-      by Xor = refl
-      by Shl = refl
-      by Shr = refl
-      by Ushr = refl
+      by : (o : OperatorClass)
+          → (if class_is_equality o then by_sort 64 1 (λ of. equality_gates m types of h) (σ a)
+          else class_gates types o 0 (σ a)) ≡ class_gates types o h (σ a)
+      by class.Equality = compared (σ a)
+      by class.Sum = refl
+      by class.Product = refl
+      by class.Quotient = refl
+      by class.Order = refl
+      by class.Logic = refl
+      by class.Bitwise = refl
+      by class.Shift = refl
   exact_gates looks compares seen k (steps.Construct c fields) = no_look looks compares (σ k)
   exact_gates looks compares seen k (steps.IsCtor c n a) = no_new_look looks compares (is_seen seen a) (σ a)
   exact_gates looks compares seen k (steps.CtorField c i a) = no_new_look looks compares (is_seen seen a) (σ a)

@@ -1,7 +1,7 @@
 -- How many gates and inputs a step may take: of an exact domain by the heights of its operands, of another one by the
 -- datatypes of the trees that were looked at so far, and by how many comparisons are counted. Source: own.
-use Rattle.std.specs.Prelude.{◌≡◌, false, ℕ, suc, ◌+◌, ◌*◌, ◌≤◌, max, min, if◌then◌else◌, List, [], ◌∷◌, ◌++◌}
-use Rattle.std.specs.Prelude.{Bool, length, nat_eq}
+use Rattle.std.specs.Prelude.{◌≡◌, false, ℕ, suc, ◌+◌, ◌*◌, ◌≤◌, max, min, if◌then◌else◌, List, [], ◌∷◌, ◌++◌, Bool}
+use Rattle.std.specs.Prelude.{length, nat_eq}
 use Rattle.std.specs.List.{list_any}
 use Rattle.pp_prog.specs.declared.id.DataId.{DataId}
 use Rattle.pp_prog.specs.declared.sort.Sort.{Sort}
@@ -13,9 +13,10 @@ use Rattle.pp_domain.specs.AnySort.{fresh_gates}
 use Rattle.pp_domain.specs.Sense.{Sense}
 use Rattle.pp_steps.specs.declared.step.Step.{Step}
 use Rattle.pp_steps.specs.declared.step.Step.TheVariants as steps
-use Rattle.pp_steps.specs.Gates.{Heights, binary_gates, unary_gates}
+use Rattle.pp_operators.specs.Gates.{unary_gates}
+use Rattle.pp_steps.specs.Gates.{Heights, binary_gates}
 use Rattle.pp_steps.specs.Sorted.{Sorts}
-use Rattle.pp_build_operators.specs.Budget.{is_equality}
+use Rattle.pp_operators.specs.Classes.{is_equality}
 
 -- the datatype, if it is one
 abbrev pub tree_of : Sort → List DataId

@@ -6,7 +6,7 @@ use Rattle.std.specs.Int.RustNames.{int_div, int_rem}
 use Rattle.std.proofs.lemmas.Bool.{false≢true}
 use Rattle.std.proofs.lemmas.Int.{ints, quot-rem}
 use Rattle.std.specs.Int.{w32}
-use Rattle.pp_prog.specs.declared.expr.UnaryOp.TheVariants.{Neg, Flip}
+use Rattle.pp_tree.specs.declared.operator.UnaryOp.TheVariants.{Neg, Flip}
 use Rattle.pp_prog.specs.declared.value.Value.{Value}
 use Rattle.pp_prog.specs.declared.value.Value.TheVariants as value
 use Rattle.pp_prog.specs.declared.value.Value.TheVariants.{outs-Int, outs-Bool}

@@ -1,8 +1,8 @@
 -- A symbol tells its sort, and so the gates of an operator on it.
 use Rattle.std.proofs.Common.{◌≡◌, Bool, false, if◌then◌else◌, List, Some, refl, ap, ◌∙◌}
 use Rattle.std.specs.Prelude.{min}
-use Rattle.pp_prog.specs.declared.expr.BinaryOp.{BinaryOp}
-use Rattle.pp_prog.specs.declared.expr.UnaryOp.{UnaryOp}
+use Rattle.pp_tree.specs.declared.operator.BinaryOp.{BinaryOp}
+use Rattle.pp_tree.specs.declared.operator.UnaryOp.{UnaryOp}
 use Rattle.pp_prog.specs.declared.sort.Sort.{Sort}
 use Rattle.pp_prog.specs.declared.sort.Sort.TheVariants as sort
 use Rattle.pp_prog.specs.declared.types.TypeTable.{TypeTable}
@@ -17,7 +17,8 @@ use Rattle.pp_domain.specs.Allowance.{equality_gates}
 use Rattle.pp_domain.specs.AnySort.{compare_gates}
 use Rattle.pp_steps.specs.Gates.{binary_gates}
 use Rattle.pp_steps.specs.Sorted.{operated_sort}
-use Rattle.pp_build_operators.specs.Budget.{is_equality, operator_gates, symbol_sort}
+use Rattle.pp_operators.specs.Classes.{is_equality}
+use Rattle.pp_build_operators.specs.Budget.{operator_gates, symbol_sort}
 
 module _ {D T : Type 0} (m : Sense D T) (types : TypeTable) where
   pub symbol_sort_is : (d : D) (gs : List Gate) (s : Sort) (x : Symbol T) → IsSymbol m d gs s x

@@ -1,8 +1,8 @@
 -- Operators with two operands on symbols.
 use Rattle.std.proofs.Common.{◌≡◌, ℕ, Bool, List, [], ◌∷◌, true, false, not, Some, None, refl, sym, ap, ◌∙◌, subst}
 use Rattle.std.specs.Int.{w32}
-use Rattle.pp_prog.specs.declared.expr.BinaryOp.{BinaryOp}
-use Rattle.pp_prog.specs.declared.expr.BinaryOp.TheVariants.{Equal, Differ}
+use Rattle.pp_tree.specs.declared.operator.BinaryOp.{BinaryOp}
+use Rattle.pp_tree.specs.declared.operator.BinaryOp.TheVariants.{Equal, Differ}
 use Rattle.pp_prog.specs.declared.sort.Sort.TheVariants as sort
 use Rattle.pp_prog.specs.declared.types.TypeTable.{TypeTable}
 use Rattle.pp_prog.specs.declared.value.Value.{Value}
@@ -28,14 +28,15 @@ use Rattle.pp_eval.specs.Operators.{on_numbers, on_truths}
 use Rattle.pp_eval.proofs.Trees.{one_answer, trees}
 use Rattle.pp_steps.specs.Meaning.{applied, value_or}
 use Rattle.pp_steps.specs.Sorted.{operated_sort}
-use Rattle.pp_build_operators.specs.Budget.{is_equality, is_order, number_gates, operator_gates, symbol_sort}
+use Rattle.pp_operators.specs.Classes.{class_of, is_equality, is_order}
+use Rattle.pp_build_operators.specs.Budget.{operator_gates, symbol_sort}
+use Rattle.pp_operators.specs.Gates.{number_gates}
 use Rattle.pp_build_operators.specs.Operated.{CanOperate, IsMade, StandsAs, IsBinary}
 use Rattle.pp_build_operators.specs.Plain.{IsNumberOf, IsTruthOf, applied_number}
 use Rattle.pp_build_operators.proofs.Results.{number_made, number_of_part, truth_made, truth_of_part, truth_stands}
 use Rattle.pp_build_operators.proofs.SymbolSorts.{operands_sorted, plain_gates}
 use Rattle.pp_build_operators.proofs.Values.{applied_numbers, applied_truths, equality_sort, makes_number}
-use Rattle.pp_build_operators.proofs.Values.{ordered_number}
-use Rattle.pp_build_operators.proofs.Values.{makes_truth, number_gates_are, number_sort, order_gates}
+use Rattle.pp_build_operators.proofs.Values.{ordered_number, makes_truth, number_gates_are, number_sort, order_gates}
 use Rattle.pp_build_operators.proofs.Values.{order_makes_truth, order_sort, truth_gates, truth_sort}
 
 -- what the operator makes of two values is what it makes of equal ones
@@ -62,13 +63,13 @@ module _ {D T : Type 0} (m : Sense D T) (types : TypeTable) (law : Lawful m) whe
 
   pub number_moves : (op : BinaryOp) (d : D) (gs hs : List Gate) (a b : List Literal) → m.Fits types d gs
       → is_equality op ≡ false → is_order op ≡ false → CanOperate m op d gs (symbol.Word a) (symbol.Word b)
-      → AddsGates gs hs (number_gates op)
+      → AddsGates gs hs (number_gates (class_of op))
       → Moves m types d gs d hs (operator_gates m types op d (symbol.Word a) (symbol.Word b))
   number_moves op d gs hs a b fits other plain can adds =
       subst (λ (k : ℕ). Moves m types d gs d hs k)
       (sym (plain_gates m types op d (symbol.Word a) (symbol.Word b) other ∙ number_gates_are types op 0 can.result
       other plain (sort_by_forms op d gs (symbol.Word a) (symbol.Word b) can)))
-      (Moves_gates m types law d gs hs (number_gates op) fits adds)
+      (Moves_gates m types law d gs hs (number_gates (class_of op)) fits adds)
 
   pub truth_moves : (op : BinaryOp) (d : D) (gs hs : List Gate) (a b : Literal) → m.Fits types d gs
       → is_equality op ≡ false → CanOperate m op d gs (symbol.Bit a) (symbol.Bit b) → AddsGates gs hs 1

@@ -5,12 +5,12 @@ use Rattle.std.specs.Prelude.{pos, not, ◌&&◌, int_le, int_lt}
 use Rattle.std.specs.Int.{w32}
 use Rattle.std.proofs.lemmas.Int.{ints}
 use Rattle.pp_word.specs.Word.{word_div, word_rem, word_neg, word_not}
-use Rattle.pp_prog.specs.declared.expr.BinaryOp.{BinaryOp}
-use Rattle.pp_prog.specs.declared.expr.BinaryOp.TheVariants.{Add, Sub, Mul, Div, Rem, Equal, Differ, Less, AtMost}
-use Rattle.pp_prog.specs.declared.expr.BinaryOp.TheVariants.{More, AtLeast, AndAlso, OrElse, And, Or, Xor, Shl, Shr}
-use Rattle.pp_prog.specs.declared.expr.BinaryOp.TheVariants.{Ushr}
-use Rattle.pp_prog.specs.declared.expr.UnaryOp.{UnaryOp}
-use Rattle.pp_prog.specs.declared.expr.UnaryOp.TheVariants.{Neg, Not, Flip}
+use Rattle.pp_tree.specs.declared.operator.BinaryOp.{BinaryOp}
+use Rattle.pp_tree.specs.declared.operator.BinaryOp.TheVariants.{Add, Sub, Mul, Div, Rem, Equal, Differ, Less, AtMost}
+use Rattle.pp_tree.specs.declared.operator.BinaryOp.TheVariants.{More, AtLeast, AndAlso, OrElse, And, Or, Xor, Shl, Shr}
+use Rattle.pp_tree.specs.declared.operator.BinaryOp.TheVariants.{Ushr}
+use Rattle.pp_tree.specs.declared.operator.UnaryOp.{UnaryOp}
+use Rattle.pp_tree.specs.declared.operator.UnaryOp.TheVariants.{Neg, Not, Flip}
 use Rattle.pp_prog.specs.declared.sort.Sort.{Sort}
 use Rattle.pp_prog.specs.declared.sort.Sort.TheVariants as sort
 use Rattle.pp_prog.specs.declared.types.TypeTable.{TypeTable}
@@ -21,14 +21,14 @@ use Rattle.pp_prog.specs.declared.value.Value.TheViews.{out-Value}
 use Rattle.pp_prog.specs.ExprSorts.{sort_if, then_sort, unary_sort}
 use Rattle.pp_prog.specs.Sorts.{same_sort}
 use Rattle.pp_eval.specs.Measure.{goes_down, layer_down}
-use Rattle.pp_eval.specs.Operators.{number, number_in, on_layers, on_numbers, on_truths, truth, truth_in}
-use Rattle.pp_eval.specs.Operators.{unary}
+use Rattle.pp_eval.specs.Operators.{number, number_in, on_layers, on_numbers, on_truths, truth, truth_in, unary}
 use Rattle.pp_eval.specs.Part.{Part, and_then}
 use Rattle.pp_steps.specs.Gates.{binary_gates}
 use Rattle.pp_steps.specs.Meaning.{applied}
 use Rattle.pp_steps.specs.Sorted.{operated_sort}
 use Rattle.pp_build_operators.specs.Plain.{applied_number}
-use Rattle.pp_build_operators.specs.Budget.{is_equality, is_order, number_gates}
+use Rattle.pp_operators.specs.Classes.{class_of, is_equality, is_order}
+use Rattle.pp_operators.specs.Gates.{number_gates}
 
 number_int : (x : ℤ) → number (Int x) ≡ Ok x
 number_int x = ap number_in (outs-Int x)
@@ -191,7 +191,7 @@ order_gates types op h s order = absurd (cc)
 
 pub number_gates_are : (types : TypeTable) (op : BinaryOp) (h : ℕ) (u : Sort) → is_equality op ≡ false
     → is_order op ≡ false → operated_sort op (Some sort.Int) (Some sort.Int) ≡ Some u
-    → binary_gates types op h sort.Int ≡ number_gates op
+    → binary_gates types op h sort.Int ≡ number_gates (class_of op)
 number_gates_are types Equal h u other plain is = absurd (cc)
 number_gates_are types Differ h u other plain is = absurd (cc)
 number_gates_are types AndAlso h u other plain is = absurd (cc)

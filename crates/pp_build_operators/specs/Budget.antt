@@ -1,9 +1,8 @@
 -- The gates of operators on symbols: those of a step whose operands have the symbols' heights, the left one with the
 -- symbol's sort. Source: own.
-use Rattle.std.specs.Prelude.{ℕ, ◌+◌, Bool, true, false, if◌then◌else◌}
-use Rattle.pp_prog.specs.declared.expr.BinaryOp.{BinaryOp}
-use Rattle.pp_prog.specs.declared.expr.BinaryOp.TheVariants.{Mul, Div, Rem, Equal, Differ, Less, AtMost, More}
-use Rattle.pp_prog.specs.declared.expr.BinaryOp.TheVariants.{AtLeast, And, Or, Xor, Shl, Shr, Ushr}
+use Rattle.std.specs.Prelude.{ℕ, ◌+◌, Bool, if◌then◌else◌}
+use Rattle.pp_operators.specs.Classes.{is_equality}
+use Rattle.pp_tree.specs.declared.operator.BinaryOp.{BinaryOp}
 use Rattle.pp_prog.specs.declared.sort.Sort.{Sort}
 use Rattle.pp_prog.specs.declared.sort.Sort.TheVariants as sort
 use Rattle.pp_prog.specs.declared.types.TypeTable.{TypeTable}
@@ -13,33 +12,6 @@ use Rattle.pp_domain.specs.Sense.{Sense}
 use Rattle.pp_domain.specs.Allowance.{below_gates}
 use Rattle.pp_domain.specs.AnySort.{compare_gates}
 use Rattle.pp_steps.specs.Gates.{binary_gates}
-
--- whether the operator compares two values of any sort
-abbrev pub is_equality : BinaryOp → Bool
-is_equality Equal = true
-is_equality Differ = true
-is_equality op = false
-
--- whether the operator compares two numbers by their order
-abbrev pub is_order : BinaryOp → Bool
-is_order Less = true
-is_order AtMost = true
-is_order More = true
-is_order AtLeast = true
-is_order op = false
-
--- the gates of an operator that makes a number of two numbers
-abbrev pub number_gates : BinaryOp → ℕ
-number_gates Mul = 8192
-number_gates Div = 16384
-number_gates Rem = 16384
-number_gates And = 64
-number_gates Or = 64
-number_gates Xor = 64
-number_gates Shl = 512
-number_gates Shr = 512
-number_gates Ushr = 512
-number_gates op = 256
 
 module _ {D T : Type 0} (m : Sense D T) (types : TypeTable) where
   -- the sort of a symbol, which its form tells

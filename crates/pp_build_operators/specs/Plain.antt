@@ -10,8 +10,8 @@ use Rattle.pp_gate.specs.Circuit.{IsOf, Gives}
 use Rattle.pp_wordgate.specs.Meaning.{word_of}
 use Rattle.pp_eval.specs.Operators.{on_numbers}
 use Rattle.pp_eval.specs.Part.{Part}
-use Rattle.pp_prog.specs.declared.expr.BinaryOp.{BinaryOp}
-use Rattle.pp_prog.specs.declared.expr.BinaryOp.TheVariants.{Div, Rem}
+use Rattle.pp_tree.specs.declared.operator.BinaryOp.{BinaryOp}
+use Rattle.pp_tree.specs.declared.operator.BinaryOp.TheVariants.{Div, Rem}
 use Rattle.pp_word.specs.Word.{word_div, word_rem}
 
 -- a word of the circuit, which stands for the number that the part comes to

@@ -10,15 +10,17 @@ ghost use Rattle.pp_wordgate.specs.Meaning.{StandsForWord, word_of};
 ghost use Rattle.pp_domain.specs.Moves.{Moves};
 ghost use Rattle.pp_domain.specs.Symbols.{IsWordSymbol};
 ghost use Rattle.pp_eval.specs.Operators.{on_numbers, on_truths};
-ghost use Rattle.pp_build_operators.specs.Budget as budget;
-ghost use Rattle.pp_build_operators.specs.Budget.{is_equality, number_gates, operator_gates};
+ghost use Rattle.pp_build_operators.specs.Budget.{operator_gates};
+ghost use Rattle.pp_operators.specs.Classes.{class_of, is_equality, is_order};
+ghost use Rattle.pp_operators.specs.Gates.{number_gates};
 ghost use Rattle.pp_build_operators.specs.Operated.{CanOperate, IsBinary};
 ghost use Rattle.pp_build_operators.specs.Plain.{IsNumberOf, IsTruthOf, applied_number};
 
 use pp_clause::{Lit, NoMemory};
 use pp_domain::{Domain, Symbol};
 use pp_gate::{Circuit, Word};
-use pp_prog::{BinaryOp, TypeTable};
+use pp_operators::{BinaryOp, is_order};
+use pp_prog::TypeTable;
 
 /// What the operator makes of the two symbols. A quotient by 0 is 0, and a remainder the dividend. Words and literals
 /// leave the domain as it was.
@@ -88,16 +90,6 @@ fn of_alike<D: Domain>(
     }
 }
 
-/// Whether the operator compares two numbers by their order.
-fn is_order(op: BinaryOp) -> bool
-    ensures { result ≡ budget.is_order op }
-{
-    matches!(
-        op,
-        BinaryOp::Less | BinaryOp::AtMost | BinaryOp::More | BinaryOp::AtLeast
-    )
-}
-
 /// An operator that compares two numbers by their order, and true where it is none.
 fn order(circuit: &mut Circuit, op: BinaryOp, a: Word, b: Word) -> Result<Lit, NoMemory>
     requires room { length circuit.old + 256 ≤ 2 ^ 30 }
@@ -130,11 +122,11 @@ fn order(circuit: &mut Circuit, op: BinaryOp, a: Word, b: Word) -> Result<Lit, N
 
 /// An operator that makes a number of two numbers, and 0 where it makes none.
 fn arithmetic(circuit: &mut Circuit, op: BinaryOp, a: Word, b: Word) -> Result<Word, NoMemory>
-    requires other { budget.is_order op ≡ false }
-    requires room { length circuit.old + number_gates op ≤ 2 ^ 30 }
+    requires other { is_order op ≡ false }
+    requires room { length circuit.old + number_gates (class_of op) ≤ 2 ^ 30 }
     requires left { All (IsOf circuit.old) a }
     requires right { All (IsOf circuit.old) b }
-    ensures adds { AddsGates circuit.old circuit.new (number_gates op) }
+    ensures adds { AddsGates circuit.old circuit.new (number_gates (class_of op)) }
     ensures stands { IfOk result (λ r. IsNumberOf circuit.new r (λ s.
         applied_number op (word_of w32 s a) (word_of w32 s b))) }
 {

@@ -8,7 +8,7 @@ ghost use Rattle.pp_gate.specs.Growth.{AddsGates};
 ghost use Rattle.pp_wordgate.specs.Meaning.{word_of};
 ghost use Rattle.pp_domain.specs.Moves.{Moves};
 ghost use Rattle.pp_eval.specs.Operators as eval;
-ghost use Rattle.pp_steps.specs.Gates.{unary_gates};
+ghost use Rattle.pp_operators.specs.Gates.{unary_gates};
 ghost use Rattle.pp_build_operators.specs.Operated.{CanApply, IsUnary};
 ghost use Rattle.pp_build_operators.specs.Plain.{IsNumberOf};
 

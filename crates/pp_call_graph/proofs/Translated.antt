@@ -2,16 +2,16 @@
 use Rattle.std.proofs.Common.{◌≡◌, ℕ, List, [], ◌∷◌, ◌++◌, map, Option, Some, None, refl, sym, ap, ◌∙◌, subst}
 use Rattle.pp_call_graph.proofs.Conditions.{both_parts}
 use Rattle.pp_prog.proofs.CallForms.{calls_of_int, calls_of_bool, calls_of_var, calls_of_unary, calls_of_binary}
-use Rattle.pp_prog.proofs.CallForms.{calls_of_construct, calls_of_field, calls_of_if}
+use Rattle.pp_prog.proofs.CallForms.{calls_of_construct, calls_of_field, calls_of_if, calls_of_match, calls_of_val}
+use Rattle.pp_prog.proofs.CallForms.{calls_of_assert, calls_of_call, calls_of_case}
 use Rattle.pp_call_graph.specs.TypedCalls as typed_side
 use Rattle.pp_call_graph.specs.TypedCalls.{case_calls, kind_calls, typed_calls}
 use Rattle.pp_instances.specs.declared.member.Member.{Member}
-use Rattle.pp_prog.proofs.CallForms.{calls_of_match, calls_of_val, calls_of_assert, calls_of_call, calls_of_case}
 use Rattle.pp_prog.specs.Calls.{calls, calls_in_case, joined}
 use Rattle.pp_prog.specs.declared.expr.Case.{Case}
 use Rattle.pp_prog.specs.declared.expr.Expr.{Expr}
-use Rattle.pp_translation.specs.Exprs.{CaseAt, Translated, binary_op, case_for, case_step, expr_at, expr_of, expr_step}
-use Rattle.pp_translation.specs.Exprs.{kind_step, translated, unary_op, unnumbered}
+use Rattle.pp_translation.specs.Exprs.{CaseAt, Translated, case_for, case_step, expr_at, expr_of, expr_step, kind_step}
+use Rattle.pp_translation.specs.Exprs.{translated, unnumbered}
 use Rattle.pp_translation.specs.Numbers.{ctor_number, function_number}
 use Rattle.pp_translation.specs.Patterns.{pattern_at}
 use Rattle.pp_typed.specs.Put.{put}
@@ -98,9 +98,9 @@ module _ (typed : Typed) (roots functions : List Member) (args : List GenericSor
       calls_of_construct (ctor_number typed.ctors roots c (map (put args) sorts)) (each_at (map (λ z. z.0) es))
       ∙ ap joined (each es)
   level (layer.Field e j) = calls_of_field (in_expr e.0).1 j ∙ e.1
-  level (layer.Unary op a) = calls_of_unary (unary_op op) (in_expr a.0).1 ∙ a.1
+  level (layer.Unary op a) = calls_of_unary op (in_expr a.0).1 ∙ a.1
   level (layer.Binary op a b) =
-      calls_of_binary (binary_op op) (in_expr a.0).1 (in_expr b.0).1 None ∙ both_parts a.1 b.1
+      calls_of_binary op (in_expr a.0).1 (in_expr b.0).1 None ∙ both_parts a.1 b.1
   level (layer.If c a b) =
       calls_of_if (in_expr c.0).1 (in_expr a.0).1 (in_expr b.0).1 ∙ both_parts (both_parts c.1 a.1) b.1
   level (layer.Match e cases) =

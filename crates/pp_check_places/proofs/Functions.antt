@@ -14,7 +14,7 @@ use Rattle.pp_prog.specs.ExprSorts.{is_of_sort, is_sorted, is_sorted_measure, is
 use Rattle.pp_prog.specs.Listing.{function_sites, measure_sites, post_sites, postcondition, pre_sites}
 use Rattle.pp_prog.specs.Sorts.{param_sorts}
 use Rattle.pp_prog.specs.declared.check.CheckKind.TheVariants as check
-use Rattle.pp_prog.specs.declared.expr.BinaryOp.TheVariants.{AndAlso}
+use Rattle.pp_tree.specs.declared.operator.BinaryOp.TheVariants.{AndAlso}
 use Rattle.pp_prog.specs.declared.expr.Expr.{Expr}
 use Rattle.pp_prog.specs.declared.expr.Function.{Function}
 use Rattle.pp_prog.specs.declared.id.CheckId.{CheckId}

@@ -1,26 +1,24 @@
 -- A typed expression has as many marks as the sites of the expression that it is, with their kinds and at their
 -- offsets.
-use Rattle.std.proofs.Common.{◌≡◌, List, [], ◌∷◌, map, Option, Some, None, sym, ap, subst}
+use Rattle.std.proofs.Common.{◌≡◌, List, [], ◌∷◌, map, Option, Some, None, sym, ap, subst, Bool, true, false}
 use Rattle.pp_check_places.proofs.Marked.{IsMarked, around_marked, call_marked, division_marked, last_marked}
 use Rattle.pp_check_places.proofs.Marked.{none_marked, two_marked, under_marked, with_kinds}
-use Rattle.pp_check_places.proofs.SiteKinds.{Kinds, case_kinds, kinds, operator_kinds, kinds_assert, kinds_binary}
-use Rattle.pp_check_places.proofs.SiteKinds.{kinds_bool, kinds_call, kinds_construct, kinds_field, kinds_if}
-use Rattle.pp_check_places.proofs.SiteKinds.{kinds_in_case, kinds_int, kinds_match, kinds_unary, kinds_val, kinds_var}
+use Rattle.pp_check_places.proofs.SiteKinds.{Kinds, case_kinds, division_kinds, kinds, operator_kinds, kinds_assert}
+use Rattle.pp_check_places.proofs.SiteKinds.{kinds_binary, kinds_bool, kinds_call, kinds_construct, kinds_field}
+use Rattle.pp_check_places.proofs.SiteKinds.{kinds_if, kinds_in_case, kinds_int, kinds_match, kinds_unary, kinds_val}
+use Rattle.pp_check_places.proofs.SiteKinds.{kinds_var}
 use Rattle.pp_instances.specs.declared.member.Member.{Member}
 use Rattle.pp_prog.specs.declared.expr.Expr.{Expr}
-use Rattle.pp_translation.specs.Exprs.{CaseAt, Translated, binary_op, case_for, expr_at, expr_of, translated, unary_op}
-use Rattle.pp_translation.specs.Exprs.{unnumbered}
+use Rattle.pp_translation.specs.Exprs.{CaseAt, Translated, case_for, expr_at, expr_of, translated, unnumbered}
 use Rattle.pp_translation.specs.Exprs as exprs
 use Rattle.pp_translation.specs.Numbers.{ctor_number, function_number}
 use Rattle.pp_translation.specs.Patterns.{pattern_at}
 use Rattle.pp_translation.specs.Places as places
-use Rattle.pp_translation.specs.Places.{operator_offset, site_offsets}
+use Rattle.pp_translation.specs.Places.{division_offset, operator_offset, site_offsets}
+use Rattle.pp_operators.specs.Classes.{is_division}
 use Rattle.pp_tree.specs.declared.operator.BinaryOp.{BinaryOp}
-use Rattle.pp_tree.specs.declared.operator.BinaryOp.TheVariants.{Add, Sub, Mul, Div, Rem, Equal, Differ, Less, AtMost}
-use Rattle.pp_tree.specs.declared.operator.BinaryOp.TheVariants.{More, AtLeast, AndAlso, OrElse, And, Or, Xor, Shl}
-use Rattle.pp_tree.specs.declared.operator.BinaryOp.TheVariants.{Shr, Ushr}
-use Rattle.pp_typed.specs.Apart.{Mark, a_call, a_division, a_match, an_assertion, case_marks, expr_marks, kind_marks}
-use Rattle.pp_typed.specs.Apart.{marks, operator_mark}
+use Rattle.pp_typed.specs.Apart.{Mark, a_match, an_assertion, case_marks, expr_marks, kind_marks, division_mark, marks}
+use Rattle.pp_typed.specs.Apart.{operator_mark, a_call, a_division}
 use Rattle.pp_typed.specs.Apart as apart
 use Rattle.pp_typed.specs.Put.{put}
 use Rattle.pp_typed.specs.Stand.{Offset, case_offsets, expr_offsets, joined, kind_offsets, offsets}
@@ -37,27 +35,14 @@ use Rattle.pp_typed.specs.declared.pattern.TypedPattern.{TypedPattern}
 use Rattle.pp_typed.specs.declared.sort.GenericSort.{GenericSort}
 use Rattle.pp_typed.specs.declared.typed.Typed.{Typed}
 
+marked_division : (b : Bool) (here : Offset)
+    → IsMarked (division_mark b here) (division_offset b here) (division_kinds b) (here ∷ [])
+marked_division true here = division_marked here
+marked_division false here = none_marked (here ∷ [])
+
 operator_marked : (op : BinaryOp) (here : Offset)
-    → IsMarked (operator_mark op here) (operator_offset op here) (operator_kinds (binary_op op)) (here ∷ [])
-operator_marked Add here = none_marked (here ∷ [])
-operator_marked Sub here = none_marked (here ∷ [])
-operator_marked Mul here = none_marked (here ∷ [])
-operator_marked Div here = division_marked here
-operator_marked Rem here = division_marked here
-operator_marked Equal here = none_marked (here ∷ [])
-operator_marked Differ here = none_marked (here ∷ [])
-operator_marked Less here = none_marked (here ∷ [])
-operator_marked AtMost here = none_marked (here ∷ [])
-operator_marked More here = none_marked (here ∷ [])
-operator_marked AtLeast here = none_marked (here ∷ [])
-operator_marked AndAlso here = none_marked (here ∷ [])
-operator_marked OrElse here = none_marked (here ∷ [])
-operator_marked And here = none_marked (here ∷ [])
-operator_marked Or here = none_marked (here ∷ [])
-operator_marked Xor here = none_marked (here ∷ [])
-operator_marked Shl here = none_marked (here ∷ [])
-operator_marked Shr here = none_marked (here ∷ [])
-operator_marked Ushr here = none_marked (here ∷ [])
+    → IsMarked (operator_mark op here) (operator_offset op here) (operator_kinds op) (here ∷ [])
+operator_marked op here = marked_division (is_division op) here
 
 abbrev Ms : Type 0
 Ms = List Mark
@@ -173,10 +158,10 @@ module _ (typed : Typed) (roots functions : List Member) (args : List GenericSor
       with_kinds (under_marked here (all_marked es))
       (kinds_construct (ctor_number typed.ctors roots c (map (put args) sorts)) (map expr_of (map whole (firsts es))))
   level (layer.Field e j) here = with_kinds (under_marked here e.1) (kinds_field (expr_of (whole e.0)) j)
-  level (layer.Unary op a) here = with_kinds (under_marked here a.1) (kinds_unary (unary_op op) (expr_of (whole a.0)))
+  level (layer.Unary op a) here = with_kinds (under_marked here a.1) (kinds_unary op (expr_of (whole a.0)))
   level (layer.Binary op a b) here =
       with_kinds (last_marked here (two_marked a.1 b.1) (operator_marked op here))
-      (kinds_binary (binary_op op) (expr_of (whole a.0)) (expr_of (whole b.0)) None)
+      (kinds_binary op (expr_of (whole a.0)) (expr_of (whole b.0)) None)
   level (layer.If c a b) here =
       with_kinds (under_marked here (two_marked (two_marked c.1 a.1) b.1))
       (kinds_if (expr_of (whole c.0)) (expr_of (whole a.0)) (expr_of (whole b.0)))

@@ -2,13 +2,13 @@
 -- the numbers of checks.
 use Rattle.std.proofs.Common.{◌≡◌, ℕ, ℤ, Bool, List, [], ◌∷◌, ◌++◌, map, Option, Some, None, refl, sym, ap, ◌∙◌, subst}
 use Rattle.std.specs.Option.{option_map}
-use Rattle.std.specs.Prelude.{List, [], ◌∷◌, ◌++◌, map, Option}
+use Rattle.std.specs.Prelude.{List, [], ◌∷◌, ◌++◌, map, Option, true, false}
 use Rattle.pp_prog.specs.Calls.{joined, or_none}
 use Rattle.pp_prog.specs.Listing.{Site, plain, division, assertion, precondition, measure, matching, postcondition}
 use Rattle.pp_prog.specs.declared.check.CheckKind.{CheckKind}
 use Rattle.pp_prog.specs.declared.check.CheckKind.TheVariants as kind
-use Rattle.pp_prog.specs.declared.expr.BinaryOp.{BinaryOp}
-use Rattle.pp_prog.specs.declared.expr.BinaryOp.TheVariants.{Div, Rem}
+use Rattle.pp_operators.specs.Classes.{is_division}
+use Rattle.pp_tree.specs.declared.operator.BinaryOp.{BinaryOp}
 use Rattle.pp_prog.specs.declared.expr.Case.{Case}
 use Rattle.pp_prog.specs.declared.expr.Expr.{Expr}
 use Rattle.pp_prog.specs.declared.expr.Expr.TheFolds.{fold-roll-Case, fold-roll-Expr, fold-Case, ind-Expr, map-Case}
@@ -17,7 +17,7 @@ use Rattle.pp_prog.specs.declared.expr.Expr.TheOpen as layer
 use Rattle.pp_prog.specs.declared.expr.Expr.TheVariants as prog
 use Rattle.pp_prog.specs.declared.expr.Expr.TheViews.{roll-Case, roll-Expr}
 use Rattle.pp_prog.specs.declared.expr.Pattern.{Pattern}
-use Rattle.pp_prog.specs.declared.expr.UnaryOp.{UnaryOp}
+use Rattle.pp_tree.specs.declared.operator.UnaryOp.{UnaryOp}
 use Rattle.pp_prog.specs.declared.id.CheckId.{CheckId}
 use Rattle.pp_prog.specs.declared.id.CtorId.{CtorId}
 use Rattle.pp_prog.specs.declared.id.FunctionId.{FunctionId}
@@ -41,10 +41,12 @@ site_kind (postcondition check) = kind.Postcondition ∷ []
 abbrev pub site_kinds : List Site → Kinds
 site_kinds sites = joined (map site_kind sites)
 
+abbrev pub division_kinds : Bool → Kinds
+division_kinds true = kind.Division ∷ []
+division_kinds false = []
+
 abbrev pub operator_kinds : BinaryOp → Kinds
-operator_kinds Div = kind.Division ∷ []
-operator_kinds Rem = kind.Division ∷ []
-operator_kinds op = []
+operator_kinds op = division_kinds (is_division op)
 
 -- one level, with the kinds of the parts in their place
 abbrev pub kinds_step : layer.Expr-F Kinds Kinds → Kinds

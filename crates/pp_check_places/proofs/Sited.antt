@@ -1,23 +1,20 @@
 -- The sites of a sorted expression have its kinds.
 use Rattle.std.proofs.Common.{◌≡◌, List, [], ◌∷◌, ◌++◌, map, Option, Some, None, refl, sym, ap, ◌∙◌, subst}
 use Rattle.std.proofs.lemmas.List.{map-append}
-use Rattle.std.specs.Prelude.{slice_get}
-use Rattle.pp_check_places.proofs.SiteKinds.{Kinds, case_kinds, kinds, kinds_step, case_kinds_step, operator_kinds}
-use Rattle.pp_check_places.proofs.SiteKinds.{site_kind, site_kinds, rolled, rolled_case}
+use Rattle.std.specs.Prelude.{slice_get, Bool, true, false}
+use Rattle.pp_check_places.proofs.SiteKinds.{Kinds, case_kinds, kinds, kinds_step, case_kinds_step, division_kinds}
+use Rattle.pp_check_places.proofs.SiteKinds.{operator_kinds, site_kind, site_kinds, rolled, rolled_case}
 use Rattle.pp_prog.specs.Calls.{joined}
-use Rattle.pp_prog.specs.ExprSorts.{Sorting, alike, arm_with, arms_sort}
-use Rattle.pp_prog.specs.ExprSorts.{field_sort, sort_of, sort_step, sorts_in}
+use Rattle.pp_prog.specs.ExprSorts.{Sorting, alike, arm_with, arms_sort, field_sort, sort_of, sort_step, sorts_in}
 use Rattle.pp_prog.specs.ExprSorts as sorts
 use Rattle.pp_prog.specs.Listing.{CaseSites, Site, Sites, assertion, precondition, measure, at_sort, case_sites}
-use Rattle.pp_prog.specs.Listing.{guard_sites, matching, operator_site, site_step, sites, sites_of_all, sites_of_cases}
-use Rattle.pp_prog.specs.Listing.{unguarded, with_bound}
+use Rattle.pp_prog.specs.Listing.{division_site, guard_sites, matching, operator_site, site_step, sites, sites_of_all}
+use Rattle.pp_prog.specs.Listing.{sites_of_cases, unguarded, with_bound}
 use Rattle.pp_prog.specs.PatternSorts.{bound_sorts}
 use Rattle.pp_prog.specs.Sorts.{param_sorts}
 use Rattle.pp_prog.specs.declared.check.CheckKind.TheVariants as kind
-use Rattle.pp_prog.specs.declared.expr.BinaryOp.{BinaryOp}
-use Rattle.pp_prog.specs.declared.expr.BinaryOp.TheVariants.{Add, Sub, Mul, Div, Rem, Equal, Differ, Less, AtMost}
-use Rattle.pp_prog.specs.declared.expr.BinaryOp.TheVariants.{More, AtLeast, AndAlso, OrElse, And, Or, Xor, Shl, Shr}
-use Rattle.pp_prog.specs.declared.expr.BinaryOp.TheVariants.{Ushr}
+use Rattle.pp_operators.specs.Classes.{is_division}
+use Rattle.pp_tree.specs.declared.operator.BinaryOp.{BinaryOp}
 use Rattle.pp_prog.specs.declared.expr.Case.{Case}
 use Rattle.pp_prog.specs.declared.expr.Expr.{Expr}
 use Rattle.pp_prog.specs.declared.expr.Expr.TheFolds.{fold-Case, fold-roll-Case, fold-roll-Expr, ind-Expr, map-Case}
@@ -30,8 +27,8 @@ use Rattle.pp_prog.specs.declared.program.Program.{Program}
 use Rattle.pp_prog.specs.declared.sort.Sort.{Sort}
 use Rattle.pp_prog.specs.declared.sort.Sort.TheVariants as sort
 use Rattle.pp_sound.proofs.Cases.{EachArm, each_arm}
-use Rattle.pp_prog.proofs.PartSorts.{alike_are, bool_then, call_sort_is, sort_then, tree_sort_is}
-use Rattle.pp_prog.proofs.PartSorts.{binary_parts, tree_then, unary_part}
+use Rattle.pp_prog.proofs.PartSorts.{alike_are, bool_then, call_sort_is, sort_then, tree_sort_is, binary_parts}
+use Rattle.pp_prog.proofs.PartSorts.{tree_then, unary_part}
 use Rattle.pp_validity.proofs.Listed.{joined_append}
 
 -- ---- kinds of sites
@@ -43,26 +40,12 @@ site_kinds_append a b = ap joined (map-append site_kind a b) ∙ joined_append (
 pub record HasKinds (ss : List Site) (ks : Kinds) : Type 0 where
   pub are : site_kinds ss ≡ ks
 
+division_kind : (b : Bool) (check : Option CheckId) → site_kinds (division_site b check ∷ []) ≡ division_kinds b
+division_kind true check = refl
+division_kind false check = refl
+
 operator_kind : (op : BinaryOp) (check : Option CheckId) → site_kinds (operator_site op check ∷ []) ≡ operator_kinds op
-operator_kind Add check = refl
-operator_kind Sub check = refl
-operator_kind Mul check = refl
-operator_kind Div check = refl
-operator_kind Rem check = refl
-operator_kind Equal check = refl
-operator_kind Differ check = refl
-operator_kind Less check = refl
-operator_kind AtMost check = refl
-operator_kind More check = refl
-operator_kind AtLeast check = refl
-operator_kind AndAlso check = refl
-operator_kind OrElse check = refl
-operator_kind And check = refl
-operator_kind Or check = refl
-operator_kind Xor check = refl
-operator_kind Shl check = refl
-operator_kind Shr check = refl
-operator_kind Ushr check = refl
+operator_kind op check = division_kind (is_division op) check
 
 operator_has : (op : BinaryOp) (check : Option CheckId) → HasKinds (operator_site op check ∷ []) (operator_kinds op)
 operator_has op check = record { are = operator_kind op check }

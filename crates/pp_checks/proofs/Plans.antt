@@ -11,14 +11,14 @@ use Rattle.pp_graph.proofs.Paths.{across, back}
 use Rattle.pp_prog.specs.declared.expr.Function.{Function}
 use Rattle.pp_prog.specs.declared.program.Program.{Program}
 use Rattle.pp_graph.proofs.Decided.{group_or_not}
-use Rattle.pp_prog.specs.Calls.{OneGroup, call_table, calls, function_calls, post_calls}
+use Rattle.pp_prog.specs.Calls.{OneGroup, call_table, calls, contract_calls, function_calls, post_calls}
 use Rattle.pp_prog.specs.Valid.{has_measure, is_written}
 use Rattle.pp_prog.specs.Cone.{InCone}
 use Rattle.pp_prog.specs.Sorts.{param_sorts}
 use Rattle.pp_checks.specs.Closed.{AreUpTo, Closed, IsNesting, IsTallest, Nests}
 use Rattle.pp_checks.specs.Plan.{AreOf, IsPlanOf, IsTallestOf, Plan}
 use Rattle.pp_checks.specs.Ranks.{CountBelow, IsRank}
-use Rattle.pp_checks.specs.Rules.{IsFirstMeasured, contract_calls, measure_sorts}
+use Rattle.pp_checks.specs.Rules.{IsFirstMeasured, measure_sorts}
 use Rattle.pp_checks.specs.Tables.{IsRankIn, is_at_most}
 use Rattle.pp_checks.proofs.Ruling.{calls_at}
 use Rattle.pp_checks.proofs.Tallest.{left_in}

@@ -5,13 +5,13 @@ use Rattle.pp_prog.specs.declared.expr.Function.{Function}
 use Rattle.pp_prog.specs.declared.program.Program.{Program}
 use Rattle.pp_prog.specs.declared.sort.Sort.{Sort}
 use Rattle.pp_prog.specs.declared.types.TypeTable.{TypeTable}
-use Rattle.pp_prog.specs.Calls.{OneGroup, function_calls}
+use Rattle.pp_prog.specs.Calls.{OneGroup, contract_calls, function_calls}
 use Rattle.pp_prog.specs.ExprSorts.{sort_of}
 use Rattle.pp_prog.specs.Results.{result_of}
 use Rattle.pp_prog.specs.Valid.{is_written}
 use Rattle.pp_checks.specs.Plan.{IsPlanOf, Plan}
 use Rattle.pp_checks.specs.Ranks.{IsRank}
-use Rattle.pp_checks.specs.Rules.{contract_calls, measure_sorts}
+use Rattle.pp_checks.specs.Rules.{measure_sorts}
 
 -- functions of one group have one rank
 abbrev pub ShareRanks : Type 0

@@ -1,6 +1,6 @@
 -- Which functions need which measures. Source: Stainless documentation on decreases; the list form, its length and
 -- the order of the refusals are own.
-use Rattle.std.specs.Prelude.{◌≡◌, ◌<◌, ◌≤◌, ℕ, Bool, true, false, List, [], ◌++◌, map, Some, length, slice_get}
+use Rattle.std.specs.Prelude.{◌≡◌, ◌<◌, ◌≤◌, ℕ, Bool, true, false, List, [], map, Some, length, slice_get}
 use Rattle.std.specs.Prelude.{Contains, IsTrue}
 use Rattle.std.specs.List.{list_all}
 use Rattle.pp_prog.specs.declared.expr.Expr.{Expr}
@@ -8,16 +8,12 @@ use Rattle.pp_prog.specs.declared.expr.Function.{Function}
 use Rattle.pp_prog.specs.declared.sort.Sort.{Sort}
 use Rattle.pp_prog.specs.declared.sort.Sort.TheVariants as sort
 use Rattle.pp_prog.specs.declared.types.TypeTable.{TypeTable}
-use Rattle.pp_prog.specs.Calls.{OneGroup, calls, function_calls, joined, pre_calls}
+use Rattle.pp_prog.specs.Calls.{OneGroup, contract_calls, function_calls}
 use Rattle.pp_prog.specs.Results.{result_of}
 use Rattle.pp_prog.specs.Sorts.{param_sorts}
 use Rattle.pp_prog.specs.Valid.{has_measure, is_written}
 use Rattle.pp_checks.specs.declared.fault.PlanFault.{PlanFault}
 use Rattle.pp_checks.specs.declared.fault.PlanFault.TheVariants.{NoMeasure, MeasureShape, ContractCycle, Memory}
-
--- the functions that the contract of a function calls before its body: in its precondition and in its measure list
-abbrev pub contract_calls : Function → List ℕ
-contract_calls f = pre_calls f.pre ++ joined (map calls f.measure)
 
 -- one of these functions is of the group of f
 abbrev pub CallsInto : List Function → ℕ → List ℕ → Type 0

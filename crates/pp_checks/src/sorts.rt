@@ -9,9 +9,9 @@ ghost use Rattle.pp_checks.specs.Rules as rules;
 use crate::NoMemory;
 use crate::scope::truncate;
 use pp_list::{Items, at};
+use pp_operators::{BinaryOp, OperatorClass, UnaryOp, class_of};
 use pp_prog::{
-    BinaryOp, Case, Ctor, CtorId, Expr, Function, FunctionId, Param, Pattern, Sort, Sorts,
-    TypeTable, UnaryOp,
+    Case, Ctor, CtorId, Expr, Function, FunctionId, Param, Pattern, Sort, Sorts, TypeTable,
 };
 use std::alloc::Global;
 
@@ -38,24 +38,13 @@ fn unary_sort(op: UnaryOp) -> Sort
 pub fn operator_sort(op: BinaryOp, left: Sort) -> Sort
     ensures { result ≡ spec.operator_result op left }
 {
-    match op {
-        BinaryOp::Equal
-        | BinaryOp::Differ
-        | BinaryOp::Less
-        | BinaryOp::AtMost
-        | BinaryOp::More
-        | BinaryOp::AtLeast
-        | BinaryOp::AndAlso
-        | BinaryOp::OrElse => Sort::Bool,
-        BinaryOp::And | BinaryOp::Or | BinaryOp::Xor => left,
-        BinaryOp::Add
-        | BinaryOp::Sub
-        | BinaryOp::Mul
-        | BinaryOp::Div
-        | BinaryOp::Rem
-        | BinaryOp::Shl
-        | BinaryOp::Shr
-        | BinaryOp::Ushr => Sort::Int,
+    match class_of(op) {
+        OperatorClass::Equality | OperatorClass::Order | OperatorClass::Logic => Sort::Bool,
+        OperatorClass::Bitwise => left,
+        OperatorClass::Sum
+        | OperatorClass::Product
+        | OperatorClass::Quotient
+        | OperatorClass::Shift => Sort::Int,
     }
 }
 

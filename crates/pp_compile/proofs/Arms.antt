@@ -1,6 +1,6 @@
 -- The forms of expressions, as they are compiled.
 use Rattle.std.proofs.Common.{◌≡◌, ℕ, Bool, List, [], ◌∷◌, ◌++◌, length, map, Option, Some, sym, ap, ◌∙◌, subst}
-use Rattle.pp_prog.specs.declared.expr.BinaryOp.{BinaryOp}
+use Rattle.pp_tree.specs.declared.operator.BinaryOp.{BinaryOp}
 use Rattle.pp_prog.specs.declared.expr.Case.{Case}
 use Rattle.pp_prog.specs.declared.expr.Expr.{Expr}
 use Rattle.pp_prog.specs.declared.expr.Expr.TheFolds.{fold-roll-Expr, map-Expr}
@@ -10,7 +10,7 @@ use Rattle.pp_prog.specs.declared.expr.Expr.TheVariants.{rolls-Assert, rolls-Bin
 use Rattle.pp_prog.specs.declared.expr.Expr.TheVariants.{rolls-Field, rolls-If, rolls-Match, rolls-Unary, rolls-Val}
 use Rattle.pp_prog.specs.declared.expr.Expr.TheViews.{roll-Expr}
 use Rattle.pp_prog.specs.declared.id.CheckId.{CheckId}
-use Rattle.pp_prog.specs.declared.expr.UnaryOp.{UnaryOp}
+use Rattle.pp_tree.specs.declared.operator.UnaryOp.{UnaryOp}
 use Rattle.pp_prog.specs.declared.id.CtorId.{CtorId}
 use Rattle.pp_prog.specs.declared.id.FunctionId.{FunctionId}
 use Rattle.pp_steps.specs.declared.step.Step.TheVariants as steps

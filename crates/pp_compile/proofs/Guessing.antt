@@ -1,15 +1,14 @@
 -- The steps of a guess run, as they are written.
-use Rattle.std.proofs.Common.{◌≡◌, ◌∙◌, ℕ, zero, suc, nat_eq, nat_lt, Bool, true, false, if◌then◌else◌, List, []}
-use Rattle.std.proofs.Common.{◌∷◌, ◌++◌, ◌+◌, length, length-append, append_assoc, append-nil, Some, None, refl}
-use Rattle.std.proofs.Common.{sym, ap, subst}
-use Rattle.std.proofs.Common.{arith}
-use Rattle.pp_prog.specs.declared.expr.BinaryOp.TheVariants.{Equal}
+use Rattle.std.proofs.Common.{◌≡◌, ◌∙◌, ℕ, zero, suc, nat_eq, nat_lt, Bool, true, false, if◌then◌else◌, List, [], ◌∷◌}
+use Rattle.std.proofs.Common.{◌++◌, ◌+◌, length, length-append, append_assoc, append-nil, Some, None, refl, sym, ap}
+use Rattle.std.proofs.Common.{subst, arith}
+use Rattle.pp_tree.specs.declared.operator.BinaryOp.TheVariants.{Equal}
 use Rattle.pp_prog.specs.declared.expr.Function.{Function}
 use Rattle.pp_steps.specs.declared.step.Step.{Step}
 use Rattle.pp_steps.specs.declared.step.Step.TheVariants as steps
 use Rattle.pp_steps.specs.Compile.{compile, one}
-use Rattle.pp_steps.specs.Guesses.{GuessSteps, Standing, agreeing, agreeing_with, all_unfolded, answering_alike}
-use Rattle.pp_steps.specs.Guesses.{asking, calls_from, equal_all, equal_answers, grown, holding, implying, standing}
+use Rattle.pp_steps.specs.Guesses.{GuessSteps, Standing, agreeing, agreeing_with, all_unfolded, answering_alike, asking}
+use Rattle.pp_steps.specs.Guesses.{calls_from, equal_all, equal_answers, grown, holding, implying, standing}
 use Rattle.pp_steps.specs.Guesses.{unfolded_of, with_agreement}
 use Rattle.pp_steps.specs.Piece.{Piece, after, bind, demand, plain}
 use Rattle.pp_compile.specs.declared.work.Ends.{Ends}

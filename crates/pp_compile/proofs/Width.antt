@@ -1,10 +1,10 @@
 -- How deep calls and expressions go: the measure of compiling.
-use Rattle.std.proofs.Common.{◌≡◌, ℕ, zero, suc, ◌+◌, ◌-◌, ◌*◌, ◌<◌, ◌≤◌, List, [], ◌∷◌, Some, arith, ap}
+use Rattle.std.proofs.Common.{◌≡◌, ℕ, zero, suc, ◌+◌, ◌-◌, ◌*◌, ◌<◌, List, Some, arith}
 use Rattle.std.specs.Prelude.{slice_get}
 use Rattle.pp_prog.specs.declared.expr.Function.{Function}
 use Rattle.pp_compile.specs.declared.calls.CallKind.{CallKind}
 use Rattle.pp_compile.specs.declared.calls.CallKind.TheVariants.{Followed, Left, Own}
-use Rattle.pp_eval.proofs.Width.{function_size, reach}
+use Rattle.pp_eval.proofs.Width.{found_size, function_size, reach}
 
 -- more than twice the longest list of cases
 abbrev pub wide : ℕ
@@ -22,11 +22,6 @@ span fs = wide * reach fs + 2 * wide
 
 abbrev pub expr_measure : List Function → ℕ → ℕ → ℕ
 expr_measure fs fuel size = fuel * span fs + (wide * size + 2)
-
-found_size : (fs : List Function) (i : ℕ) (f : Function) → slice_get fs i ≡ Some f → function_size f ≤ reach fs
-found_size [] i f is = cc
-found_size (g ∷ fs) zero f is = let e : g ≡ f = cc in omega (arith, ap function_size e)
-found_size (g ∷ fs) (suc i) f is = omega (arith, found_size fs i f is)
 
 pub call_falls : (fs : List Function) (i : ℕ) (f : Function) (n : ℕ) → slice_get fs i ≡ Some f → 0 < n
     → (n - 1) * span fs + (wide * function_size f + 12) < n * span fs

@@ -28,7 +28,7 @@ fn run(rt: &HostRuntime, task: &str) -> Result<()> {
         "seam" => seam::print_answers(rt, path),
         "words" => words::print_answers(rt, rt.alloc(), path),
         "print" => print::print_lines(rt, rt.alloc()),
-        other => bail!("no task {other}"),
+        _ => bail!("no such task"),
     }
 }
 

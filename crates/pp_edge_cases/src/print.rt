@@ -5,8 +5,8 @@ use crate::failing::Failing;
 use anyhow::Result;
 use pp_list::Items;
 use pp_print::{
-    count_line, done_line, memory_line, put_lines, read_fault_line, summary_line, too_long_line,
-    valid_line, words_line, write_fault_line,
+    count_line, done_line, made_line, memory_line, put_lines, read_fault_line, summary_line,
+    too_long_line, valid_line, words_line, write_fault_line,
 };
 use pp_prog::{CtorId, Value};
 use std::alloc::Global;
@@ -18,14 +18,16 @@ pub fn print_lines(rt: &impl Print, alloc: Global) -> Result<()> {
     print_puts(rt, alloc)
 }
 
-/// The most checks that a number can tell, more functions than a program has, a value of an unknown constructor, and an
-/// empty name.
+/// The most checks that a number can tell, more functions than a program has, a value of an unknown constructor, an
+/// empty name, and numbers of functions that no source is made of.
 fn print_odd(rt: &impl Print, alloc: Global) -> Result<()> {
     print!(rt; "{}", valid_line(alloc, "id[Int]", u32::MAX)?)?;
     print!(rt; "{}", summary_line(alloc, 512, 10, 0, 99)?)?;
     let unknown = Value::Tree(CtorId(3), Items::new(alloc));
     print!(rt; "{}", done_line(alloc, &[], "f", &unknown)?)?;
     print!(rt; "{}", count_line(alloc, "", 1)?)?;
+    print!(rt; "{}", made_line(alloc, 0)?)?;
+    print!(rt; "{}", made_line(alloc, u32::MAX)?)?;
     Ok(())
 }
 
@@ -48,21 +50,19 @@ fn print_puts(rt: &impl Print, alloc: Global) -> Result<()> {
         summary_line(alloc, 1, 1, 0, 0)?,
     ];
     for fails_at in 0..5u64 {
-        let mut out = Failing::at(alloc, fails_at);
-        let failed = put_lines(&mut out, &lines).is_err();
-        let Failing {
-            taken,
-            puts,
-            faults,
-            ..
-        } = out;
-        println!(rt;
-            "{fails_at}: {failed}, {puts} puts, {faults} faults, {} bytes",
-            taken.len()
-        )?;
+        print_put(rt, alloc, fails_at, &lines)?;
     }
     let mut out = Failing::at(alloc, 1);
     let failed = put_lines(&mut out, &[]).is_err();
     println!(rt; "no lines: {failed}, {} puts", out.puts)?;
+    Ok(())
+}
+
+/// Puts the lines where the put of this number fails.
+fn print_put(rt: &impl Print, alloc: Global, fails_at: u64, lines: &[String]) -> Result<()> {
+    let mut out = Failing::at(alloc, fails_at);
+    let failed = put_lines(&mut out, lines).is_err();
+    let (puts, faults, bytes) = (out.puts, out.faults, out.taken.len());
+    println!(rt; "{fails_at}: {failed}, {puts} puts, {faults} faults, {bytes} bytes")?;
     Ok(())
 }

@@ -29,34 +29,43 @@ struct Asked<R: Files + Drop> {
 /// Prints the answer to each line of the file.
 pub fn print_answers(rt: &HostRuntime, path: &str) -> Result<()> {
     let alloc = rt.alloc();
+    let file = fs::read_to_string(rt, path)?;
     let mut asked = Asked {
         shelves: Shelves::new(alloc),
         sink: Bytes::with_room(alloc, 0)?,
         files: FileShelf::new(alloc, rt),
     };
     let mut out = StdSink::new(io::writer(rt));
+    put_answers(alloc, &mut asked, file.as_str(), &mut out)
+}
+
+/// Puts the answer to each line.
+fn put_answers(
+    alloc: Global,
+    asked: &mut Asked<impl Files + Drop>,
+    lines: &str,
+    out: &mut impl Sink,
+) -> Result<()> {
     let _ = out.put("".as_bytes());
-    for line in fs::read_to_string(rt, path)?.as_str().lines() {
-        let answer = answer(alloc, &mut asked, line)?;
+    for line in lines.lines() {
+        let mut answer = answer(alloc, asked, &words_of(alloc, line)?)?;
+        answer.push_str("\n")?;
         let _ = out.put(answer.as_str().as_bytes());
     }
     Ok(())
 }
 
-/// The answer to a line.
-fn answer(alloc: Global, asked: &mut Asked<impl Files + Drop>, line: &str) -> Result<String> {
-    let words = words_of(alloc, line)?;
-    let mut answer = match word(&words, 0) {
-        "add" | "fail" => stock(alloc, &mut asked.shelves, &words)?,
-        "fetch" => fetched(alloc, &mut asked.shelves, &words)?,
-        "room" | "cut" => prepare(alloc, &mut asked.sink, &words)?,
-        "put" => put(alloc, &mut asked.sink, &words)?,
-        "file" => filed(alloc, &mut asked.files, &words)?,
-        "read" => read(alloc, &words)?,
-        _ => written(alloc, &words)?,
-    };
-    answer.push_str("\n")?;
-    Ok(answer)
+/// The answer to the words of a line.
+fn answer(alloc: Global, asked: &mut Asked<impl Files + Drop>, words: &[&str]) -> Result<String> {
+    match word(words, 0) {
+        "add" | "fail" => stock(alloc, &mut asked.shelves, words),
+        "fetch" => fetched(alloc, &mut asked.shelves, words),
+        "room" | "cut" => prepare(alloc, &mut asked.sink, words),
+        "put" => put(alloc, &mut asked.sink, words),
+        "file" => filed(alloc, &mut asked.files, words),
+        "read" => read(alloc, words),
+        _ => written(alloc, words),
+    }
 }
 
 fn words_of(alloc: Global, line: &str) -> Result<Vec<&str>> {

@@ -2,7 +2,7 @@
 //! answer is `refused`, or the task with its numbers, and the paths.
 
 use anyhow::Result;
-use pp_words::{Line, Task, WordsFault, read};
+use pp_words::{Line, Numbers, Task, WordsFault, read};
 use std::alloc::Global;
 use std::fs;
 
@@ -22,16 +22,25 @@ fn words<'a>(alloc: Global, line: &'a str) -> Result<Vec<&'a str>> {
     Ok(words)
 }
 
+fn numbers(alloc: Global, numbers: Numbers) -> Result<String> {
+    let Numbers {
+        rounds,
+        depth,
+        lemmas,
+        gates,
+    } = numbers;
+    Ok(format!(in alloc; "{rounds} {depth} {lemmas} {gates}")?)
+}
+
 fn task(alloc: Global, task: Task) -> Result<String> {
     Ok(match task {
-        Task::Verify {
-            rounds,
-            depth,
-            lemmas,
-            gates,
-        } => format!(in alloc; "verify {rounds} {depth} {lemmas} {gates}")?,
+        Task::Verify(limits) => format!(in alloc; "verify {}", numbers(alloc, limits)?)?,
         Task::List { rounds, depth } => format!(in alloc; "list {rounds} {depth}")?,
         Task::Run { function, fuel } => format!(in alloc; "run ({function}) {fuel}")?,
+        Task::Make {
+            seed,
+            numbers: limits,
+        } => format!(in alloc; "make {seed} {}", numbers(alloc, limits)?)?,
     })
 }
 

@@ -6,13 +6,13 @@ use Rattle.std.proofs.Math.Nat.{mul_comm, le-mul_of_pos_right}
 use Rattle.std.proofs.lemmas.Bool.Decides.{leb_tells}
 use Rattle.std.proofs.lemmas.List.{take_more}
 use Rattle.std.specs.Option.{option_map}
-use Rattle.pp_prog.specs.declared.expr.BinaryOp.{BinaryOp}
+use Rattle.pp_tree.specs.declared.operator.BinaryOp.{BinaryOp}
 use Rattle.pp_prog.specs.declared.expr.Case.{Case}
 use Rattle.pp_prog.specs.declared.expr.Expr.{Expr}
 use Rattle.pp_prog.specs.declared.expr.Expr.TheFolds.{fold_out-Case, map-Case}
 use Rattle.pp_prog.specs.declared.expr.Expr.TheVariants.{Unary, Binary, Construct, Field, If, Match, Val, Assert, Call}
 use Rattle.pp_prog.specs.declared.expr.Pattern.{Pattern}
-use Rattle.pp_prog.specs.declared.expr.UnaryOp.{UnaryOp}
+use Rattle.pp_tree.specs.declared.operator.UnaryOp.{UnaryOp}
 use Rattle.pp_prog.specs.declared.id.CheckId.{CheckId}
 use Rattle.pp_prog.specs.declared.id.CtorId.{CtorId}
 use Rattle.pp_prog.specs.declared.id.FunctionId.{FunctionId}
@@ -24,9 +24,10 @@ use Rattle.pp_estimate.specs.declared.shape.Shape.{Shape}
 use Rattle.pp_estimate.specs.Counted.{counted}
 use Rattle.pp_estimate.specs.Cut.{cut, top}
 use Rattle.pp_estimate.specs.Events.{Event, called}
+use Rattle.pp_operators.specs.Gates.{unary_gates}
 use Rattle.pp_estimate.specs.Visits.{Arm, Calls, Visit, Visiting, all_events, arm_step, arms, binary_extra, bound}
 use Rattle.pp_estimate.specs.Visits.{choice_extra, first_sort, guard_events, look_at, matched, node, pattern_events}
-use Rattle.pp_estimate.specs.Visits.{shape_of, tallest, unary_extra, visit_case, visit_of, visit_step, visits}
+use Rattle.pp_estimate.specs.Visits.{shape_of, tallest, visit_case, visit_of, visit_step, visits}
 use Rattle.pp_estimate.proofs.Merged.{counted_append}
 use Rattle.pp_estimate.proofs.Visited.{node_cut, of_assert, of_binary, of_call, of_construct, of_field, of_if, of_match}
 use Rattle.pp_estimate.proofs.Visited.{of_unary, of_val, two, three, four}
@@ -121,10 +122,10 @@ module _ (types : TypeTable) (calls : Calls) (old env : List Shape) where
       ∙ ap (λ (t : List Shape). (visit_of types calls b old t).shape) k
 
   pub visited_unary : (start mid end : Counts) (e a a2 : Expr) (op : UnaryOp) (x : ℕ) → e ≡ Unary op a → a2 ≡ a
-      → mid ≡ counted start (V a2).events → x ≡ unary_extra op → end ≡ counted mid (node x)
+      → mid ≡ counted start (V a2).events → x ≡ unary_gates op → end ≡ counted mid (node x)
       → end ≡ counted start (V e).events
   visited_unary start mid end e a a2 op x is g m xe n =
-      two start (V a).events (node (unary_extra op)) (moved start mid a2 a env g refl m)
+      two start (V a).events (node (unary_gates op)) (moved start mid a2 a env g refl m)
       (n ∙ ap (λ (k : ℕ). counted mid (node k)) xe)
       ∙ close start e (Unary op a) _ is (of_unary types calls op a old env)
 

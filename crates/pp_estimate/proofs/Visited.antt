@@ -1,6 +1,6 @@
 -- The visit of each form of expression, and events that are counted part by part.
 use Rattle.std.proofs.Common.{◌≡◌, ◌+◌, ℕ, max, List, [], ◌∷◌, ◌++◌, map, Option, slice_get, sym, ap, ◌∙◌, arith}
-use Rattle.pp_prog.specs.declared.expr.BinaryOp.{BinaryOp}
+use Rattle.pp_tree.specs.declared.operator.BinaryOp.{BinaryOp}
 use Rattle.pp_prog.specs.declared.expr.Case.{Case}
 use Rattle.pp_prog.specs.declared.expr.Expr.{Expr}
 use Rattle.pp_prog.specs.declared.expr.Expr.TheFolds.{fold-roll-Expr}
@@ -8,7 +8,7 @@ use Rattle.pp_prog.specs.declared.expr.Expr.TheOpen as layer
 use Rattle.pp_prog.specs.declared.expr.Expr.TheVariants.{Unary, Binary, Construct, Field, If, Match, Val, Assert, Call}
 use Rattle.pp_prog.specs.declared.expr.Expr.TheVariants.{rolls-Unary, rolls-Binary, rolls-Construct, rolls-Field}
 use Rattle.pp_prog.specs.declared.expr.Expr.TheVariants.{rolls-If, rolls-Match, rolls-Val, rolls-Assert, rolls-Call}
-use Rattle.pp_prog.specs.declared.expr.UnaryOp.{UnaryOp}
+use Rattle.pp_tree.specs.declared.operator.UnaryOp.{UnaryOp}
 use Rattle.pp_prog.specs.declared.id.CheckId.{CheckId}
 use Rattle.pp_prog.specs.declared.id.CtorId.{CtorId}
 use Rattle.pp_prog.specs.declared.id.FunctionId.{FunctionId}
@@ -19,9 +19,9 @@ use Rattle.pp_estimate.specs.declared.shape.Shape.{Shape}
 use Rattle.pp_estimate.specs.Counted.{counted}
 use Rattle.pp_estimate.specs.Cut.{cut}
 use Rattle.pp_estimate.specs.Events.{Event, called}
+use Rattle.pp_operators.specs.Gates.{unary_gates}
 use Rattle.pp_estimate.specs.Visits.{Arm, Calls, Visiting, all_events, arm_step, arms, binary_extra, choice_extra}
-use Rattle.pp_estimate.specs.Visits.{look_at, matched, node, shape_of, unary_extra, visit_case, visit_of, visit_step}
-use Rattle.pp_estimate.specs.Visits.{visits}
+use Rattle.pp_estimate.specs.Visits.{look_at, matched, node, shape_of, visit_case, visit_of, visit_step, visits}
 use Rattle.pp_estimate.proofs.Merged.{counted_append, work_cut}
 
 -- two, three and four parts, one after another
@@ -45,7 +45,7 @@ node_cut start end extra e is step = step ∙ work_cut start (64 + extra) (64 + 
 module _ (types : TypeTable) (calls : Calls) where
   pub of_unary : (op : UnaryOp) (a : Expr) (old env : List Shape)
       → (visit_of types calls (Unary op a) old env).events
-      ≡ (visit_of types calls a old env).events ++ node (unary_extra op)
+      ≡ (visit_of types calls a old env).events ++ node (unary_gates op)
   of_unary op a old env =
       ap (λ (e : Expr). (visit_of types calls e old env).events) (sym (rolls-Unary op a))
       ∙ ap (λ (f : Visiting). (f old env).events)

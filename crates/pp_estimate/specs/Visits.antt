@@ -1,9 +1,11 @@
 -- The visit of an expression: which events it meets, at most how high its value is, and of which sort. Heights are
 -- cut at the greatest number of 64 bits. What a call does is a parameter. Source: own.
 use Rattle.std.specs.Prelude.{ℕ, ◌+◌, ◌-◌, ◌*◌, max, List, [], ◌∷◌, ◌++◌, map, length, Option, Some, None, slice_get}
-use Rattle.pp_prog.specs.declared.expr.BinaryOp.{BinaryOp}
-use Rattle.pp_prog.specs.declared.expr.BinaryOp.TheVariants.{Add, Sub, Mul, Div, Rem, Equal, Differ, Less, AtMost, More}
-use Rattle.pp_prog.specs.declared.expr.BinaryOp.TheVariants.{AtLeast, AndAlso, OrElse, And, Or, Xor, Shl, Shr, Ushr}
+use Rattle.pp_operators.specs.Classes.{class_of}
+use Rattle.pp_operators.specs.declared.class.OperatorClass.{OperatorClass}
+use Rattle.pp_operators.specs.declared.class.OperatorClass.TheVariants as class
+use Rattle.pp_operators.specs.Gates.{number_gates, unary_gates}
+use Rattle.pp_tree.specs.declared.operator.BinaryOp.{BinaryOp}
 use Rattle.pp_prog.specs.declared.expr.Case.{Case}
 use Rattle.pp_prog.specs.declared.expr.Expr.{Expr}
 use Rattle.pp_prog.specs.declared.expr.Expr.TheFolds.{fold-Case, fold-Expr}
@@ -11,8 +13,6 @@ use Rattle.pp_prog.specs.declared.expr.Expr.TheOpen as layer
 use Rattle.pp_prog.specs.declared.expr.Pattern.{Pattern}
 use Rattle.pp_prog.specs.declared.expr.Pattern.TheFolds.{fold-Pattern}
 use Rattle.pp_prog.specs.declared.expr.Pattern.TheOpen as pattern
-use Rattle.pp_prog.specs.declared.expr.UnaryOp.{UnaryOp}
-use Rattle.pp_prog.specs.declared.expr.UnaryOp.TheVariants.{Neg, Not, Flip}
 use Rattle.pp_prog.specs.declared.id.CheckId.{CheckId}
 use Rattle.pp_prog.specs.declared.id.FunctionId.{FunctionId}
 use Rattle.pp_prog.specs.declared.sort.Sort.{Sort}
@@ -113,14 +113,9 @@ module _ (ctors : List Ctor) where
   abbrev pub pattern_events : Pattern → List Event
   pattern_events = fold-Pattern (List Event) pattern_step
 
-abbrev pub unary_extra : UnaryOp → ℕ
-unary_extra Neg = 256
-unary_extra Not = 0
-unary_extra Flip = 64
-
 -- an operator on bits weighs nothing on truth values
 abbrev pub bits_extra : Sort → ℕ
-bits_extra sort.Int = 64
+bits_extra sort.Int = number_gates class.Bitwise
 bits_extra sort.Bool = 0
 bits_extra (sort.Tree d) = 0
 
@@ -129,26 +124,14 @@ module _ (types : TypeTable) where
   abbrev pub equality_extra : Shape → Shape → ℕ
   equality_extra a b = 4 * (32 + bits types (max a.height b.height) a.sort)
 
+  -- what operators of this class weigh besides their node
+  abbrev pub class_extra : OperatorClass → Shape → Shape → ℕ
+  class_extra class.Equality a b = equality_extra a b
+  class_extra class.Bitwise a b = bits_extra a.sort
+  class_extra c a b = number_gates c
+
   abbrev pub binary_extra : BinaryOp → Shape → Shape → ℕ
-  binary_extra Add a b = 256
-  binary_extra Sub a b = 256
-  binary_extra Mul a b = 8192
-  binary_extra Div a b = 16384
-  binary_extra Rem a b = 16384
-  binary_extra Equal a b = equality_extra a b
-  binary_extra Differ a b = equality_extra a b
-  binary_extra Less a b = 256
-  binary_extra AtMost a b = 256
-  binary_extra More a b = 256
-  binary_extra AtLeast a b = 256
-  binary_extra AndAlso a b = 0
-  binary_extra OrElse a b = 0
-  binary_extra And a b = bits_extra a.sort
-  binary_extra Or a b = bits_extra a.sort
-  binary_extra Xor a b = bits_extra a.sort
-  binary_extra Shl a b = 512
-  binary_extra Shr a b = 512
-  binary_extra Ushr a b = 512
+  binary_extra op a b = class_extra (class_of op) a b
 
   -- a choice between values of this sort, up to this height
   abbrev pub choice_extra : Sort → ℕ → ℕ
@@ -228,7 +211,7 @@ module _ (types : TypeTable) (calls : Calls) where
   visit_step (layer.Bool b) old env = visit (shape sort.Bool 0) (node 0)
   visit_step (layer.Var i) old env = visit (shape_at env i) (node 0)
   visit_step (layer.Unary op a) old env =
-      visit (shape (unary_result op) 0) ((a old env).events ++ node (unary_extra op))
+      visit (shape (unary_result op) 0) ((a old env).events ++ node (unary_gates op))
   visit_step (layer.Binary op a b check) old env =
       visit (shape (operator_result op (a old env).shape.sort) 0)
       ((a old env).events ++ (b old env).events ++ node (binary_extra types op (a old env).shape (b old env).shape))

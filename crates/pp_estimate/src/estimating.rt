@@ -41,6 +41,7 @@ pub fn estimate(
     let functions = program.functions.as_slice();
     let f = plan.checks()[check.0 as usize].function;
     match at(functions, f.0 as usize) {
+        // the function of a check is one of the program's
         None => Ok(0),
         Some(f) => rounds(alloc, program.types(), functions, f, round, depth),
     }

@@ -15,9 +15,10 @@ use crate::place::Place;
 use crate::shape::{
     Shape, Shapes, first_sort, part_of, shape_at, tallest_of, tree_sort, truncate, unary_sort,
 };
-use crate::weights::{binary_extra, choice_extra, unary_extra};
+use crate::weights::{binary_extra, choice_extra};
 use pp_checks::{field_sort, operator_sort};
 use pp_list::Items;
+use pp_operators::unary_gates;
 use pp_prog::{Case, Expr, Sort};
 use std::alloc::Global;
 
@@ -62,7 +63,7 @@ pub(crate) fn visit(
         }
         Expr::Unary(op, a) => {
             visit(alloc, place, memo, counts, old, env, a.get())?;
-            add_node(counts, unary_extra(*op));
+            add_node(counts, unary_gates(*op));
             Ok(Shape {
                 sort: unary_sort(*op),
                 height: 0,

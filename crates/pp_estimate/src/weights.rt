@@ -9,7 +9,8 @@ ghost use Rattle.pp_estimate.specs.Visits as spec;
 use crate::NoMemory;
 use crate::shape::Shape;
 use crate::sizes::{Rows, size_of};
-use pp_prog::{BinaryOp, Sort, TypeTable, UnaryOp};
+use pp_operators::{BinaryOp, OperatorClass, class_of, number_gates};
+use pp_prog::{Sort, TypeTable};
 use std::alloc::Global;
 
 /// What the comparison of an Int component weighs.
@@ -21,21 +22,11 @@ pub(crate) const LITERAL: u64 = 128;
 /// What a call weighs that has no fuel left.
 pub(crate) const UNFINISHED: u64 = 32;
 
-pub(crate) fn unary_extra(op: UnaryOp) -> u64
-    ensures { result ≡ spec.unary_extra op }
-{
-    match op {
-        UnaryOp::Neg => 256,
-        UnaryOp::Not => 0,
-        UnaryOp::Flip => 64,
-    }
-}
-
 fn bits_extra(s: Sort) -> u64
     ensures { result ≡ spec.bits_extra s }
 {
     match s {
-        Sort::Int => 64,
+        Sort::Int => number_gates(OperatorClass::Bitwise),
         Sort::Bool | Sort::Tree(_) => 0,
     }
 }
@@ -68,15 +59,16 @@ pub(crate) fn binary_extra(
     ensures weight { IfOk result (λ n. n ≡ cut (spec.binary_extra types.now op a b)) }
     ensures rows { OnOk result (AreRows types.now rows.new) }
 {
-    match op {
-        BinaryOp::Add | BinaryOp::Sub => Ok(256),
-        BinaryOp::Less | BinaryOp::AtMost | BinaryOp::More | BinaryOp::AtLeast => Ok(256),
-        BinaryOp::Mul => Ok(8192),
-        BinaryOp::Div | BinaryOp::Rem => Ok(16384),
-        BinaryOp::Equal | BinaryOp::Differ => equality_extra(alloc, types, rows, a, b),
-        BinaryOp::AndAlso | BinaryOp::OrElse => Ok(0),
-        BinaryOp::And | BinaryOp::Or | BinaryOp::Xor => Ok(bits_extra(a.sort)),
-        BinaryOp::Shl | BinaryOp::Shr | BinaryOp::Ushr => Ok(512),
+    let class = class_of(op);
+    match class {
+        OperatorClass::Equality => equality_extra(alloc, types, rows, a, b),
+        OperatorClass::Bitwise => Ok(bits_extra(a.sort)),
+        OperatorClass::Sum
+        | OperatorClass::Product
+        | OperatorClass::Quotient
+        | OperatorClass::Order
+        | OperatorClass::Logic
+        | OperatorClass::Shift => Ok(number_gates(class)),
     }
 }
 

@@ -1,11 +1,11 @@
 -- An expression in a higher scope meets the same looks, calls and comparisons, and costs no less.
-use Rattle.std.proofs.Common.{◌≡◌, ◌≤◌, ◌+◌, ℕ, List, [], ◌∷◌, map, max, length, Option, Some, None, refl}
-use Rattle.std.proofs.Common.{ap, sym, subst}
+use Rattle.std.proofs.Common.{◌≡◌, ◌≤◌, ◌+◌, ℕ, List, [], ◌∷◌, map, max, length, Option, Some, None, refl, ap, sym}
+use Rattle.std.proofs.Common.{subst}
 use Rattle.std.specs.Prelude.{slice_get}
-use Rattle.pp_prog.specs.declared.expr.BinaryOp.{BinaryOp}
-use Rattle.pp_prog.specs.declared.expr.BinaryOp.TheVariants.{Add, Sub, Mul, Div, Rem, Equal, Differ, Less, AtMost}
-use Rattle.pp_prog.specs.declared.expr.BinaryOp.TheVariants.{More, AtLeast, AndAlso, OrElse, And, Or, Xor, Shl, Shr}
-use Rattle.pp_prog.specs.declared.expr.BinaryOp.TheVariants.{Ushr}
+use Rattle.pp_operators.specs.Classes.{class_of}
+use Rattle.pp_operators.specs.declared.class.OperatorClass.{OperatorClass}
+use Rattle.pp_operators.specs.declared.class.OperatorClass.TheVariants as class
+use Rattle.pp_tree.specs.declared.operator.BinaryOp.{BinaryOp}
 use Rattle.pp_prog.specs.declared.expr.Case.{Case}
 use Rattle.pp_prog.specs.declared.expr.Expr.{Expr}
 use Rattle.pp_prog.specs.declared.expr.Expr.TheFolds.{fold-roll-Case, fold-roll-Expr, ind-Expr, map-Case, map-Expr}
@@ -21,13 +21,13 @@ use Rattle.pp_prog.specs.Results.{field_result, operator_result, tree_result, un
 use Rattle.pp_prog.specs.Sizes.{bits}
 use Rattle.pp_estimate.specs.declared.shape.Shape.{Shape}
 use Rattle.pp_estimate.specs.Events.{called}
-use Rattle.pp_estimate.specs.Visits.{Arm, Calls, Visit, Visiting, all_events, arm_step, arms, binary_extra}
-use Rattle.pp_estimate.specs.Visits.{bits_extra, bound, equality_extra, first_sort, look_at, matched}
-use Rattle.pp_estimate.specs.Visits.{node, part, pattern_events, shape_of, tallest, unary_extra, visit_case, visit_of}
-use Rattle.pp_estimate.specs.Visits.{visit_step, visits}
-use Rattle.pp_estimate_laws.proofs.Growth.{EventsGrow, ShapeGrows, ShapesGrow, VisitGrows, VisitsGrow}
-use Rattle.pp_estimate_laws.proofs.Growth.{all_events_grow, events_append, events_append_three, events_same, of_sort}
-use Rattle.pp_estimate_laws.proofs.Growth.{shape_at_grows, shapes_append, shapes_grow, tallest_grows, weights_grow}
+use Rattle.pp_operators.specs.Gates.{number_gates, unary_gates}
+use Rattle.pp_estimate.specs.Visits.{Arm, Calls, Visit, Visiting, all_events, arm_step, arms, binary_extra, bits_extra}
+use Rattle.pp_estimate.specs.Visits.{class_extra, bound, equality_extra, first_sort, look_at, matched, node, part}
+use Rattle.pp_estimate.specs.Visits.{pattern_events, shape_of, tallest, visit_case, visit_of, visit_step, visits}
+use Rattle.pp_estimate_laws.proofs.Growth.{EventsGrow, ShapeGrows, ShapesGrow, VisitGrows, VisitsGrow, all_events_grow}
+use Rattle.pp_estimate_laws.proofs.Growth.{events_append, events_append_three, events_same, of_sort, shape_at_grows}
+use Rattle.pp_estimate_laws.proofs.Growth.{shapes_append, shapes_grow, tallest_grows, weights_grow}
 use Rattle.pp_estimate_laws.proofs.Numbers.{cut_grows, le_same, max_grows, plus_grows, suc_grows, times_grow}
 use Rattle.pp_estimate_laws.proofs.Patterns.{bound_grows, part_grows}
 use Rattle.pp_estimate_laws.proofs.Sizes.{bits_grow}
@@ -51,27 +51,15 @@ module _ (types : TypeTable) where
   bits_same : (a b : Shape) → ShapeGrows a b → bits_extra a.sort ≤ bits_extra b.sort
   bits_same a b h = subst (λ (x : Sort). bits_extra a.sort ≤ bits_extra x) h.sorts (le_same (bits_extra a.sort))
 
+  class_grows : (k : OperatorClass) (a b c d : Shape) → ShapeGrows a b → ShapeGrows c d
+      → class_extra types k a c ≤ class_extra types k b d
+  class_grows class.Equality a b c d h j = equality_grows a b c d h j
+  class_grows class.Bitwise a b c d h j = bits_same a b h
+  class_grows k a b c d h j = le_same (number_gates k)
+
   binary_grows : (op : BinaryOp) (a b c d : Shape) → ShapeGrows a b → ShapeGrows c d
       → binary_extra types op a c ≤ binary_extra types op b d
-  binary_grows Add a b c d h k = le_same 256
-  binary_grows Sub a b c d h k = le_same 256
-  binary_grows Mul a b c d h k = le_same 8192
-  binary_grows Div a b c d h k = le_same 16384
-  binary_grows Rem a b c d h k = le_same 16384
-  binary_grows Equal a b c d h k = equality_grows a b c d h k
-  binary_grows Differ a b c d h k = equality_grows a b c d h k
-  binary_grows Less a b c d h k = le_same 256
-  binary_grows AtMost a b c d h k = le_same 256
-  binary_grows More a b c d h k = le_same 256
-  binary_grows AtLeast a b c d h k = le_same 256
-  binary_grows AndAlso a b c d h k = le_same 0
-  binary_grows OrElse a b c d h k = le_same 0
-  binary_grows And a b c d h k = bits_same a b h
-  binary_grows Or a b c d h k = bits_same a b h
-  binary_grows Xor a b c d h k = bits_same a b h
-  binary_grows Shl a b c d h k = le_same 512
-  binary_grows Shr a b c d h k = le_same 512
-  binary_grows Ushr a b c d h k = le_same 512
+  binary_grows op a b c d h k = class_grows (class_of op) a b c d h k
 
   field_grows : (s t : Shape) (k : ℕ) → ShapeGrows s t
       → ShapeGrows (part s (field_result types s.sort k)) (part t (field_result types t.sort k))
@@ -163,7 +151,7 @@ module _ (types : TypeTable) (c d : Calls) (more : CallsGrow c d) where
   level (layer.Unary op a) old old' env env' h k =
       record {
         shapes = of_sort (unary_result op) 0 0 (le_same 0);
-        events = events_append _ _ _ _ (a.1 old old' env env' h k).events (events_same (node (unary_extra op)));
+        events = events_append _ _ _ _ (a.1 old old' env env' h k).events (events_same (node (unary_gates op)));
       }
   level (layer.Binary op a b check) old old' env env' h k =
       let v = a.1 old old' env env' h k in

@@ -7,11 +7,11 @@ use Rattle.std.specs.Ordering.{int_eq}
 use Rattle.pp_word.specs.Bits.{differ}
 use Rattle.pp_word.specs.Word.{word_add, word_sub, word_mul, word_neg, word_div, word_rem, word_shl, word_shr}
 use Rattle.pp_word.specs.Word.{word_ushr, word_and, word_or, word_xor, word_not, word_less, word_at_most}
-use Rattle.pp_prog.specs.declared.expr.BinaryOp.{BinaryOp}
-use Rattle.pp_prog.specs.declared.expr.BinaryOp.TheVariants.{Add, Sub, Mul, Div, Rem, Equal, Differ, Less, AtMost, More}
-use Rattle.pp_prog.specs.declared.expr.BinaryOp.TheVariants.{AtLeast, And, Or, Xor, Shl, Shr, Ushr}
-use Rattle.pp_prog.specs.declared.expr.UnaryOp.{UnaryOp}
-use Rattle.pp_prog.specs.declared.expr.UnaryOp.TheVariants.{Neg, Not, Flip}
+use Rattle.pp_tree.specs.declared.operator.BinaryOp.{BinaryOp}
+use Rattle.pp_tree.specs.declared.operator.BinaryOp.TheVariants.{Add, Sub, Mul, Div, Rem, Equal, Differ, Less, AtMost}
+use Rattle.pp_tree.specs.declared.operator.BinaryOp.TheVariants.{More, AtLeast, And, Or, Xor, Shl, Shr, Ushr}
+use Rattle.pp_tree.specs.declared.operator.UnaryOp.{UnaryOp}
+use Rattle.pp_tree.specs.declared.operator.UnaryOp.TheVariants.{Neg, Not, Flip}
 use Rattle.pp_prog.specs.declared.id.CheckId.{CheckId}
 use Rattle.pp_prog.specs.declared.value.Value.{Value}
 use Rattle.pp_prog.specs.declared.value.Value.TheOpen as layer

@@ -35,7 +35,7 @@ pub(crate) fn value_of(
         Expr::Var(i) => variable(alloc, env.as_slice(), *i),
         Expr::Unary(op, a) => {
             let x = value_of(alloc, callees, frame, env, a.get())?;
-            unary(*op, &x)
+            Ok(unary(*op, &x)?)
         }
         Expr::Binary(BinaryOp::AndAlso, a, b, _) => {
             let x = value_of(alloc, callees, frame, env, a.get())?;
@@ -56,7 +56,7 @@ pub(crate) fn value_of(
         Expr::Binary(op, a, b, check) => {
             let x = value_of(alloc, callees, frame, env, a.get())?;
             let y = value_of(alloc, callees, frame, env, b.get())?;
-            operate(*op, *check, &x, &y)
+            Ok(operate(*op, *check, &x, &y)?)
         }
         Expr::Construct(c, args) => {
             let fields = values_of(alloc, callees, frame, env, args.as_slice())?;
@@ -146,7 +146,7 @@ fn case_of(
             None => {}
         }
     }
-    failed(check)
+    Ok(failed(check)?)
 }
 
 // The value of a case, where its pattern fits and its guard is true.
@@ -194,7 +194,7 @@ pub(crate) fn holds(
         None => Ok(true),
         Some(e) => {
             let v = value_of(alloc, callees, frame, env, e)?;
-            truth_of(&v)
+            Ok(truth_of(&v)?)
         }
     }
 }

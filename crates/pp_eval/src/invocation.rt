@@ -94,7 +94,8 @@ fn admit(
     ensures kept { OnOk result (args.new ≡ args.old) }
 {
     match holds(alloc, callees, &None, args, pre) {
-        Ok(t) => { if t { Ok(()) } else { failed(check) } }
+        Ok(true) => Ok(()),
+        Ok(false) => Ok(failed(check)?),
         Err(halt) => Err(raise(g, halt)),
     }
 }

@@ -18,6 +18,8 @@ mod outcome;
 mod runs;
 
 pub use laws::{compare_trees, lasts_with_fuel, parts_last_with_fuel};
+pub use measure::{goes_down, one_sort};
+pub use operators::{operate, unary};
 pub use outcome::{Halt, Outcome, Stop};
 pub use runs::run;
 pub use std::alloc::AllocError as NoMemory;

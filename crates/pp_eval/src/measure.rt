@@ -27,8 +27,8 @@ fn of_one_shape(ctors: &[Ctor], new: &[Value], old: &[Value]) -> bool
     }
 }
 
-// Whether both are numbers, both are truth values, or both are trees of one datatype.
-fn one_sort(ctors: &[Ctor], x: &Value, y: &Value) -> bool
+/// Whether both are numbers, both are truth values, or both are trees of one datatype. It takes no memory.
+pub fn one_sort(ctors: &[Ctor], x: &Value, y: &Value) -> bool
     ensures { result ≡ spec.one_sort ctors.now (out-Value x.now) (out-Value y.now) }
 {
     match (x, y) {
@@ -64,7 +64,9 @@ fn falls(new: &[Value], old: &[Value]) -> bool
     }
 }
 
-fn goes_down(new: &Value, old: &Value) -> bool
+/// Whether the component of a measure goes down from the old value to the new one: a number that isn't negative and is
+/// less, or a proper subtree, which is looked for by recursion on the height. It takes no memory.
+pub fn goes_down(new: &Value, old: &Value) -> bool
     ensures { result ≡ spec.goes_down new.now old.now }
 {
     match (new, old) {

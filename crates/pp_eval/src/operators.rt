@@ -1,4 +1,4 @@
-//! What the operators make of values.
+//! What the operators make of values. None takes memory.
 
 ghost use Rattle.std.specs.Prelude.{◌≡◌};
 ghost use Rattle.std.specs.Int.{w32};
@@ -7,47 +7,49 @@ ghost use Rattle.pp_eval.specs.Operators as spec;
 ghost use Rattle.pp_prog.specs.declared.value.Value.TheViews.{out-Value};
 ghost use Rattle.pp_eval.specs.Operators.{divided, number, on_layers, on_numbers, on_truths, operated, truth};
 ghost use Rattle.pp_eval.specs.Part as part;
-ghost use Rattle.pp_eval.specs.Part.{Tells};
 
 use crate::equality::are_equal;
-use crate::outcome::{Halt, Stop};
+use crate::outcome::Stop;
 use pp_prog::{BinaryOp, CheckId, UnaryOp, Value};
 
 /// The truth value that a value is.
-pub(crate) fn truth_of(v: &Value) -> Result<bool, Halt>
-    ensures { Tells result (truth v.now) }
+pub(crate) fn truth_of(v: &Value) -> Result<bool, Stop>
+    ensures { result ≡ truth v.now }
 {
     match v {
         Value::Bool(b) => Ok(*b),
-        Value::Int(_) => Err(Halt::Stopped(Stop::Stuck)),
-        Value::Tree(_, _) => Err(Halt::Stopped(Stop::Stuck)),
+        Value::Int(_) => Err(Stop::Stuck),
+        Value::Tree(_, _) => Err(Stop::Stuck),
     }
 }
 
 /// The number that a value is.
-fn number_of(v: &Value) -> Result<i32, Halt>
-    ensures { Tells result (number v.now) }
+fn number_of(v: &Value) -> Result<i32, Stop>
+    ensures { result ≡ number v.now }
 {
     match v {
         Value::Int(n) => Ok(*n),
-        Value::Bool(_) => Err(Halt::Stopped(Stop::Stuck)),
-        Value::Tree(_, _) => Err(Halt::Stopped(Stop::Stuck)),
+        Value::Bool(_) => Err(Stop::Stuck),
+        Value::Tree(_, _) => Err(Stop::Stuck),
     }
 }
 
 /// The failure of a site's check.
-pub(crate) fn failed<T>(check: Option<CheckId>) -> Result<T, Halt>
-    ensures { Tells result (part.failed check) }
+pub(crate) fn failed<T>(check: Option<CheckId>) -> Result<T, Stop>
+    ensures { result ≡ part.failed check }
 {
     match check {
-        Some(c) => Err(Halt::Stopped(Stop::Fails(c))),
-        None => Err(Halt::Stopped(Stop::Stuck)),
+        Some(c) => Err(Stop::Fails(c)),
+        None => Err(Stop::Stuck),
     }
 }
 
-/// An operator with one operand.
-pub(crate) fn unary(op: UnaryOp, v: &Value) -> Result<Value, Halt>
-    ensures { Tells result (spec.unary op v.now) }
+/// What an operator makes of its operand: prefix `-`, `!`, `~`.
+///
+/// # Errors
+/// `Stuck`: exactly where the operand isn't of the operator's sort, which no expression of a valid program meets.
+pub fn unary(op: UnaryOp, v: &Value) -> Result<Value, Stop>
+    ensures { result ≡ spec.unary op v.now }
 {
     match op {
         UnaryOp::Neg => Ok(Value::Int(pp_word::neg(number_of(v)?))),
@@ -56,8 +58,8 @@ pub(crate) fn unary(op: UnaryOp, v: &Value) -> Result<Value, Halt>
     }
 }
 
-fn quotient(check: Option<CheckId>, a: i32, b: i32) -> Result<Value, Halt>
-    ensures { Tells result (divided check b (word_div w32 a b)) }
+fn quotient(check: Option<CheckId>, a: i32, b: i32) -> Result<Value, Stop>
+    ensures { result ≡ divided check b (word_div w32 a b) }
 {
     match pp_word::div(a, b) {
         Some(q) => Ok(Value::Int(q)),
@@ -65,8 +67,8 @@ fn quotient(check: Option<CheckId>, a: i32, b: i32) -> Result<Value, Halt>
     }
 }
 
-fn remainder(check: Option<CheckId>, a: i32, b: i32) -> Result<Value, Halt>
-    ensures { Tells result (divided check b (word_rem w32 a b)) }
+fn remainder(check: Option<CheckId>, a: i32, b: i32) -> Result<Value, Stop>
+    ensures { result ≡ divided check b (word_rem w32 a b) }
 {
     match pp_word::rem(a, b) {
         Some(r) => Ok(Value::Int(r)),
@@ -75,8 +77,8 @@ fn remainder(check: Option<CheckId>, a: i32, b: i32) -> Result<Value, Halt>
 }
 
 /// An operator on two numbers.
-fn of_numbers(op: BinaryOp, check: Option<CheckId>, a: i32, b: i32) -> Result<Value, Halt>
-    ensures { Tells result (on_numbers op check a b) }
+fn of_numbers(op: BinaryOp, check: Option<CheckId>, a: i32, b: i32) -> Result<Value, Stop>
+    ensures { result ≡ on_numbers op check a b }
 {
     match op {
         BinaryOp::Add => Ok(Value::Int(pp_word::add(a, b))),
@@ -94,44 +96,44 @@ fn of_numbers(op: BinaryOp, check: Option<CheckId>, a: i32, b: i32) -> Result<Va
         BinaryOp::Shl => Ok(Value::Int(pp_word::shl(a, b))),
         BinaryOp::Shr => Ok(Value::Int(pp_word::shr(a, b))),
         BinaryOp::Ushr => Ok(Value::Int(pp_word::ushr(a, b))),
-        BinaryOp::Equal => Err(Halt::Stopped(Stop::Stuck)),
-        BinaryOp::Differ => Err(Halt::Stopped(Stop::Stuck)),
-        BinaryOp::AndAlso => Err(Halt::Stopped(Stop::Stuck)),
-        BinaryOp::OrElse => Err(Halt::Stopped(Stop::Stuck)),
+        BinaryOp::Equal => Err(Stop::Stuck),
+        BinaryOp::Differ => Err(Stop::Stuck),
+        BinaryOp::AndAlso => Err(Stop::Stuck),
+        BinaryOp::OrElse => Err(Stop::Stuck),
     }
 }
 
 /// An operator on two truth values, both of which were evaluated.
-fn of_truths(op: BinaryOp, a: bool, b: bool) -> Result<Value, Halt>
-    ensures { Tells result (on_truths op a b) }
+fn of_truths(op: BinaryOp, a: bool, b: bool) -> Result<Value, Stop>
+    ensures { result ≡ on_truths op a b }
 {
     match op {
         BinaryOp::And => Ok(Value::Bool(a & b)),
         BinaryOp::Or => Ok(Value::Bool(a | b)),
         BinaryOp::Xor => Ok(Value::Bool(a ^ b)),
-        _ => Err(Halt::Stopped(Stop::Stuck)),
+        _ => Err(Stop::Stuck),
     }
 }
 
 /// An operator on two numbers or two truth values.
-fn of_alike(op: BinaryOp, check: Option<CheckId>, x: &Value, y: &Value) -> Result<Value, Halt>
-    ensures { Tells result (on_layers op check (out-Value x.now) (out-Value y.now)) }
+fn of_alike(op: BinaryOp, check: Option<CheckId>, x: &Value, y: &Value) -> Result<Value, Stop>
+    ensures { result ≡ on_layers op check (out-Value x.now) (out-Value y.now) }
 {
     match (x, y) {
         (Value::Int(a), Value::Int(b)) => of_numbers(op, check, *a, *b),
         (Value::Bool(a), Value::Bool(b)) => of_truths(op, *a, *b),
-        _ => Err(Halt::Stopped(Stop::Stuck)),
+        _ => Err(Stop::Stuck),
     }
 }
 
-/// An operator whose two operands were evaluated.
-pub(crate) fn operate(
-    op: BinaryOp,
-    check: Option<CheckId>,
-    x: &Value,
-    y: &Value,
-) -> Result<Value, Halt>
-    ensures { Tells result (operated op check x.now y.now) }
+/// What an operator makes of its two operands, both of which were evaluated, at a site with this check. `==` and `!=`
+/// recurse on the height of the operands.
+///
+/// # Errors
+/// `Fails`: exactly where the divisor is 0 and the site has a check. `Stuck`: where it is 0 and there is none, or where
+/// the operands aren't of the operator's sorts.
+pub fn operate(op: BinaryOp, check: Option<CheckId>, x: &Value, y: &Value) -> Result<Value, Stop>
+    ensures { result ≡ operated op check x.now y.now }
 {
     match op {
         BinaryOp::Equal => Ok(Value::Bool(are_equal(x, y))),

@@ -32,6 +32,17 @@ impl From<AllocError> for Halt {
     }
 }
 
+impl From<Stop> for Halt {
+    ghost use Rattle.std.specs.Prelude.{◌≡◌};
+    ghost use Rattle.pp_eval.specs.declared.outcome.Halt.TheVariants.{Stopped};
+
+    ghost from_gives = { λ s halt. halt ≡ Stopped s };
+
+    fn from(stop: Stop) -> Halt {
+        Halt::Stopped(stop)
+    }
+}
+
 /// The outcome of a run: its value, where no check failed; `Outside`, where the precondition is false; a failing check
 /// of the function itself; a failing check inside a called function; calls nested deeper than the fuel, which is all
 /// that `Deep` means, since no run of a valid program is stuck.

@@ -1,7 +1,7 @@
 //! A run of a function.
 
 ghost use Rattle.std.specs.Prelude.{◌≡◌, ◌<◌, ◌≤◌, IfOk, length, slice_get};
-ghost use Rattle.pp_limits.specs.declared.TheConstants.{FUEL};
+ghost use Rattle.pp_limits.specs.declared.TheConstants.{MOST_NESTED};
 ghost use Rattle.pp_eval.specs.declared.outcome.Outcome.{Outcome};
 ghost use Rattle.pp_eval.specs.Callees.{call_meaning};
 ghost use Rattle.pp_eval.specs.Part.{Part, Tells};
@@ -28,7 +28,7 @@ pub fn run(
 ) -> Result<Outcome, NoMemory>
     requires function { f.0 < length program.now.functions }
     requires arguments { AreArguments program.now.types.ctors (slice_get program.now.functions f.0) args.now }
-    requires fuel { fuel ≤ FUEL.most }
+    requires fuel { fuel ≤ MOST_NESTED }
     ensures { IfOk result (λ outcome. outcome ≡ run_in program.now f.0 args.now fuel) }
 {
     let callees = Callees {

@@ -1,7 +1,6 @@
 -- What steps weigh is what they take by themselves, the prices of their looks and comparisons, and what open calls
 -- leave.
-use Rattle.std.proofs.Common.{◌≡◌, ℕ, suc, ◌+◌, ◌*◌, if◌then◌else◌, Bool, true, false, List, [], ◌∷◌, ◌++◌}
-use Rattle.std.proofs.Common.{ap, arith}
+use Rattle.std.proofs.Common.{◌≡◌, ℕ, suc, ◌+◌, ◌*◌, if◌then◌else◌, Bool, true, false, List, [], ◌∷◌, ◌++◌, ap, arith}
 use Rattle.std.proofs.Math.Nat.{mul-add}
 use Rattle.std.specs.Prelude.{nat_eq}
 use Rattle.pp_prog.specs.declared.id.DataId.{DataId}
@@ -13,7 +12,7 @@ use Rattle.pp_domain.specs.Allowance.{times}
 use Rattle.pp_steps.specs.declared.step.OpenCall.{OpenCall}
 use Rattle.pp_steps.specs.declared.step.Step.{Step}
 use Rattle.pp_steps.specs.declared.step.Step.TheVariants as steps
-use Rattle.pp_steps.specs.Gates.{unary_gates}
+use Rattle.pp_operators.specs.Gates.{unary_gates}
 use Rattle.pp_steps.specs.Guesses.{Standing, standing}
 use Rattle.pp_steps.specs.Sorted.{Sorts}
 use Rattle.pp_guess_gates.specs.Measure.{datatype_in, newly_compared, newly_looked, operator_gates}

@@ -1,9 +1,7 @@
 -- The forms of expressions: their steps weigh at most what their visits are worth.
-use Rattle.std.proofs.Common.{◌≡◌, ℕ, suc, ◌+◌, ◌≤◌, max, List, [], ◌∷◌, ◌++◌, Option, Some, refl, sym, ap, ◌∙◌}
-use Rattle.std.proofs.Common.{arith}
+use Rattle.std.proofs.Common.{◌≡◌, ℕ, suc, ◌+◌, max, List, [], ◌∷◌, ◌++◌, Option, Some, refl, sym, ap, ◌∙◌, arith, ◌≤◌}
 use Rattle.std.proofs.lemmas.Option.{same_Some}
-use Rattle.pp_prog.specs.declared.expr.UnaryOp.{UnaryOp}
-use Rattle.pp_prog.specs.declared.expr.UnaryOp.TheVariants.{Neg, Not, Flip}
+use Rattle.pp_tree.specs.declared.operator.UnaryOp.{UnaryOp}
 use Rattle.pp_prog.specs.declared.id.CheckId.{CheckId}
 use Rattle.pp_prog.specs.declared.sort.Sort.{Sort}
 use Rattle.pp_prog.specs.declared.sort.Sort.TheVariants as sort
@@ -13,23 +11,18 @@ use Rattle.pp_prog.specs.Results.{unary_result}
 use Rattle.pp_prog.proofs.PartSorts.{alike_are, bool_then, sort_then, unary_part}
 use Rattle.pp_prog.proofs.Results.{unary_is}
 use Rattle.pp_estimate.specs.declared.shape.Shape.{Shape}
-use Rattle.pp_estimate.specs.Visits.{Visiting, choice_extra, node, shape, unary_extra, visit}
+use Rattle.pp_estimate.specs.Visits.{Visiting, choice_extra, node, shape, visit}
 use Rattle.pp_estimate_laws.proofs.Numbers.{le_same}
 use Rattle.pp_steps.specs.declared.step.OpenCall.{OpenCall}
 use Rattle.pp_steps.specs.declared.step.Step.TheVariants as steps
 use Rattle.pp_steps.specs.Compile.{Compiling, branches, one, unless, when}
-use Rattle.pp_steps.specs.Gates.{unary_gates}
+use Rattle.pp_operators.specs.Gates.{unary_gates}
 use Rattle.pp_steps.specs.Piece.{Piece, after, asks, bind, choice, demand, joined, possible}
 use Rattle.pp_steps.specs.Sorted.{Sorts}
 use Rattle.pp_guess_gates.proofs.Pieces.{Is, IsBit, choice_light, demand_light, joined_light, load, one_light}
 use Rattle.pp_guess_gates.proofs.Pieces.{sorted_left, sorted_one, sorted_other, sorted_right, unless_light, when_light}
 use Rattle.pp_guess_gates.proofs.Prices.{Prices, worth_of_both, worth_of_node}
 use Rattle.pp_guess_gates.proofs.Scopes.{Covers, are_join, covered, covered_of}
-
-unary_fits : (op : UnaryOp) → unary_gates op ≤ unary_extra op
-unary_fits Neg = le_same 256
-unary_fits Not = le_same 0
-unary_fits Flip = le_same 64
 
 module _ (types : TypeTable) (σ : Sorts) (ψ : Prices) (left : OpenCall → ℕ) (old : List Shape) where
   abbrev C : Compiling → Visiting → Sorting → Type 0
@@ -72,7 +65,7 @@ module _ (types : TypeTable) (σ : Sorts) (ψ : Prices) (left : OpenCall → ℕ
 
   pub unary_covers : (op : UnaryOp) (a : Compiling) (v : Visiting) (t : Sorting) → C a v t
       → C (λ k env reach. bind k (a k env reach) (λ n x alive. one (steps.Unary op x) n alive))
-      (λ o env. visit (shape (unary_result op) 0) ((v o env).events ++ node (unary_extra op)))
+      (λ o env. visit (shape (unary_result op) 0) ((v o env).events ++ node (unary_gates op)))
       (λ scope. unary_sort op (t scope))
   unary_covers op a v t ha k env reach shapes scope s are r h m =
       let q = unary_part op (t scope) s h in
@@ -85,10 +78,9 @@ module _ (types : TypeTable) (σ : Sorts) (ψ : Prices) (left : OpenCall → ℕ
       let is : σ n ≡ s = same_Some (σ n) s
       (sym my.0 ∙ ap (λ z. unary_sort op (Some z)) hx.out ∙ ap (unary_sort op) (sym q.1) ∙ h) in
       let few = hx.few in
-      let fits = unary_fits op in
-      let cost_is = worth_of_both ψ p.events (node (unary_extra op)) in
-      let node_is = worth_of_node ψ (unary_extra op) in
-      covered types σ ψ left k (joined x y) s (visit (shape (unary_result op) 0) (p.events ++ node (unary_extra op)))
+      let cost_is = worth_of_both ψ p.events (node (unary_gates op)) in
+      let node_is = worth_of_node ψ (unary_gates op) in
+      covered types σ ψ left k (joined x y) s (visit (shape (unary_result op) 0) (p.events ++ node (unary_gates op)))
       (L k x + (1 + unary_gates op)) (unary_is op (t scope) s h)
       (joined_light types σ ψ left (H s) k x y (L k x) (1 + unary_gates op) (le_same (L k x))
       (one_light types σ ψ left (H s) (steps.Unary op x.out) n x.alive is hx.alive))

@@ -20,4 +20,4 @@ mod Alone
 mod Looks
 mod Taken
 mod Together
-mod Laws
+pub mod Laws

@@ -1,11 +1,14 @@
 -- Operators on two values: their steps weigh at most what their visits are worth.
-use Rattle.std.proofs.Common.{◌≡◌, ℕ, suc, ◌+◌, ◌≤◌, List, [], ◌∷◌, ◌++◌, Option, Some, refl, sym}
-use Rattle.std.proofs.Common.{ap, ◌∙◌, subst, arith}
+use Rattle.std.proofs.Common.{◌≡◌, ℕ, suc, ◌+◌, ◌≤◌, List, [], ◌∷◌, ◌++◌, Option, Some, refl, sym, ap, ◌∙◌, subst}
+use Rattle.std.proofs.Common.{arith}
 use Rattle.std.proofs.lemmas.Option.{same_Some}
 use Rattle.std.proofs.Math.Nat.{add-zero}
 use Rattle.std.specs.Prelude.{pos}
-use Rattle.pp_prog.specs.declared.expr.BinaryOp.{BinaryOp}
-use Rattle.pp_prog.specs.declared.expr.BinaryOp.TheVariants.{Div, Rem, Equal, Differ, AndAlso, OrElse, And, Or, Xor}
+use Rattle.pp_operators.specs.Classes.{class_of}
+use Rattle.pp_operators.specs.declared.class.OperatorClass.{OperatorClass}
+use Rattle.pp_operators.specs.declared.class.OperatorClass.TheVariants as class
+use Rattle.pp_tree.specs.declared.operator.BinaryOp.{BinaryOp}
+use Rattle.pp_tree.specs.declared.operator.BinaryOp.TheVariants.{Div, Rem, Equal, AndAlso, OrElse}
 use Rattle.pp_prog.specs.declared.id.CheckId.{CheckId}
 use Rattle.pp_prog.specs.declared.sort.Sort.{Sort}
 use Rattle.pp_prog.specs.declared.sort.Sort.TheVariants as sort
@@ -16,7 +19,7 @@ use Rattle.pp_prog.specs.Sizes.{by_sort}
 use Rattle.pp_prog.proofs.PartSorts.{binary_parts, bool_then}
 use Rattle.pp_prog.proofs.Results.{binary_is}
 use Rattle.pp_estimate.specs.declared.shape.Shape.{Shape}
-use Rattle.pp_estimate.specs.Visits.{Visiting, binary_extra, node, shape, visit}
+use Rattle.pp_estimate.specs.Visits.{Visiting, binary_extra, class_extra, node, shape, visit}
 use Rattle.pp_estimate_laws.proofs.Numbers.{le_same}
 use Rattle.pp_steps.specs.declared.step.OpenCall.{OpenCall}
 use Rattle.pp_steps.specs.declared.step.Step.TheVariants as steps
@@ -24,7 +27,8 @@ use Rattle.pp_steps.specs.Compile.{Compiling, binary, one, quotient, skipping, u
 use Rattle.pp_steps.specs.Piece.{Piece, after, asks, bind, demand, joined, plain}
 use Rattle.pp_steps.specs.Sorted.{AllSorted, IsSorted, Sorts}
 use Rattle.pp_steps_gates.proofs.Operators.{operated_binary}
-use Rattle.pp_guess_gates.specs.Measure.{operator_gates}
+use Rattle.pp_guess_gates.specs.Measure.{class_gates, operator_gates}
+use Rattle.pp_operators.specs.Gates.{number_gates}
 use Rattle.pp_guess_gates.proofs.Pieces.{Is, IsBit, IsLight, choice_light, demand_light, joined_light, lighter, load}
 use Rattle.pp_guess_gates.proofs.Pieces.{one_light, sorted_left, sorted_one, sorted_right, unless_light, when_light}
 use Rattle.pp_guess_gates.proofs.Prices.{Prices, worth, worth_of_both, worth_of_node}
@@ -48,13 +52,13 @@ module _ (types : TypeTable) where
   bits_within sort.Bool n = omega arith
   bits_within (sort.Tree d) n = omega arith
 
+  class_fits : (c : OperatorClass) (s : Sort) (p e : Shape) → class_gates types c s ≤ class_extra types c p e + 64
+  class_fits class.Equality s p e = equal_within s _
+  class_fits class.Bitwise s p e = bits_within s _
+  class_fits c s p e = le_more (number_gates c)
+
   operator_fits : (op : BinaryOp) (s : Sort) (p e : Shape) → operator_gates types op s ≤ binary_extra types op p e + 64
-  operator_fits Equal s p e = equal_within s _
-  operator_fits Differ s p e = equal_within s _
-  operator_fits And s p e = bits_within s _
-  operator_fits Or s p e = bits_within s _
-  operator_fits Xor s p e = bits_within s _
-  operator_fits op s p e = le_more (binary_extra types op p e)
+  operator_fits op s p e = class_fits (class_of op) s p e
 
 module _ (types : TypeTable) (σ : Sorts) (ψ : Prices) (left : OpenCall → ℕ) (old : List Shape) where
   abbrev C : Compiling → Visiting → Sorting → Type 0

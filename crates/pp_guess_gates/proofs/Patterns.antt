@@ -22,11 +22,12 @@ use Rattle.pp_estimate.specs.declared.shape.Shape.{Shape}
 use Rattle.pp_estimate.specs.Events.{Event}
 use Rattle.pp_estimate.specs.Visits.{Binding, bind_each, bind_step, bound, look_at, node, part, pattern_events}
 use Rattle.pp_estimate.specs.Visits.{pattern_step}
+use Rattle.pp_steps.proofs.Counting.{add_suc}
 use Rattle.pp_steps.specs.declared.step.OpenCall.{OpenCall}
 use Rattle.pp_steps.specs.Patterns.{Fitting, Matching, fit_fields, fitting, fitting_step}
 use Rattle.pp_steps.specs.Sorted.{AllSorted, Distinguishes, Selects, Sorts}
 use Rattle.pp_guess_gates.proofs.Operators.{equal_low}
-use Rattle.pp_guess_gates.proofs.Pieces.{add_suc, sorted_first, sorted_rest, weight, weight_of_both}
+use Rattle.pp_guess_gates.proofs.Pieces.{sorted_first, sorted_rest, weight, weight_of_both}
 use Rattle.pp_guess_gates.proofs.Prices.{Prices, look_price, worth, worth_of_both, worth_of_look}
 use Rattle.pp_guess_gates.proofs.Scopes.{Are, IsOf, are_join}
 

@@ -7,18 +7,16 @@ use Rattle.pp_prog.specs.declared.sort.Sort.TheVariants as sort
 use Rattle.pp_prog.specs.declared.types.TypeTable.{TypeTable}
 use Rattle.pp_prog.specs.Sizes.{by_sort, width}
 use Rattle.pp_estimate_laws.proofs.Numbers.{le_same, le_then}
+use Rattle.pp_steps.proofs.Counting.{add_suc}
 use Rattle.pp_steps.specs.declared.step.OpenCall.{OpenCall}
 use Rattle.pp_steps.specs.declared.step.Step.{Step}
 use Rattle.pp_steps.specs.declared.step.Step.TheVariants as steps
 use Rattle.pp_steps.specs.Compile.{one, unless, when}
-use Rattle.pp_steps.specs.Gates.{unary_gates}
+use Rattle.pp_operators.specs.Gates.{unary_gates}
 use Rattle.pp_steps.specs.Piece.{Piece, after, choice, demand, joined, pick_step, picked, plain}
 use Rattle.pp_steps.specs.Sorted.{AllSorted, Sorts}
 use Rattle.pp_guess_gates.specs.Measure.{operator_gates}
 use Rattle.pp_guess_gates.proofs.Prices.{Prices, look_price}
-
-pub add_suc : (a b : ℕ) → a + suc b ≡ suc a + b
-add_suc a b = omega arith
 
 module _ (types : TypeTable) (σ : Sorts) where
   pub sorted_first : (k : ℕ) (xs ys : List Step) → AllSorted types σ k (xs ++ ys) → AllSorted types σ k xs

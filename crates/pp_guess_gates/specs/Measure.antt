@@ -1,8 +1,10 @@
 -- How many gates and inputs steps take where trees have names: what a look at a tree and a comparison of trees take
 -- grows with the looks and comparisons so far. Source: own.
 use Rattle.std.specs.Prelude.{ℕ, suc, ◌+◌, ◌*◌, List, [], ◌∷◌, ◌++◌, length}
-use Rattle.pp_prog.specs.declared.expr.BinaryOp.{BinaryOp}
-use Rattle.pp_prog.specs.declared.expr.BinaryOp.TheVariants.{Equal, Differ}
+use Rattle.pp_operators.specs.Classes.{class_of}
+use Rattle.pp_operators.specs.declared.class.OperatorClass.{OperatorClass}
+use Rattle.pp_operators.specs.declared.class.OperatorClass.TheVariants as class
+use Rattle.pp_tree.specs.declared.operator.BinaryOp.{BinaryOp}
 use Rattle.pp_prog.specs.declared.id.DataId.{DataId}
 use Rattle.pp_prog.specs.declared.sort.Sort.{Sort}
 use Rattle.pp_prog.specs.declared.sort.Sort.TheVariants as sort
@@ -11,7 +13,8 @@ use Rattle.pp_prog.specs.Sizes.{by_sort, width}
 use Rattle.pp_domain.specs.Allowance.{look_gates}
 use Rattle.pp_steps.specs.declared.step.Step.{Step}
 use Rattle.pp_steps.specs.declared.step.Step.TheVariants as steps
-use Rattle.pp_steps.specs.Gates.{binary_gates, unary_gates}
+use Rattle.pp_operators.specs.Gates.{unary_gates}
+use Rattle.pp_steps.specs.Gates as steps_gates
 use Rattle.pp_steps.specs.Sorted.{Sorts}
 
 -- the datatype, if it is one
@@ -34,11 +37,13 @@ newly_compared σ (steps.GoesDown a b) = by_sort 0 0 (λ d. 1) (σ a)
 newly_compared σ s = 0
 
 module _ (types : TypeTable) where
-  -- an operator on two values of this sort; names of trees are compared bit by bit, as numbers are
+  -- an operator of this class on two values of this sort; names of trees are compared bit by bit, as numbers are
+  abbrev pub class_gates : OperatorClass → Sort → ℕ
+  class_gates class.Equality s = by_sort 64 1 (λ d. 64) s
+  class_gates c s = steps_gates.class_gates types c 0 s
+
   abbrev pub operator_gates : BinaryOp → Sort → ℕ
-  operator_gates Equal s = by_sort 64 1 (λ d. 64) s
-  operator_gates Differ s = by_sort 64 1 (λ d. 64) s
-  operator_gates op s = binary_gates types op 0 s
+  operator_gates op s = class_gates (class_of op) s
 
   module _ (σ : Sorts) where
     -- step number k, after these looks and so many comparisons; an unknown value, and the choice between two, takes

@@ -1,10 +1,9 @@
 -- Closed predicates: what joins, and is true of simple steps, of patterns' steps and of a call's, is true of the steps
 -- of an expression that satisfies a condition.
-use Rattle.std.proofs.Common.{ℕ, suc, ◌+◌, Bool, true, false, List, [], ◌∷◌, ◌++◌, map}
-use Rattle.std.proofs.Common.{Option, Some, None, sym, subst}
+use Rattle.std.proofs.Common.{ℕ, suc, ◌+◌, Bool, true, false, List, [], ◌∷◌, ◌++◌, map, Option, Some, None, sym, subst}
 use Rattle.std.specs.Prelude.{pos}
-use Rattle.pp_prog.specs.declared.expr.BinaryOp.{BinaryOp}
-use Rattle.pp_prog.specs.declared.expr.BinaryOp.TheVariants.{AndAlso, OrElse, Div, Rem, Equal}
+use Rattle.pp_tree.specs.declared.operator.BinaryOp.{BinaryOp}
+use Rattle.pp_tree.specs.declared.operator.BinaryOp.TheVariants.{AndAlso, OrElse, Div, Rem, Equal}
 use Rattle.pp_prog.specs.declared.expr.Case.{Case}
 use Rattle.pp_prog.specs.declared.expr.Expr.{Expr}
 use Rattle.pp_prog.specs.declared.expr.Expr.TheFolds.{fold-roll-Case, fold-roll-Expr, ind-Expr, map-Case, map-Expr}
@@ -15,9 +14,8 @@ use Rattle.pp_prog.specs.declared.id.CheckId.{CheckId}
 use Rattle.pp_prog.specs.declared.id.FunctionId.{FunctionId}
 use Rattle.pp_steps.specs.declared.step.Step.{Step}
 use Rattle.pp_steps.specs.declared.step.Step.TheVariants as steps
-use Rattle.pp_steps.specs.Compile.{Arm, Compiling, Site, all, all_from, all_of, arm, arm_step, binary, cases}
-use Rattle.pp_steps.specs.Compile.{compile, compile_step, deciding, operating, quotient, skipping}
-use Rattle.pp_steps.specs.Compile.{unless, when}
+use Rattle.pp_steps.specs.Compile.{Arm, Compiling, Site, all, all_from, all_of, arm, arm_step, binary, cases, compile}
+use Rattle.pp_steps.specs.Compile.{compile_step, deciding, operating, quotient, skipping, unless, when}
 use Rattle.pp_steps.specs.Patterns.{fitting}
 use Rattle.pp_steps.specs.Piece.{Piece, after, asks, choice, demand, pick_step, plain}
 use Rattle.pp_steps_run.specs.Told.{AllOf}

@@ -10,6 +10,7 @@ use Rattle.pp_prog.specs.declared.program.Program.{Program}
 use Rattle.pp_prog.specs.declared.value.Value.{Value}
 use Rattle.pp_prog.specs.declared.value.Value.TheVariants.{Bool as Truth}
 use Rattle.pp_prog.specs.Sorts.{param_sorts}
+use Rattle.pp_steps.proofs.Counting.{zero_plus}
 use Rattle.pp_steps.specs.declared.step.Step.TheVariants as steps
 use Rattle.pp_steps.specs.Frames.{open_step}
 use Rattle.pp_steps.specs.Guesses.{guess_steps}
@@ -24,9 +25,6 @@ use Rattle.pp_guess_steps.proofs.RoundsRead.{guess_read}
 
 pub guesses_read : GuessesRead
 guesses_read functions f check n = guess_read functions f check n
-
-zero_plus : (i : ℕ) → 0 + i ≡ i
-zero_plus i = omega arith
 
 -- the open values of the own frame
 open_base : (ctors : List Ctor) (missing : Missing) (chosen ρ : Values) (functions : List Function) (f : Function)

@@ -1,9 +1,9 @@
 -- What is supposed of two calls of one function holds in values that obey the steps in the world of the answers.
-use Rattle.std.proofs.Common.{◌≡◌, ℕ, suc, ◌-◌, Bool, true, false, List, [], ◌∷◌, ◌++◌, map}
-use Rattle.std.proofs.Common.{None, Ok, refl, sym, ap, ◌∙◌, subst}
+use Rattle.std.proofs.Common.{◌≡◌, ℕ, suc, ◌-◌, Bool, true, false, List, [], ◌∷◌, ◌++◌, map, None, Ok, refl, sym, ap}
+use Rattle.std.proofs.Common.{◌∙◌, subst}
 use Rattle.std.specs.Prelude.{nat_eq}
 use Rattle.std.proofs.lemmas.Bool.{eqb-true}
-use Rattle.pp_prog.specs.declared.expr.BinaryOp.TheVariants.{Equal}
+use Rattle.pp_tree.specs.declared.operator.BinaryOp.TheVariants.{Equal}
 use Rattle.pp_prog.specs.declared.expr.Function.{Function}
 use Rattle.pp_prog.specs.declared.id.CtorId.{CtorId}
 use Rattle.pp_prog.specs.declared.id.FunctionId.{FunctionId}
@@ -15,8 +15,7 @@ use Rattle.pp_eval.proofs.Trees.{equal_same, equal_self}
 use Rattle.pp_guess_runs.specs.Answers.{Answers}
 use Rattle.pp_guess_runs.specs.Guess.{called}
 use Rattle.pp_steps.specs.declared.step.Step.TheVariants as steps
-use Rattle.pp_steps.specs.Guesses.{Standing, agreeing, answering_alike}
-use Rattle.pp_steps.specs.Guesses.{equal_all, equal_answers, implying}
+use Rattle.pp_steps.specs.Guesses.{Standing, agreeing, answering_alike, equal_all, equal_answers, implying}
 use Rattle.pp_steps.specs.Meaning.{Values, answer_of, bit, is_answered}
 use Rattle.pp_steps.specs.Piece.{Piece, after, joined, plain}
 use Rattle.pp_steps_run.specs.Told.{AllOf, IsMade, On}

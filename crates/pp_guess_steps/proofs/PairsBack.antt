@@ -1,7 +1,7 @@
 -- What is supposed of two calls of one function, read backwards.
 use Rattle.std.proofs.Common.{◌≡◌, ℕ, suc, Bool, true, false, List, [], ◌∷◌, ◌++◌, map, refl, sym, ap, ◌∙◌}
 use Rattle.std.specs.Prelude.{nat_eq, ◌&&◌, not, if◌then◌else◌}
-use Rattle.pp_prog.specs.declared.expr.BinaryOp.TheVariants.{Equal}
+use Rattle.pp_tree.specs.declared.operator.BinaryOp.TheVariants.{Equal}
 use Rattle.pp_prog.specs.declared.types.Ctor.{Ctor}
 use Rattle.pp_prog.specs.declared.value.Value.TheVariants.{Bool as Truth}
 use Rattle.pp_eval.specs.Equality.{equal}

@@ -1,19 +1,18 @@
 -- The pieces of a guess run look at earlier steps alone, and their numbers are those of steps that stand.
 use Rattle.std.proofs.Common.{◌≡◌, ℕ, suc, ◌+◌, ◌<◌, ◌≤◌, Bool, true, false, List, [], ◌∷◌, ◌++◌, length, Option, Some}
-use Rattle.std.proofs.Common.{None}
-use Rattle.std.proofs.Common.{arith}
+use Rattle.std.proofs.Common.{None, arith}
 use Rattle.std.specs.Prelude.{slice_get}
-use Rattle.pp_prog.specs.declared.expr.BinaryOp.TheVariants.{Equal}
+use Rattle.pp_tree.specs.declared.operator.BinaryOp.TheVariants.{Equal}
 use Rattle.pp_prog.specs.declared.expr.Expr.{Expr}
 use Rattle.pp_prog.specs.declared.expr.Function.{Function}
 use Rattle.pp_prog.specs.declared.id.CheckId.{CheckId}
 use Rattle.pp_prog.specs.declared.id.FunctionId.{FunctionId}
+use Rattle.pp_steps.proofs.Counting.{less_suc, self_less}
 use Rattle.pp_steps.specs.declared.step.Step.TheVariants as steps
 use Rattle.pp_steps.specs.Compile.{Site, compile}
 use Rattle.pp_steps.specs.Frames.{Frame, admitting, descending, measuring}
-use Rattle.pp_steps.specs.Guesses.{Standing, asking}
-use Rattle.pp_steps.specs.Guesses.{comparing, comparing_if, guessing, holding, implying}
-use Rattle.pp_steps.specs.Guesses.{own_call, unfolded_of}
+use Rattle.pp_steps.specs.Guesses.{Standing, asking, comparing, comparing_if, guessing, holding, implying, own_call}
+use Rattle.pp_steps.specs.Guesses.{unfolded_of}
 use Rattle.pp_steps.specs.Piece.{Piece, after, asks, demand, joined, plain}
 use Rattle.pp_steps.specs.Reads.{Below}
 use Rattle.pp_steps_run.specs.Told.{AllOf}
@@ -23,14 +22,8 @@ use Rattle.pp_steps_exist.proofs.Forms.{SiteStays, below_end}
 use Rattle.pp_steps_exist.proofs.Within.{IsWithin, LessOne, at_most, below_join, below_later, demand_within}
 use Rattle.pp_steps_exist.proofs.Within.{joined_within, one_within, plain_within, up}
 
-suc_up : (a k : ℕ) → a < k → a < suc k
-suc_up a k h = omega arith
-
 two_up : (a k : ℕ) → a < k → a < suc (suc k)
 two_up a k h = omega arith
-
-suc_self : (k : ℕ) → k < suc k
-suc_self k = omega arith
 
 two_self : (k : ℕ) → k < suc (suc k)
 two_self k = omega arith
@@ -53,9 +46,6 @@ second_three k = omega arith
 third_three : (k : ℕ) → suc (suc k) < k + 3
 third_three k = omega arith
 
-plus_zero : (k : ℕ) → k + 0 ≡ k
-plus_zero k = omega arith
-
 -- ---- calls
 
 module _ (functions : List Function) where
@@ -63,7 +53,7 @@ module _ (functions : List Function) where
   asking_stays wait base k reach g pre down args le r a = record {
     reads = (
       (r, a),
-      ((suc_up reach k r, below_later k (suc k) args (le_suc k) a), ((two_up reach k r, two_self k), tt)),
+      ((less_suc reach k r, below_later k (suc k) args (le_suc k) a), ((two_up reach k r, two_self k), tt)),
     );
     out = second_three k;
     alive = third_three k;
@@ -138,7 +128,7 @@ all_later k n le (c ∷ cs) h = (before_later k n le c h.0, all_later k n le cs 
 pub implying_within : (k a b : ℕ) → a < k → b < k → IsWithin LessOne k (implying k a b)
 implying_within k a b x y =
     plain_within {R = LessOne} k (steps.Not b ∷ steps.Both a k ∷ steps.Not (suc k) ∷ []) (suc (suc k)) a
-    (y, ((suc_up a k x, suc_self k), (suc_self (suc k), tt))) (third_three k) x
+    (y, ((less_suc a k x, self_less k), (self_less (suc k), tt))) (third_three k) x
 
 holding_within : (functions : List Function) (wait : ℕ) (o : Option (CheckId × Expr)) (k : ℕ) (values : List ℕ)
     (reach : ℕ)
@@ -155,7 +145,7 @@ holding_within functions wait (Some post) k values reach v r =
 pub unfolded_within : (functions : List Function) (o : Option Function) (k : ℕ) (c : Standing) → IsBefore k c
     → IsWithin LessOne k (unfolded_of functions o k c)
 unfolded_within functions None k c h = record {
-  reads = ((h.reach, h.has), (suc_self k, tt));
+  reads = ((h.reach, h.has), (self_less k, tt));
   out = second_two k;
   alive = first_two k;
   fails = tt;

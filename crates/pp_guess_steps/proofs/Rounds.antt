@@ -8,6 +8,7 @@ use Rattle.pp_prog.specs.declared.id.CtorId.{CtorId}
 use Rattle.pp_prog.specs.declared.types.Ctor.{Ctor}
 use Rattle.pp_prog.specs.declared.value.Value.{Value}
 use Rattle.pp_guess_runs.specs.Answers.{Answers}
+use Rattle.pp_steps.proofs.Counting.{zero_plus}
 use Rattle.pp_steps.specs.declared.step.OpenCall.{OpenCall}
 use Rattle.pp_steps.specs.declared.step.Step.{Step}
 use Rattle.pp_steps.specs.declared.step.Step.TheVariants as steps
@@ -57,9 +58,6 @@ Paired (steps.CtorField c i a ∷ ss) = Paired ss
 Paired (steps.Field a i ∷ ss) = Paired ss
 Paired (steps.IsAlike a b ∷ ss) = Paired ss
 Paired (steps.GoesDown a b ∷ ss) = Paired ss
-
-zero_plus : (n : ℕ) → 0 + n ≡ n
-zero_plus n = omega arith
 
 pub less_than : (r n : ℕ) → suc r ≤ n → r < n
 less_than r n h = omega (arith, h)

@@ -2,16 +2,16 @@
 use Rattle.std.proofs.Common.{◌≡◌, ℕ, zero, suc, ◌+◌, ◌<◌, ◌≤◌, Bool, true, false, List, [], ◌∷◌, ◌++◌, length, Some}
 use Rattle.std.proofs.Common.{subst, sym, ap, ◌∙◌, arith, length-append}
 use Rattle.std.specs.Prelude.{nat_eq, nat_lt, if◌then◌else◌, slice_get}
-use Rattle.pp_prog.specs.declared.expr.BinaryOp.TheVariants.{Equal}
+use Rattle.pp_tree.specs.declared.operator.BinaryOp.TheVariants.{Equal}
 use Rattle.pp_prog.specs.declared.expr.Function.{Function}
 use Rattle.pp_prog.specs.declared.id.CheckId.{CheckId}
 use Rattle.pp_prog.specs.Sorts.{param_sorts}
+use Rattle.pp_steps.proofs.Counting.{less_suc, self_less, zero_plus}
 use Rattle.pp_steps.specs.declared.step.Step.{Step}
 use Rattle.pp_steps.specs.declared.step.Step.TheVariants as steps
 use Rattle.pp_steps.specs.Guesses.{GuessSteps, Standing, agreeing, agreeing_with, all_agreeing, all_unfolded}
 use Rattle.pp_steps.specs.Guesses.{answering_alike, calls_before, calls_from, equal_all, equal_answers, guess_steps}
-use Rattle.pp_steps.specs.Guesses.{guessing}
-use Rattle.pp_steps.specs.Guesses.{implying, one_unfolded, standing, unfolded_call, with_agreement}
+use Rattle.pp_steps.specs.Guesses.{guessing, implying, one_unfolded, standing, unfolded_call, with_agreement}
 use Rattle.pp_steps.specs.Piece.{Piece, after, joined, plain}
 use Rattle.pp_steps.specs.Reads.{AllRead, Below}
 use Rattle.pp_guess_steps.specs.Laws.{IsReading}
@@ -28,12 +28,6 @@ use Rattle.pp_guess_steps.proofs.Reading.{IsBefore, all_later, before_later, gue
 use Rattle.pp_guess_steps.proofs.Reading.{unfolded_within}
 use Rattle.pp_guess_steps.proofs.Rounds.{Paired}
 use Rattle.pp_guess_steps.proofs.StandingAgree.{mid}
-
-suc_up : (a k : ℕ) → a < k → a < suc k
-suc_up a k h = omega arith
-
-suc_self : (k : ℕ) → k < suc k
-suc_self k = omega arith
 
 second_two : (k : ℕ) → suc k < k + 2
 second_two k = omega arith
@@ -148,7 +142,7 @@ equal_within k [] (y ∷ ys) test a b t = one_within (steps.Bool false) k test t
 equal_within k (x ∷ xs) [] test a b t = one_within (steps.Bool false) k test tt t
 equal_within k (x ∷ xs) (y ∷ ys) test a b t =
     let p : Piece ℕ = plain (steps.Binary Equal x y ∷ steps.Both test k ∷ []) (suc k) test in
-    let hp = plain_within {R = LessOne} k p.steps (suc k) test ((a.0, b.0), ((suc_up test k t, suc_self k), tt))
+    let hp = plain_within {R = LessOne} k p.steps (suc k) test ((a.0, b.0), ((less_suc test k t, self_less k), tt))
     (second_two k) t in
     joined_within k p (equal_all (after k p) xs ys (suc k)) hp
     (equal_within (after k p) xs ys (suc k) (below_end k 2 xs a.1) (below_end k 2 ys b.1) (second_two k))
@@ -179,7 +173,7 @@ answers_within k c d near hc hd z =
     let hp = plain_within {R = LessOne} k p.steps (suc k) near (
       (z, hc.has),
       (
-        (suc_self k, suc_up d.has k hd.has),
+        (self_less k, less_suc d.has k hd.has),
         ((two_up c.result k hc.result, two_up d.result k hd.result), tt),
       ),
     )
@@ -206,7 +200,7 @@ agreeing_within k c d t hc hd z =
     let hs = equal_within k c.call.args d.call.args t hc.args hd.args z in
     let hp = plain_within {R = LessOne} j p.steps (suc j) s.out (
       (hs.out, less_later c.call.reach k j kj hc.reach),
-      ((suc_self j, suc_up d.call.reach j (less_later d.call.reach k j kj hd.reach)), tt),
+      ((self_less j, less_suc d.call.reach j (less_later d.call.reach k j kj hd.reach)), tt),
     ) (second_two j) hs.out in
     let ha = alike_within (nat_eq c.call.wait d.call.wait) m c d (suc j) (before_later k m km c hc)
     (before_later k m km d hd) (second_two j) in
@@ -282,9 +276,6 @@ unfold_within functions wait k (c ∷ cs) hs z =
         (up 0 k (length x.steps) z))
 
 -- ---- rounds
-
-zero_plus : (k : ℕ) → 0 + k ≡ k
-zero_plus k = omega arith
 
 some_less : (a k : ℕ) → a < k → 0 < k
 some_less a k h = omega arith

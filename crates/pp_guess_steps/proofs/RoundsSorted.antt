@@ -1,10 +1,10 @@
 -- Each round of a guess run is well sorted in a program that has a plan.
-use Rattle.std.proofs.Common.{◌≡◌, ℕ, zero, suc, ◌+◌, Bool, true, false, List, [], ◌∷◌, ◌++◌, length, map, Some}
-use Rattle.std.proofs.Common.{refl, sym, ap, ◌∙◌, subst, arith}
+use Rattle.std.proofs.Common.{◌≡◌, ℕ, zero, suc, ◌+◌, Bool, true, false, List, [], ◌∷◌, ◌++◌, length, map, Some, refl}
+use Rattle.std.proofs.Common.{sym, ap, ◌∙◌, subst, arith}
 use Rattle.std.specs.Prelude.{nat_eq, nat_lt, if◌then◌else◌, slice_get}
 use Rattle.std.specs.List.{list_all}
 use Rattle.std.proofs.lemmas.Bool.{and_parts, eqb-true}
-use Rattle.pp_prog.specs.declared.expr.BinaryOp.TheVariants.{Equal}
+use Rattle.pp_tree.specs.declared.operator.BinaryOp.TheVariants.{Equal}
 use Rattle.pp_prog.specs.declared.expr.Function.{Function}
 use Rattle.pp_prog.specs.declared.id.CheckId.{CheckId}
 use Rattle.pp_prog.specs.declared.program.Program.{Program}
@@ -16,12 +16,12 @@ use Rattle.pp_prog.specs.Valid.{is_in_range}
 use Rattle.pp_prog.proofs.Sure.{is_valid}
 use Rattle.pp_checks.specs.Plan.{IsPlanOf, Plan}
 use Rattle.pp_sound.proofs.Listed.{all_at}
+use Rattle.pp_steps.proofs.Counting.{zero_plus}
 use Rattle.pp_steps.specs.declared.step.Step.TheVariants as steps
 use Rattle.pp_steps.specs.Frames.{result_of}
 use Rattle.pp_steps.specs.Guesses.{GuessSteps, Standing, agreeing, agreeing_with, all_agreeing, all_unfolded}
 use Rattle.pp_steps.specs.Guesses.{answering_alike, calls_before, calls_from, equal_all, equal_answers, guess_steps}
-use Rattle.pp_steps.specs.Guesses.{guessing}
-use Rattle.pp_steps.specs.Guesses.{implying, one_unfolded, params_of, standing, unfolded_call, with_agreement}
+use Rattle.pp_steps.specs.Guesses.{guessing, implying, one_unfolded, params_of, standing, unfolded_call, with_agreement}
 use Rattle.pp_steps.specs.Piece.{Piece, after, joined, plain}
 use Rattle.pp_steps.specs.Sorted.{AllSorted, Sorts}
 use Rattle.pp_steps_run.specs.Told.{AllOf}
@@ -40,9 +40,6 @@ use Rattle.pp_guess_steps.proofs.RoundsRead.{guess_read}
 use Rattle.pp_guess_steps.proofs.Sorting.{IsCallSorted, guessing_sorted, implying_sorted, standing_sorted}
 use Rattle.pp_guess_steps.proofs.Sorting.{unfolded_sorted}
 use Rattle.pp_guess_steps.proofs.StandingAgree.{mid}
-
-zero_plus : (k : ℕ) → 0 + k ≡ k
-zero_plus k = omega arith
 
 module _ (p : Program) (σ : Sorts) where
   abbrev Bools : ℕ → Type 0

@@ -10,6 +10,7 @@ use Rattle.pp_prog.specs.declared.value.Value.TheVariants.{Bool as Truth}
 use Rattle.pp_prog.specs.Sorts.{param_sorts}
 use Rattle.pp_prog.specs.Table.{is_sort}
 use Rattle.pp_prog.proofs.ValueSorts.{Has}
+use Rattle.pp_steps.proofs.Counting.{zero_plus}
 use Rattle.pp_steps.specs.Frames.{numbers}
 use Rattle.pp_steps.specs.Guesses.{guess_steps}
 use Rattle.pp_steps.specs.Meaning.{Values}
@@ -20,9 +21,6 @@ use Rattle.pp_guess_steps.proofs.Labels.{guess_labelled}
 use Rattle.pp_guess_steps.proofs.OwnFrame.{arguments_are}
 use Rattle.pp_guess_steps.proofs.RoundsRead.{guess_read}
 use Rattle.pp_guess_steps.proofs.SolvedSorted.{solved_have, value_at_has}
-
-zero_plus : (k : ℕ) → 0 + k ≡ k
-zero_plus k = omega arith
 
 none_before : (i : ℕ) → i < 0 → ⊥
 none_before i lt = omega (arith, lt)

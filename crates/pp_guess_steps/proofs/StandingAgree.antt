@@ -8,6 +8,7 @@ use Rattle.pp_prog.specs.declared.expr.Function.{Function}
 use Rattle.pp_prog.specs.declared.id.CheckId.{CheckId}
 use Rattle.pp_prog.specs.declared.types.Ctor.{Ctor}
 use Rattle.pp_prog.specs.Sorts.{param_sorts}
+use Rattle.pp_steps.proofs.Counting.{zero_plus}
 use Rattle.pp_steps.specs.declared.step.Step.{Step}
 use Rattle.pp_steps.specs.declared.step.Step.TheVariants as steps
 use Rattle.pp_steps.specs.Frames.{open_step}
@@ -68,9 +69,6 @@ standing_join k (x ∷ xs) ys =
     ∙ sym (assoc (standing k (x ∷ [])) (standing (suc k) xs) (standing (suc k + length xs) ys))
     ∙ ap (λ l. l ++ standing (suc k + length xs) ys) (sym (standing_cons x k xs))
     ∙ ap (λ i. standing k (x ∷ xs) ++ standing i ys) (plus_suc k (length xs))
-
-zero_plus : (n : ℕ) → 0 + n ≡ n
-zero_plus n = omega arith
 
 pub standing_at : (xs ys : List Step) → standing 0 (xs ++ ys) ≡ standing 0 xs ++ standing (length xs) ys
 standing_at xs ys = standing_join 0 xs ys ∙ ap (λ i. standing 0 xs ++ standing i ys) (zero_plus (length xs))

@@ -7,6 +7,7 @@ use Rattle.std.proofs.lemmas.Bool.{cases_lt, eq-eqb}
 use Rattle.pp_prog.specs.declared.expr.Function.{Function}
 use Rattle.pp_prog.specs.declared.id.CheckId.{CheckId}
 use Rattle.pp_prog.specs.declared.types.Ctor.{Ctor}
+use Rattle.pp_steps.proofs.Counting.{zero_plus}
 use Rattle.pp_steps.specs.declared.step.Step.{Step}
 use Rattle.pp_steps.specs.declared.step.Step.TheVariants as steps
 use Rattle.pp_steps.specs.Guesses.{Standing, all_agreeing, all_unfolded, calls_before, calls_from, guess_steps}
@@ -96,9 +97,6 @@ one_of w (x ∷ xs) h c has = by (head_or x c xs has) (λ later. one_of w xs h.1
     by : (x ≡ c) ⊎ Contains xs c → (Contains xs c → c.call.wait ≡ w) → c.call.wait ≡ w
     by (inl is) rest = ap (λ z. z.call.wait) (sym is) ∙ h.0
     by (inr later) rest = rest later
-
-zero_plus : (n : ℕ) → 0 + n ≡ n
-zero_plus n = omega arith
 
 not_later : (w n : ℕ) → w < suc n → w ≡ suc n → ⊥
 not_later w n h e = omega (arith, h, e)

@@ -17,6 +17,7 @@ use Rattle.pp_prog.specs.Calls.{joined}
 use Rattle.pp_prog.specs.Sorts.{has_sort}
 use Rattle.pp_prog.specs.Table.{HaveValues, is_sort}
 use Rattle.pp_domain.specs.Naming.{first_of}
+use Rattle.pp_steps.proofs.Counting.{zero_plus}
 use Rattle.pp_steps.specs.declared.step.Step.{Step}
 use Rattle.pp_steps.specs.declared.step.Step.TheVariants as steps
 use Rattle.pp_steps.specs.Frames.{numbers}
@@ -43,9 +44,6 @@ length_numbers j (x ∷ xs) = ap suc (length_numbers (suc j) xs)
 
 plus_zero : (j : ℕ) → j ≡ j + 0
 plus_zero j = omega arith
-
-pub zero_plus : (k : ℕ) → 0 + k ≡ k
-zero_plus k = omega arith
 
 plus_suc : (j k : ℕ) → suc j + k ≡ j + suc k
 plus_suc j k = omega arith

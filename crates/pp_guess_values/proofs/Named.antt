@@ -26,6 +26,7 @@ use Rattle.pp_induction.specs.Ends.{GuessFails}
 use Rattle.pp_domain.specs.Laws.{AdmittedFor, Lawful}
 use Rattle.pp_domain.specs.Naming.{IsDefault, Names, NamesAll, NamesFields, Naming}
 use Rattle.pp_domain.specs.Sense.{Sense}
+use Rattle.pp_steps.proofs.Counting.{zero_plus}
 use Rattle.pp_steps.specs.declared.step.Step.{Step}
 use Rattle.pp_steps.specs.declared.step.Step.TheVariants as steps
 use Rattle.pp_steps.specs.Guesses.{guess_steps}
@@ -44,7 +45,6 @@ use Rattle.pp_guess_values.specs.NamedGuess.{IsNamedGuess, IsShort, all_looked_a
 use Rattle.pp_guess_values.proofs.Arguments.{arguments_are_steps, holds_of_values}
 use Rattle.pp_guess_values.proofs.Defaults.{default_field, default_field_is, default_has_sort, default_of}
 use Rattle.pp_guess_values.proofs.Listing.{all_fields, each_look, each_value, few_listed, first_is_default, listed}
-use Rattle.pp_guess_values.proofs.Listing.{zero_plus}
 use Rattle.pp_guess_values.proofs.Looking.{field_was_asked, guess_looks_before}
 use Rattle.pp_guess_values.proofs.OwnFields.{has_few_fields, tree_fields}
 

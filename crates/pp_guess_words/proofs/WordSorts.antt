@@ -2,12 +2,12 @@
 use Rattle.std.proofs.Common.{◌≡◌, ◌<◌, ◌≤◌, ◌⊎◌, inl, inr, ℕ, suc, ◌+◌, true, List, [], ◌∷◌, length, Option, Some}
 use Rattle.std.proofs.Common.{None, refl, sym, subst, arith}
 use Rattle.std.proofs.lemmas.Bool.{cases_lt}
-use Rattle.pp_prog.specs.declared.expr.BinaryOp.{BinaryOp}
-use Rattle.pp_prog.specs.declared.expr.BinaryOp.TheVariants.{Add, Sub, Mul, Div, Rem, Equal, Differ, Less, AtMost}
-use Rattle.pp_prog.specs.declared.expr.BinaryOp.TheVariants.{More, AtLeast, AndAlso, OrElse, And, Or, Xor, Shl, Shr}
-use Rattle.pp_prog.specs.declared.expr.BinaryOp.TheVariants.{Ushr}
-use Rattle.pp_prog.specs.declared.expr.UnaryOp.{UnaryOp}
-use Rattle.pp_prog.specs.declared.expr.UnaryOp.TheVariants.{Neg, Not, Flip}
+use Rattle.pp_operators.specs.Classes.{class_of}
+use Rattle.pp_operators.specs.declared.class.OperatorClass.{OperatorClass}
+use Rattle.pp_operators.specs.declared.class.OperatorClass.TheVariants as class
+use Rattle.pp_tree.specs.declared.operator.BinaryOp.{BinaryOp}
+use Rattle.pp_tree.specs.declared.operator.UnaryOp.{UnaryOp}
+use Rattle.pp_tree.specs.declared.operator.UnaryOp.TheVariants.{Neg, Not, Flip}
 use Rattle.pp_prog.specs.declared.id.DataId.{DataId}
 use Rattle.pp_prog.specs.declared.program.Program.{Program}
 use Rattle.pp_prog.specs.declared.sort.Sort.{Sort}
@@ -16,11 +16,12 @@ use Rattle.pp_prog.specs.Cone.{IsWordFunction, is_word}
 use Rattle.pp_prog.specs.ExprSorts.{a_bool, alike, an_int, bits_sort, equality_sort, number_sort, order_sort}
 use Rattle.pp_prog.specs.ExprSorts.{unary_sort}
 use Rattle.pp_prog.proofs.PartSorts.{bool_then, int_then, sort_then}
+use Rattle.pp_steps.proofs.Counting.{zero_plus}
 use Rattle.pp_steps.specs.declared.step.Step.{Step}
 use Rattle.pp_steps.specs.declared.step.Step.TheVariants as steps
 use Rattle.pp_steps.specs.Guesses.{guess_steps}
 use Rattle.pp_steps.specs.Reads.{AllRead, Reads}
-use Rattle.pp_steps.specs.Sorted.{AllSorted, IsSorted, Selects, SelectsOnly, Sorts, operated_sort}
+use Rattle.pp_steps.specs.Sorted.{AllSorted, IsSorted, Selects, SelectsOnly, Sorts, class_operated, operated_sort}
 use Rattle.pp_guess_steps.proofs.Labels.{IsLabelled, Labelled, guess_labelled}
 use Rattle.pp_guess_steps.proofs.RoundsRead.{guess_read}
 use Rattle.pp_guess_words.specs.Laws.{NoTrees}
@@ -61,26 +62,18 @@ bits_word (Some sort.Int) b r h = int_word b sort.Int r refl h
 bits_word (Some sort.Bool) b r h = bool_word b sort.Bool r refl h
 bits_word (Some (sort.Tree d)) b r h = cc
 
+class_word : (c : OperatorClass) (a b : Option Sort) (r : Sort) → class_operated c a b ≡ Some r → is_word r ≡ true
+class_word class.Sum a b r h = number_word a b r h
+class_word class.Product a b r h = number_word a b r h
+class_word class.Quotient a b r h = number_word a b r h
+class_word class.Equality a b r h = equality_word a b r h
+class_word class.Order a b r h = order_word a b r h
+class_word class.Logic a b r h = cc
+class_word class.Bitwise a b r h = bits_word a b r h
+class_word class.Shift a b r h = number_word a b r h
+
 operated_word : (op : BinaryOp) (a b : Option Sort) (r : Sort) → operated_sort op a b ≡ Some r → is_word r ≡ true
-operated_word Add a b r h = number_word a b r h
-operated_word Sub a b r h = number_word a b r h
-operated_word Mul a b r h = number_word a b r h
-operated_word Div a b r h = number_word a b r h
-operated_word Rem a b r h = number_word a b r h
-operated_word Equal a b r h = equality_word a b r h
-operated_word Differ a b r h = equality_word a b r h
-operated_word Less a b r h = order_word a b r h
-operated_word AtMost a b r h = order_word a b r h
-operated_word More a b r h = order_word a b r h
-operated_word AtLeast a b r h = order_word a b r h
-operated_word AndAlso a b r h = cc
-operated_word OrElse a b r h = cc
-operated_word And a b r h = bits_word a b r h
-operated_word Or a b r h = bits_word a b r h
-operated_word Xor a b r h = bits_word a b r h
-operated_word Shl a b r h = number_word a b r h
-operated_word Shr a b r h = number_word a b r h
-operated_word Ushr a b r h = number_word a b r h
+operated_word op a b r h = class_word (class_of op) a b r h
 
 -- ---- steps
 
@@ -142,9 +135,6 @@ module _ (p : Program) (start : ℕ) (words : IsWordFunction p.types p.functions
 
 none_before : (j : ℕ) → j < 0 → ⊥
 none_before j lt = omega (arith, lt)
-
-zero_plus : (n : ℕ) → 0 + n ≡ n
-zero_plus n = omega arith
 
 pub no_trees : NoTrees
 no_trees p i words f is check n run k lt =

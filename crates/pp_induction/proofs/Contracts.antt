@@ -5,7 +5,7 @@ use Rattle.pp_prog.specs.declared.expr.Function.{Function}
 use Rattle.pp_prog.specs.declared.id.CheckId.{CheckId}
 use Rattle.pp_prog.specs.declared.program.Program.{Program}
 use Rattle.pp_prog.specs.declared.value.Value.{Value}
-use Rattle.pp_prog.specs.Calls.{calls, joined, pre_calls}
+use Rattle.pp_prog.specs.Calls.{calls, contract_calls, joined, pre_calls}
 use Rattle.pp_prog.specs.ExprSorts.{is_sorted_pre}
 use Rattle.pp_prog.specs.Listing.{pre_sites}
 use Rattle.pp_prog.specs.Sorts.{param_sorts}
@@ -19,7 +19,6 @@ use Rattle.pp_sound.proofs.Calls.{condition_fine, whole}
 use Rattle.pp_sound.proofs.Exprs.{AreGood}
 use Rattle.pp_sound.proofs.Parts.{IsAny, IsFine, MayStop, fine_value}
 use Rattle.pp_sound.proofs.Sites.{AreMet}
-use Rattle.pp_checks.specs.Rules.{contract_calls}
 use Rattle.pp_run_laws.proofs.Depends.{allowed_same, frame_same, same_left, same_right}
 use Rattle.pp_run_laws.proofs.Eventually.{both_eventually, mapped}
 use Rattle.pp_run_laws.proofs.Follows.{Comes}

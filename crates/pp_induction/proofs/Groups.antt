@@ -8,12 +8,11 @@ use Rattle.pp_graph.proofs.Paths.{further}
 use Rattle.pp_prog.specs.declared.expr.Expr.{Expr}
 use Rattle.pp_prog.specs.declared.expr.Function.{Function}
 use Rattle.pp_prog.specs.declared.program.Program.{Program}
-use Rattle.pp_prog.specs.Calls.{OneGroup, call_table, calls, function_calls, post_calls}
+use Rattle.pp_prog.specs.Calls.{OneGroup, call_table, calls, contract_calls, function_calls, post_calls}
 use Rattle.pp_prog.specs.Cone.{InCone}
 use Rattle.pp_prog.specs.Valid.{is_written}
 use Rattle.pp_checks.specs.Plan.{IsPlanOf, Plan}
 use Rattle.pp_checks.specs.Ranks.{IsRank}
-use Rattle.pp_checks.specs.Rules.{contract_calls}
 use Rattle.pp_checks.proofs.Ruling.{calls_at}
 
 -- the way back to a function of the group begins inside the group

@@ -42,12 +42,21 @@ pub const GATES: Range = Range {
     most: 4_000_000,
 };
 
-/// How many calls of a run may be nested (`--fuel`), as long as they are nested on the machine's own stack.
+/// How many calls of a run may be nested (`--fuel`).
 pub const FUEL: Range = Range {
     default: 100,
     least: 0,
-    most: 100,
+    most: 100_000,
 };
+
+/// How many calls the plain evaluator nests, which does it on the processor's own stack.
+pub const MOST_NESTED: u32 = 100;
+
+/// The least seed of a made source (`--seed`). No seed is taken where no word gives one.
+pub const LEAST_SEED: u32 = 1;
+
+/// The greatest seed.
+pub const MOST_SEED: u32 = 200;
 
 /// How many sources there may be.
 pub const MOST_SOURCES: usize = 16;

@@ -6,3 +6,4 @@ pub mod Law
 pub mod Newlines
 pub mod Tails
 pub mod Texts
+pub mod Made

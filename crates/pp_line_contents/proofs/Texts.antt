@@ -47,10 +47,10 @@ texts_tell_lines xs ys h k e = one_list xs ys (of_all IsOneLine xs h) (of_all Is
 
 -- ---- counts
 
-no_blank : IsDigit 32 → ⊥
+pub no_blank : IsDigit 32 → ⊥
 no_blank h = omega (arith, h.0)
 
-counts_same : (m n : Counts) → AreSmall m → AreSmall n → counts_text m ≡ counts_text n → m ≡ n
+pub counts_same : (m n : Counts) → AreSmall m → AreSmall n → counts_text m ≡ counts_text n → m ≡ n
 counts_same m n p q e =
     let valids = one_decimal m.valid n.valid _ _ p.valid q.valid no_blank no_blank e in
     let invalids = one_decimal m.invalid n.invalid _ _ p.invalid q.invalid no_blank no_blank

@@ -2,7 +2,7 @@
 use Rattle.std.specs.Prelude.{◌≡◌, ◌≢◌, ℕ, true, List, [], ◌++◌, Some, All, Contains, codes, slice_get}
 use Rattle.std.specs.List.{concat}
 use Rattle.pp_line_contents.specs.Contents.{Content, IsSmall, Prints}
-use Rattle.pp_line_contents.specs.Reports.{Counts, PrintsReport, ReportContent, counts_text}
+use Rattle.pp_line_contents.specs.Reports.{Counts, MadeContent, PrintsMade, PrintsReport, ReportContent, counts_text}
 use Rattle.pp_print.specs.Values.{Text}
 use Rattle.pp_prog.specs.declared.check.Check.{Check}
 use Rattle.pp_prog.specs.declared.expr.Function.{Function}
@@ -78,3 +78,7 @@ TextsTellLines = (xs ys : List Text) → All IsOneLine xs → All IsOneLine ys �
 abbrev pub TextsTellContents : Type 0
 TextsTellContents = (p : Program) → IsLegible p → (text : Text) (a b : ReportContent) → PrintsReport p text a
     → PrintsReport p text b → a ≡ b
+
+-- so it is with the text on functions that were made
+abbrev pub MadeTextsTellContents : Type 0
+MadeTextsTellContents = (text : Text) (a b : MadeContent) → PrintsMade text a → PrintsMade text b → a ≡ b

@@ -1,8 +1,10 @@
--- What the whole text of a report says: the line of each function, and how many have each verdict. Source: own.
+-- What the whole text of a report says: the line of each function, and how many have each verdict; or how many
+-- functions were made, and how many have each verdict. Source: own.
 use Rattle.std.specs.Prelude.{◌≡◌, ℕ, suc, List, [], ◌∷◌, ◌++◌}
 use Rattle.std.specs.List.{concat}
 use Rattle.pp_line_contents.specs.Contents.{Content, IsSmall, Prints}
 use Rattle.pp_print.specs.Lines.{summary_text}
+use Rattle.pp_print.specs.Made.{made_text}
 use Rattle.pp_print.specs.Values.{Text}
 use Rattle.pp_prog.specs.declared.expr.Function.{Function}
 use Rattle.pp_prog.specs.declared.program.Program.{Program}
@@ -43,3 +45,16 @@ module _ (p : Program) where
     pub each : PrintEach 0 p.functions lines r.functions
     pub small : AreSmall r.counts
     pub whole : text ≡ concat (lines ++ counts_text r.counts ∷ [])
+
+-- ---- functions that were made
+
+-- how many there are, and how many of them have each verdict
+pub record MadeContent : Type 0 where
+  pub functions : ℕ
+  pub counts : Counts
+
+-- the text is the line on how many there are, and the line of the counts behind it
+pub record PrintsMade (text : Text) (m : MadeContent) : Type 0 where
+  pub few : IsSmall m.functions
+  pub small : AreSmall m.counts
+  pub whole : text ≡ concat (made_text m.functions ∷ counts_text m.counts ∷ [])

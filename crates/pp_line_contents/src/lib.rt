@@ -7,7 +7,7 @@
 #![tactic(auto)]
 
 ghost use Rattle.pp_line_contents.specs.Laws.{CountsEndOnce, LinesEndOnce, LinesTellContents, TextsTellContents};
-ghost use Rattle.pp_line_contents.specs.Laws.{TextsTellLines};
+ghost use Rattle.pp_line_contents.specs.Laws.{MadeTextsTellContents, TextsTellLines};
 
 /// No line says two things: where a line prints two contents, they are the same, and are those of one function. It does
 /// nothing: its contract is the law.
@@ -32,4 +32,10 @@ pub fn texts_tell_lines()
 /// in order, and of how many have each verdict. It does nothing: its contract is the law.
 pub fn texts_tell_contents()
     ensures { TextsTellContents }
+{}
+
+/// Nor does a text on functions that were made: it tells how many there are, and how many have each verdict. It does
+/// nothing: its contract is the law.
+pub fn made_texts_tell_contents()
+    ensures { MadeTextsTellContents }
 {}

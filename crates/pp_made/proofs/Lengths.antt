@@ -3,6 +3,7 @@ use Rattle.std.proofs.Common.{◌≡◌, ℕ, zero, suc, ◌+◌, ◌*◌, ◌<�
 use Rattle.std.proofs.Common.{refl, arith, length-append}
 use Rattle.std.proofs.lemmas.Fmt.{length-decimal-le}
 use Rattle.std.specs.List.{concat, range_with_len}
+use Rattle.pp_limits.specs.declared.TheConstants.{MOST_SEED}
 use Rattle.pp_text.specs.Limits.{most_bytes}
 use Rattle.pp_made.specs.Made.{Text, count_with, functions_text, functions_to, opening, made_source, step_with}
 
@@ -41,8 +42,8 @@ ranges_short first (suc count) h =
     let later = concat (map functions_text (range_with_len (first + 1) count)) in
     omega (arith, now, length-append (functions_text first) later, ranges_short (first + 1) count (omega (arith, h)))
 
--- a seed of at most 200 has a source that is no longer than a source may be
-pub source_short : (seed : ℕ) → seed ≤ 200 → length (made_source seed) ≤ most_bytes
+-- a seed that an option takes has a source that is no longer than a source may be
+pub source_short : (seed : ℕ) → seed ≤ MOST_SEED → length (made_source seed) ≤ most_bytes
 source_short seed h =
     let functions = ranges_short 1 seed (omega (arith, h)) in
     let ends = length-append (functions_to seed) (codes "}\n") in

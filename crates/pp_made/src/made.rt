@@ -2,6 +2,7 @@
 
 ghost use Rattle.std.specs.Prelude.{◌≡◌, ◌++◌, ◌≤◌, IfOk, OnOk, length, string_bytes};
 ghost use Rattle.std.specs.List.{concat};
+ghost use Rattle.pp_limits.specs.declared.TheConstants.{MOST_SEED};
 ghost use Rattle.pp_text.specs.Limits.{most_bytes};
 ghost use Rattle.pp_made.specs.Made.{count_with, step_with};
 ghost use Rattle.pp_made.specs.Made as spec;
@@ -50,10 +51,10 @@ fn push_step(out: &mut String, number: u32, bound: u64) -> Result<(), NoMemory>
 }
 
 /// The source of a seed: an object with the two functions of each number from 1 to the seed. It is short enough for a
-/// source where the seed is at most 200. The only error is want of memory.
+/// source where the seed is at most 200, as those are that an option takes. The only error is want of memory.
 pub fn made_source(alloc: Global, seed: u32) -> Result<String, NoMemory>
     ensures bytes { IfOk result (λ s. string_bytes s ≡ spec.made_source seed) }
-    ensures short { IfOk result (λ s. seed ≤ 200 → length (string_bytes s) ≤ most_bytes) }
+    ensures short { IfOk result (λ s. seed ≤ MOST_SEED → length (string_bytes s) ≤ most_bytes) }
 {
     let mut out = String::from_str(alloc, OPENING)?;
     for earlier in 0..seed {

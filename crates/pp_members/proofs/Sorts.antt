@@ -5,15 +5,15 @@ use Rattle.std.specs.Prelude.{Some, All, slice_get}
 use Rattle.std.proofs.lemmas.List.Elements.{All-filter, All-head, All-contains}
 use Rattle.pp_members.proofs.Lists.{element, same_some}
 use Rattle.pp_members.proofs.Put.{at_in_range, put_in_range, puts_in_range}
+use Rattle.pp_operators.specs.Classes.{class_of}
+use Rattle.pp_operators.specs.declared.class.OperatorClass.{OperatorClass}
+use Rattle.pp_operators.specs.declared.class.OperatorClass.TheVariants as class
 use Rattle.pp_tree.specs.declared.operator.BinaryOp.{BinaryOp}
-use Rattle.pp_tree.specs.declared.operator.BinaryOp.TheVariants.{Add, Sub, Mul, Div, Rem, Equal, Differ, Less, AtMost}
-use Rattle.pp_tree.specs.declared.operator.BinaryOp.TheVariants.{More, AtLeast, AndAlso, OrElse, And, Or, Xor, Shl, Shr}
-use Rattle.pp_tree.specs.declared.operator.BinaryOp.TheVariants.{Ushr}
 use Rattle.pp_tree.specs.declared.operator.UnaryOp.{UnaryOp}
 use Rattle.pp_tree.specs.declared.operator.UnaryOp.TheVariants.{Neg, Not, Flip}
 use Rattle.pp_typed.specs.InRange.{IsInRange, AreInRange, int_in_range, bool_in_range, param_in_range, root_in_range}
 use Rattle.pp_typed.specs.InRange.{none_in_range, more_in_range}
-use Rattle.pp_typed.specs.Operators.{IsLogical, IsNumeric, Operates, unary_sort}
+use Rattle.pp_typed.specs.Operators.{ClassOperates, IsLogical, IsNumeric, Operates, unary_sort}
 use Rattle.pp_typed.specs.Put.{put}
 use Rattle.pp_typed.specs.Sorted.{Binds, BindEach, IsSorted, binds_any, binds_int, binds_bool, binds_ctor, bind_none}
 use Rattle.pp_typed.specs.Sorted.{bind_more, ctors_of, own_value, sorted_int, sorted_bool, sorted_local, sorted_call}
@@ -78,28 +78,19 @@ module _ (roots : List TypedRoot) (n : ℕ) where
         each = subst (AreInRange roots n) are each;
       }
 
+  class_in_range : {s : GenericSort} (c : OperatorClass) (a : GenericSort) → ClassOperates c a s → IsInRange roots n s
+  class_in_range class.Sum a h = int_in_range h.1
+  class_in_range class.Product a h = int_in_range h.1
+  class_in_range class.Quotient a h = int_in_range h.1
+  class_in_range class.Equality a h = bool_in_range h
+  class_in_range class.Order a h = bool_in_range h.1
+  class_in_range class.Logic a h = bool_in_range h.1
+  class_in_range {s} class.Bitwise a h =
+      ⊎_elim (λ (q : IsNumeric a s). int_in_range q.1) (λ (q : IsLogical a s). bool_in_range q.1) h
+  class_in_range class.Shift a h = int_in_range h.1
+
   int_or_bool : {s : GenericSort} (op : BinaryOp) (a : GenericSort) → Operates op a s → IsInRange roots n s
-  int_or_bool Add a h = int_in_range h.1
-  int_or_bool Sub a h = int_in_range h.1
-  int_or_bool Mul a h = int_in_range h.1
-  int_or_bool Div a h = int_in_range h.1
-  int_or_bool Rem a h = int_in_range h.1
-  int_or_bool Equal a h = bool_in_range h
-  int_or_bool Differ a h = bool_in_range h
-  int_or_bool Less a h = bool_in_range h.1
-  int_or_bool AtMost a h = bool_in_range h.1
-  int_or_bool More a h = bool_in_range h.1
-  int_or_bool AtLeast a h = bool_in_range h.1
-  int_or_bool AndAlso a h = bool_in_range h.1
-  int_or_bool OrElse a h = bool_in_range h.1
-  int_or_bool {s} And a h =
-      ⊎_elim (λ (q : IsNumeric a s). int_in_range q.1) (λ (q : IsLogical a s). bool_in_range q.1) h
-  int_or_bool {s} Or a h = ⊎_elim (λ (q : IsNumeric a s). int_in_range q.1) (λ (q : IsLogical a s). bool_in_range q.1) h
-  int_or_bool {s} Xor a h =
-      ⊎_elim (λ (q : IsNumeric a s). int_in_range q.1) (λ (q : IsLogical a s). bool_in_range q.1) h
-  int_or_bool Shl a h = int_in_range h.1
-  int_or_bool Shr a h = int_in_range h.1
-  int_or_bool Ushr a h = int_in_range h.1
+  int_or_bool op a h = class_in_range (class_of op) a h
 
   unary_in_range : {s : GenericSort} (op : UnaryOp) → s ≡ unary_sort op → IsInRange roots n s
   unary_in_range Neg h = int_in_range h

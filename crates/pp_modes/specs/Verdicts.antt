@@ -1,6 +1,6 @@
--- What mode `verify` answers. Source: own.
+-- What modes `verify` and `make` answer. Source: own.
 use Rattle.std.specs.Prelude.{◌≡◌, ℕ, zero, suc, Bool, true, false, List, [], ◌∷◌, ◌++◌, Option, Some, None, count_by}
-use Rattle.std.specs.Prelude.{slice_get}
+use Rattle.std.specs.Prelude.{length, slice_get}
 use Rattle.pp_induct.specs.Reports.{IsReport}
 use Rattle.pp_induct.specs.Verdicts.{ValidAreGood}
 use Rattle.pp_induct.specs.declared.ends.CheckEnd.{CheckEnd}
@@ -16,15 +16,17 @@ use Rattle.pp_modes.specs.Responses.{Response, report}
 use Rattle.pp_modes.specs.declared.status.Status.{Status}
 use Rattle.pp_modes.specs.declared.status.Status.TheVariants as status
 use Rattle.pp_print.specs.Lines.{depends_text, invalid_text, open_text, summary_text, valid_text}
+use Rattle.pp_print.specs.Made.{made_text}
 use Rattle.pp_print.specs.declared.line.Reason.{Reason}
 use Rattle.pp_print.specs.declared.line.Reason.TheVariants as reason
 use Rattle.pp_prog.specs.declared.check.Check.{Check}
 use Rattle.pp_prog.specs.declared.expr.Function.{Function}
 use Rattle.pp_prog.specs.declared.program.Program.{Program}
+use Rattle.pp_words.specs.declared.task.Numbers.{Numbers}
 
--- the limits that these numbers name
-abbrev pub limits_of : ℕ → ℕ → ℕ → ℕ → Limits
-limits_of rounds depth lemmas gates = record { rounds = rounds; depth = depth; lemmas = lemmas; gates = gates }
+-- the limits that the numbers of a task name
+abbrev pub limits_of : Numbers → Limits
+limits_of n = record { rounds = n.rounds; depth = n.depth; lemmas = n.lemmas; gates = n.gates }
 
 -- the reason that is printed
 abbrev pub reason_of : Why → Reason
@@ -97,16 +99,28 @@ abbrev pub summary_by : List Verdict → List ℕ
 summary_by vs =
     summary_text (count_by is_valid vs) (count_by is_invalid vs) (count_by is_open vs) (count_by is_depending vs)
 
--- a line for each function, and then the summary
+-- mode `verify`: a line for each function, and then the summary
 abbrev pub verdict_report : Program → Report → Response
 verdict_report p found =
     report (status_by found.verdicts)
     (verdict_lines p found.checks 0 p.functions found.verdicts ++ summary_by found.verdicts ∷ [])
 
+-- mode `make`: a line on how many functions the program has, and then the summary
+abbrev pub made_report : Program → Report → Response
+made_report p found =
+    report (status_by found.verdicts) (made_text (length p.functions) ∷ summary_by found.verdicts ∷ [])
+
 -- The response is that on a report of the program: what the report says of each check holds, within these limits, and
 -- functions that it calls valid are good.
-pub record AnswersVerify (p : Program) (limits : Limits) (r : Response) : Type 0 where
+pub record AnswersBy (report_of : Program → Report → Response) (p : Program) (limits : Limits) (r : Response)
+    : Type 0 where
   pub found : Report
   pub holds : IsReport p limits found
   pub valid : ValidAreGood p found.verdicts
-  pub says : r ≡ verdict_report p found
+  pub says : r ≡ report_of p found
+
+abbrev pub AnswersVerify : Program → Limits → Response → Type 0
+AnswersVerify = AnswersBy verdict_report
+
+abbrev pub AnswersMake : Program → Limits → Response → Type 0
+AnswersMake = AnswersBy made_report

@@ -1,7 +1,7 @@
 //! Mode `run`.
 
 ghost use Rattle.std.specs.Prelude.{◌≡◌, ◌≤◌, IfOk, slice_get, string_bytes};
-ghost use Rattle.pp_limits.specs.declared.TheConstants.{FUEL};
+ghost use Rattle.pp_words.specs.declared.TheConstants.{NESTED};
 ghost use Rattle.pp_eval.specs.declared.outcome.Outcome.{Outcome};
 ghost use Rattle.pp_modes.specs.Responses.{response_of};
 ghost use Rattle.pp_modes.specs.Runs as spec;
@@ -37,6 +37,7 @@ fn own_failure(
         ≡ spec.fails_line name.now (slice_get program.now.checks check.0)) }
 {
     match at(program.checks(), check.0 as usize) {
+        // a check that a run fails is one of the program's
         None => Ok(String::new(alloc)),
         Some(check) => fails_line(alloc, name, check.kind, check.place),
     }
@@ -52,6 +53,7 @@ fn inner_failure(
     ensures { IfOk result (λ line. string_bytes line
         ≡ spec.inner_line name.now (slice_get program.now.functions g.0) (slice_get program.now.checks check.0)) }
 {
+    // a function that fails one is the program's, and so is the check
     let Some(g) = at(program.functions.as_slice(), g.0 as usize) else {
         return Ok(String::new(alloc));
     };
@@ -107,7 +109,7 @@ pub(crate) fn answer_run(
     name: &str,
     fuel: u32,
 ) -> Result<Response, NoMemory>
-    requires { fuel ≤ FUEL.most }
+    requires { fuel ≤ NESTED.most }
     ensures { IfOk result (λ r. spec.AnswersRun program.now name.now fuel (response_of r)) }
 {
     let Some(f) = program.find(name) else {

@@ -1,17 +1,18 @@
 //! Mode `verify`.
 
-ghost use Rattle.std.specs.Prelude.{◌≡◌, ◌<◌, ◌^◌, IfOk, count_by, length, map, slice_get, string_bytes};
+ghost use Rattle.std.specs.Prelude.{◌≡◌, IfOk, length, map, slice_get, string_bytes};
 ghost use Rattle.pp_checks.specs.Plan.{IsPlanOf};
 ghost use Rattle.pp_induct.specs.Reports.{AreLimits};
 ghost use Rattle.pp_modes.specs.Responses.{response_of};
 ghost use Rattle.pp_modes.specs.Verdicts as spec;
 
+use crate::counts::{status_by, summary};
 use crate::list::own_checks;
-use crate::{NoMemory, Response, Status};
+use crate::{NoMemory, Response};
 use pp_checks::Plan;
 use pp_induct::{CheckEnd, Limits, Report, Verdict, Why};
 use pp_list::at;
-use pp_print::{Reason, depends_line, invalid_line, open_line, summary_line, valid_line};
+use pp_print::{Reason, depends_line, invalid_line, open_line, valid_line};
 use pp_prog::{Check, CheckId, Function, FunctionId, Program};
 use pp_verify::verify;
 use std::alloc::Global;
@@ -38,8 +39,8 @@ fn ended_line(
 {
     let name = f.name.as_str();
     match end {
-        CheckEnd::Proved(_) => Ok(String::new(alloc)),
-        CheckEnd::Exhausted(_) => Ok(String::new(alloc)),
+        // only checks that are invalid or open are named
+        CheckEnd::Proved(_) | CheckEnd::Exhausted(_) => Ok(String::new(alloc)),
         CheckEnd::Invalid(args, _) => invalid_line(
             alloc,
             program.types().ctors.as_slice(),
@@ -72,6 +73,7 @@ fn check_line(
         ≡ spec.check_text program.now f.now (slice_get program.now.checks check.0) (slice_get ends.now check.0)) }
 {
     let c = check.0 as usize;
+    // a verdict names a check of the program, and each check has an end
     let Some(check) = at(program.checks(), c) else {
         return Ok(String::new(alloc));
     };
@@ -93,6 +95,7 @@ fn depending_line(
         ≡ spec.depending_text f.now checks (slice_get program.now.functions on.0)) }
 {
     match at(program.functions.as_slice(), on.0 as usize) {
+        // a verdict names a function of the program
         None => Ok(String::new(alloc)),
         Some(g) => depends_line(alloc, f.name.as_str(), g.name.as_str(), checks),
     }
@@ -138,99 +141,14 @@ fn verdict_lines(
     Ok(lines)
 }
 
-fn is_valid(verdict: &Verdict) -> bool
-    ensures { result ≡ spec.is_valid verdict.now }
-{
-    match verdict {
-        Verdict::Valid => true,
-        _ => false,
-    }
-}
-
-fn is_invalid(verdict: &Verdict) -> bool
-    ensures { result ≡ spec.is_invalid verdict.now }
-{
-    match verdict {
-        Verdict::Invalid(_) => true,
-        _ => false,
-    }
-}
-
-fn is_open(verdict: &Verdict) -> bool
-    ensures { result ≡ spec.is_open verdict.now }
-{
-    match verdict {
-        Verdict::Open(_) => true,
-        _ => false,
-    }
-}
-
-fn is_depending(verdict: &Verdict) -> bool
-    ensures { result ≡ spec.is_depending verdict.now }
-{
-    match verdict {
-        Verdict::Depends(_) => true,
-        _ => false,
-    }
-}
-
-/// How many functions have each verdict.
-#[derive(Clone, Copy)]
-struct Counts {
-    valid: u32,
-    invalid: u32,
-    open: u32,
-    depending: u32,
-}
-
-fn counts_of(verdicts: &[Verdict]) -> Counts
-    requires { length verdicts.now < 2 ^ 32 }
-    ensures valid { result.valid ≡ count_by spec.is_valid verdicts.now }
-    ensures invalid { result.invalid ≡ count_by spec.is_invalid verdicts.now }
-    ensures opens { result.«open» ≡ count_by spec.is_open verdicts.now }
-    ensures depending { result.depending ≡ count_by spec.is_depending verdicts.now }
-{
-    Counts {
-        valid: verdicts.iter().filter(|verdict| is_valid(verdict)).count() as u32,
-        invalid: verdicts
-            .iter()
-            .filter(|verdict| is_invalid(verdict))
-            .count() as u32,
-        open: verdicts.iter().filter(|verdict| is_open(verdict)).count() as u32,
-        depending: verdicts
-            .iter()
-            .filter(|verdict| is_depending(verdict))
-            .count() as u32,
-    }
-}
-
-/// The status of a report with so many functions that are invalid, that are open, and that depend on others.
-fn status_for(invalid: u32, open: u32, depending: u32) -> Status
-    ensures { result ≡ spec.status_for invalid «open» depending }
-{
-    if invalid > 0 {
-        return Status::SomeInvalid;
-    }
-    if open > 0 || depending > 0 {
-        return Status::SomeOpen;
-    }
-    Status::AllValid
-}
-
 fn verdict_report(alloc: Global, program: &Program, report: &Report) -> Result<Response, NoMemory>
     requires { length report.now.verdicts ≡ length program.now.functions }
     ensures { IfOk result (λ r. response_of r ≡ spec.verdict_report program.now report.now) }
 {
     let verdicts = report.verdicts.as_slice();
     let mut lines = verdict_lines(alloc, program, report.checks.as_slice(), verdicts)?;
-    let Counts {
-        valid,
-        invalid,
-        open,
-        depending,
-    } = counts_of(verdicts);
-    lines.push(summary_line(alloc, valid, invalid, open, depending)?)?;
-    Ok(Response::Report(status_for(invalid, open, depending), lines))
+    lines.push(summary(alloc, verdicts)?)?;
+    Ok(Response::Report(status_by(verdicts), lines))
 }
 
 /// What is answered to mode `verify` within these limits.

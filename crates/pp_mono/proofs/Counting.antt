@@ -14,7 +14,8 @@ use Rattle.pp_instances.specs.declared.member.Instance.{Instance}
 use Rattle.pp_translation.specs.Defs.{TranslateConditions, TranslatesDef, TranslatesDefs, TranslatesPost, no_defs}
 use Rattle.pp_translation.specs.Defs.{more_defs, none_more, no_post, one_post, post_check}
 use Rattle.pp_translation.specs.Numbered.{Translates, TranslateAll, TranslateGuard, TranslateCase, TranslateCases}
-use Rattle.pp_translation.specs.Numbered.{after_call, after_pre, callee, check_at, descends, has_pre, is_division}
+use Rattle.pp_operators.specs.Classes.{is_division}
+use Rattle.pp_translation.specs.Numbered.{after_call, after_pre, callee, check_at, descends, has_pre}
 use Rattle.pp_translation.specs.Numbered.{more_if, of_int, of_bool, of_local, of_call, of_construct, of_field, of_unary}
 use Rattle.pp_translation.specs.Numbered.{of_binary, of_if, of_match, of_val, of_assert, no_exprs, one_more, no_guard}
 use Rattle.pp_translation.specs.Numbered.{one_guard, one_case, no_cases, more_cases}

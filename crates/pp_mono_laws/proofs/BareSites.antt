@@ -1,18 +1,17 @@
 -- Without the numbers of checks, an expression has its sites without their checks.
 use Rattle.std.proofs.Common.{◌≡◌, List, [], ◌∷◌, ◌++◌, map, Option, Some, None, refl, sym, ap, ◌∙◌, subst}
+use Rattle.std.proofs.Common.{Bool, true, false}
 use Rattle.std.specs.Option.{option_map}
 use Rattle.std.proofs.lemmas.List.{map-append}
 use Rattle.pp_prog.specs.ExprSorts.{sort_of}
 use Rattle.pp_prog.specs.Listing.{CaseSites, Site, Sites, assertion, at_sort, case_sites, function_sites, matching}
-use Rattle.pp_prog.specs.Listing.{measure, measure_sites, operator_site, postcondition, post_sites, pre_sites}
-use Rattle.pp_prog.specs.Listing.{precondition, site_step, sites, sites_of_all, sites_of_cases, unguarded}
+use Rattle.pp_prog.specs.Listing.{division_site, measure, measure_sites, operator_site, postcondition, post_sites}
+use Rattle.pp_prog.specs.Listing.{pre_sites, precondition, site_step, sites, sites_of_all, sites_of_cases, unguarded}
 use Rattle.pp_prog.specs.Listing.{unless_guarded, with_bound}
 use Rattle.pp_prog.specs.PatternSorts.{bound_sorts}
 use Rattle.pp_prog.specs.Sorts.{param_sorts}
-use Rattle.pp_prog.specs.declared.expr.BinaryOp.{BinaryOp}
-use Rattle.pp_prog.specs.declared.expr.BinaryOp.TheVariants.{Add, Sub, Mul, Div, Rem, Equal, Differ, Less, AtMost}
-use Rattle.pp_prog.specs.declared.expr.BinaryOp.TheVariants.{More, AtLeast, AndAlso, OrElse, And, Or, Xor, Shl, Shr}
-use Rattle.pp_prog.specs.declared.expr.BinaryOp.TheVariants.{Ushr}
+use Rattle.pp_operators.specs.Classes.{is_division}
+use Rattle.pp_tree.specs.declared.operator.BinaryOp.{BinaryOp}
 use Rattle.pp_prog.specs.declared.expr.Case.{Case}
 use Rattle.pp_prog.specs.declared.expr.Expr.{Expr}
 use Rattle.pp_prog.specs.declared.expr.Expr.TheFolds.{fold-roll-Case, fold-roll-Expr, ind-Expr, map-Case, map-Expr}
@@ -30,27 +29,13 @@ use Rattle.pp_translation.specs.Exprs.{unnumbered}
 use Rattle.pp_mono_laws.proofs.BareSorts.{bares, sort_of_bare}
 use Rattle.pp_mono_laws.proofs.Slots.{bare_of_case, blank}
 
+division_blank : (b : Bool) (n : Option CheckId) → division_site b None ∷ [] ≡ map blank (division_site b n ∷ [])
+division_blank true n = refl
+division_blank false n = refl
+
 operator_blank : (op : BinaryOp) (n : Option CheckId)
     → operator_site op None ∷ [] ≡ map blank (operator_site op n ∷ [])
-operator_blank Add n = refl
-operator_blank Sub n = refl
-operator_blank Mul n = refl
-operator_blank Div n = refl
-operator_blank Rem n = refl
-operator_blank Equal n = refl
-operator_blank Differ n = refl
-operator_blank Less n = refl
-operator_blank AtMost n = refl
-operator_blank More n = refl
-operator_blank AtLeast n = refl
-operator_blank AndAlso n = refl
-operator_blank OrElse n = refl
-operator_blank And n = refl
-operator_blank Or n = refl
-operator_blank Xor n = refl
-operator_blank Shl n = refl
-operator_blank Shr n = refl
-operator_blank Ushr n = refl
+operator_blank op n = division_blank (is_division op) n
 
 -- sites, one part after another
 both_blank : {xs ys : List Site} (a b : List Site) → xs ≡ map blank a → ys ≡ map blank b

@@ -1,21 +1,19 @@
 -- The sites of an expression that has a sort have its slots.
 use Rattle.std.proofs.Common.{◌≡◌, true, List, [], ◌∷◌, ◌++◌, map, Option, Some, None, slice_get, refl, sym, ap, ◌∙◌}
-use Rattle.std.proofs.Common.{subst}
+use Rattle.std.proofs.Common.{subst, Bool, false}
 use Rattle.std.proofs.lemmas.Bool.{and_parts}
 use Rattle.std.proofs.lemmas.List.{map-append}
 use Rattle.pp_prog.specs.Calls.{joined}
-use Rattle.pp_prog.specs.ExprSorts.{Arm, Sorting, alike, arm_sort, arm_step, arm_with, arms_like, arms_sort}
-use Rattle.pp_prog.specs.ExprSorts.{field_sort, is_sorted, is_sorted_measure, is_sorted_post, is_sorted_pre, sort_of}
-use Rattle.pp_prog.specs.ExprSorts.{sort_step, sorts_in}
+use Rattle.pp_prog.specs.ExprSorts.{Arm, Sorting, alike, arm_sort, arm_step, arm_with, arms_like, arms_sort, field_sort}
+use Rattle.pp_prog.specs.ExprSorts.{is_sorted, is_sorted_measure, is_sorted_post, is_sorted_pre, sort_of, sort_step}
+use Rattle.pp_prog.specs.ExprSorts.{sorts_in}
 use Rattle.pp_prog.specs.Listing.{CaseSites, Site, Sites, at_sort, case_sites, function_sites, matching, measure_sites}
-use Rattle.pp_prog.specs.Listing.{operator_site, post_sites, pre_sites, site_step, sites, sites_of_all, sites_of_cases}
-use Rattle.pp_prog.specs.Listing.{unguarded, with_bound}
+use Rattle.pp_prog.specs.Listing.{division_site, operator_site, post_sites, pre_sites, site_step, sites, sites_of_all}
+use Rattle.pp_prog.specs.Listing.{sites_of_cases, unguarded, with_bound}
 use Rattle.pp_prog.specs.PatternSorts.{bound_sorts}
 use Rattle.pp_prog.specs.Sorts.{param_sorts}
-use Rattle.pp_prog.specs.declared.expr.BinaryOp.{BinaryOp}
-use Rattle.pp_prog.specs.declared.expr.BinaryOp.TheVariants.{Add, Sub, Mul, Div, Rem, Equal, Differ, Less, AtMost}
-use Rattle.pp_prog.specs.declared.expr.BinaryOp.TheVariants.{More, AtLeast, AndAlso, OrElse, And, Or, Xor, Shl, Shr}
-use Rattle.pp_prog.specs.declared.expr.BinaryOp.TheVariants.{Ushr}
+use Rattle.pp_operators.specs.Classes.{is_division}
+use Rattle.pp_tree.specs.declared.operator.BinaryOp.{BinaryOp}
 use Rattle.pp_prog.specs.declared.expr.Case.{Case}
 use Rattle.pp_prog.specs.declared.expr.Expr.{Expr}
 use Rattle.pp_prog.specs.declared.expr.Expr.TheFolds.{fold-Case, fold-roll-Case, fold-roll-Expr, ind-Expr, map-Case}
@@ -32,26 +30,12 @@ use Rattle.pp_prog.proofs.PartSorts.{sort_then, tree_sort_is, tree_then, unary_p
 use Rattle.pp_mono_laws.proofs.Slots.{Slots, case_slots, case_step, function_slots, post_slots, pre_slots, slot_of}
 use Rattle.pp_mono_laws.proofs.Slots.{slot_step, slots}
 
+division_slot : (b : Bool) (n : Option CheckId) → map slot_of (division_site b n ∷ []) ≡ n ∷ []
+division_slot true n = refl
+division_slot false n = refl
+
 operator_slot : (op : BinaryOp) (n : Option CheckId) → map slot_of (operator_site op n ∷ []) ≡ n ∷ []
-operator_slot Add n = refl
-operator_slot Sub n = refl
-operator_slot Mul n = refl
-operator_slot Div n = refl
-operator_slot Rem n = refl
-operator_slot Equal n = refl
-operator_slot Differ n = refl
-operator_slot Less n = refl
-operator_slot AtMost n = refl
-operator_slot More n = refl
-operator_slot AtLeast n = refl
-operator_slot AndAlso n = refl
-operator_slot OrElse n = refl
-operator_slot And n = refl
-operator_slot Or n = refl
-operator_slot Xor n = refl
-operator_slot Shl n = refl
-operator_slot Shr n = refl
-operator_slot Ushr n = refl
+operator_slot op n = division_slot (is_division op) n
 
 -- sites, one part after another
 both_slotted : (xs ys : List Site) {a b : Slots} → map slot_of xs ≡ a → map slot_of ys ≡ b

@@ -1,6 +1,6 @@
 //! The places of the constructors of each root.
 
-ghost use Rattle.std.specs.Prelude.{◌≡◌, ◌<◌, ◌^◌, [], All, length, IfOk, OnOk};
+ghost use Rattle.std.specs.Prelude.{◌≡◌, ◌<◌, [], All, length, IfOk, OnOk};
 ghost use Rattle.pp_names.specs.Find.{owners_of};
 ghost use Rattle.pp_names.specs.Places.{AreGrouped, lists_of, pushed_at};
 
@@ -8,19 +8,21 @@ use crate::NoMemory;
 use pp_typed::TypedCtor;
 use std::alloc::Global;
 
-/// For each of so many roots the places of its constructors, in order. The only error is want of memory.
+/// For each of so many roots the places of its constructors, in order; `count` is the number of all constructors. The
+/// only error is want of memory.
 pub(crate) fn ctors_by_root(
     alloc: Global,
     roots: usize,
     ctors: &[TypedCtor],
+    count: u32,
 ) -> Result<Vec<Vec<u32>>, NoMemory>
     requires within { All (λ r. r < roots) (owners_of ctors.now) }
-    requires few { length ctors.now < 2 ^ 32 }
+    requires count { count ≡ length ctors.now }
     ensures { IfOk result (λ lists. AreGrouped (lists_of lists) roots (owners_of ctors.now)) }
 {
     let mut lists = empty_lists(alloc, roots)?;
-    for i in 0..ctors.len() {
-        push_at(&mut lists, ctors[i].root as usize, i as u32)?;
+    for i in 0..count {
+        push_at(&mut lists, ctors[i as usize].root as usize, i)?;
     }
     Ok(lists)
 }

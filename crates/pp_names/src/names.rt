@@ -66,9 +66,13 @@ impl Names {
         requires owners { HasOwners declared }
         ensures { IfOk result (λ n. n ≡ declared) }
     {
-        // Its clause says that a `u32` counts the constructors.
-        let _count = spaces.ctors.len();
-        let by_root = ctors_by_root(alloc, declared.roots.len(), declared.ctors.as_slice())?;
+        let count = spaces.ctors.len();
+        let by_root = ctors_by_root(
+            alloc,
+            declared.roots.len(),
+            declared.ctors.as_slice(),
+            count,
+        )?;
         Ok(Names {
             declared,
             spaces,

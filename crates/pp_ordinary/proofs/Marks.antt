@@ -1,12 +1,12 @@
 -- The sites of a function weigh no more than its nodes, and sites that weigh at most 1 at each offset are apart.
-use Rattle.std.proofs.Common.{◌≡◌, ◌+◌, ◌≤◌, ℕ, zero, suc, List, [], ◌∷◌, ◌++◌, Option, Some, None, slice_get}
-use Rattle.std.proofs.Common.{ap, arith, refl, sym}
+use Rattle.std.proofs.Common.{◌≡◌, ◌+◌, ◌≤◌, ℕ, zero, suc, List, [], ◌∷◌, ◌++◌, Option, Some, None, slice_get, ap}
+use Rattle.std.proofs.Common.{arith, refl, sym, Bool, true, false}
+use Rattle.pp_operators.specs.Classes.{is_division}
 use Rattle.pp_tree.specs.declared.operator.BinaryOp.{BinaryOp}
-use Rattle.pp_tree.specs.declared.operator.BinaryOp.TheVariants.{Div, Rem}
 use Rattle.pp_tree.specs.Plain.{CaseTrees, DefTree, PostTree, Tree, Trees, apply, assert_in, binary, bool, choice}
 use Rattle.pp_tree.specs.Plain.{field, guarded_case, int, matching, more_trees, name, no_cases, no_trees, plain_case}
 use Rattle.pp_tree.specs.Plain.{unary, val_in}
-use Rattle.pp_typed.specs.Apart.{Mark, a_call, a_match, an_assertion, operator_mark}
+use Rattle.pp_typed.specs.Apart.{Mark, a_call, a_match, an_assertion, division_mark, operator_mark}
 use Rattle.pp_types_laws.proofs.Ranges.{same_some}
 use Rattle.pp_types_laws.specs.Sites.{AreOnce, all_sites, case_sites, def_sites, list_sites, post_sites, sites}
 use Rattle.pp_ordinary.proofs.OneAt.{one_at, one_here}
@@ -24,10 +24,12 @@ module _ (mass : ℕ → ℕ) where
 
   -- in a source
   module _ (source : ℕ) where
+    le_division : (b : Bool) (at : ℕ) → marks_weight (division_mark b (source, at)) ≤ mass at
+    le_division true at = omega arith
+    le_division false at = omega arith
+
     le_operator : (op : BinaryOp) (at : ℕ) → marks_weight (operator_mark op (source, at)) ≤ mass at
-    le_operator Div at = omega arith
-    le_operator Rem at = omega arith
-    le_operator _ at = omega arith
+    le_operator op at = le_division (is_division op) at
 
     mutual
       le_sites : (e : Tree) → marks_weight (sites source e) ≤ weigh mass e

@@ -5,8 +5,8 @@ use Rattle.std.proofs.Common.{Some, None, Ok, slice_get, refl, sym, ap, ◌∙�
 use Rattle.pp_graph.specs.Rows.{marked}
 use Rattle.pp_prog.specs.declared.check.CheckKind.{CheckKind}
 use Rattle.pp_prog.specs.declared.check.CheckKind.TheVariants as kind
-use Rattle.pp_prog.specs.declared.expr.BinaryOp.{BinaryOp}
-use Rattle.pp_prog.specs.declared.expr.BinaryOp.TheVariants.{Div, Rem, AndAlso, OrElse}
+use Rattle.pp_tree.specs.declared.operator.BinaryOp.{BinaryOp}
+use Rattle.pp_tree.specs.declared.operator.BinaryOp.TheVariants.{Div, Rem, AndAlso, OrElse}
 use Rattle.pp_prog.specs.declared.expr.Case.{Case}
 use Rattle.pp_prog.specs.declared.expr.Expr.{Expr}
 use Rattle.pp_prog.specs.declared.expr.Expr.TheFolds.{map-Expr}
@@ -31,10 +31,10 @@ use Rattle.pp_eval.specs.Part.{found}
 use Rattle.pp_sound.proofs.Cases.{each_arm}
 use Rattle.pp_prog.proofs.ValueSorts.{Have, have_more, have_one}
 use Rattle.pp_sound.proofs.Sites.{AreMet, met_head, met_left, met_right, met_tail}
-use Rattle.pp_prog.proofs.PartSorts.{alike_are, bool_then, call_sort_is, sort_then, tree_sort_is, tree_then}
+use Rattle.pp_prog.proofs.PartSorts.{alike_are, binary_parts, bool_then, call_sort_is, sort_then, tree_sort_is}
+use Rattle.pp_prog.proofs.PartSorts.{tree_then, unary_part}
 use Rattle.pp_checks.specs.Marks.{CaseDescents, Seen, as_check, first_param_of, goes_down, in_all, in_cases, inside_at}
 use Rattle.pp_checks.specs.Marks.{is_inside, is_live, seen_step, when}
-use Rattle.pp_sound.proofs.Operands.{operand, operands}
 use Rattle.pp_run_laws.proofs.Stops.{MayDivide, field_stops, found_stops, operated_stops, truth_stops, unary_stops}
 use Rattle.pp_plain_laws.proofs.Counts.{count_append, ids, uncounted, places_append}
 use Rattle.pp_plain_laws.proofs.Scope.{IsClean, IsOther, clean_either, clean_stop, clean_then, clean_value, found_some}
@@ -116,9 +116,9 @@ module _ (x : Setting) where
   level_few (layer.Bool b) scope s h marks = omega arith
   level_few (layer.Var k) scope s h marks = omega arith
   level_few (layer.Unary op a) scope s h marks =
-      let t = operand op ((Sorted x) a.0 scope) s h in a.1.few scope t.0 t.1 marks
+      let t = unary_part op ((Sorted x) a.0 scope) s h in a.1.few scope t.0 t.1 marks
   level_few (layer.Binary op a b check) scope s h marks =
-      let t = operands op ((Sorted x) a.0 scope) ((Sorted x) b.0 scope) s h in
+      let t = binary_parts op ((Sorted x) a.0 scope) ((Sorted x) b.0 scope) s h in
       omega (
         arith,
         a.1.few scope t.0.0 t.0.1 marks,
@@ -289,11 +289,11 @@ module _ (x : Setting) where
   level_clean (layer.Var k) scope s h met env have marks inside tight =
       record { told = found_stops (IsOther c) (other_stuck c) (slice_get env k) }
   level_clean (layer.Unary op a) scope s h met env have marks inside tight =
-      let t = operand op ((Sorted x) a.0 scope) s h in
+      let t = unary_part op ((Sorted x) a.0 scope) s h in
       clean_then _ (a.1.clean scope t.0 t.1 met env have marks inside tight)
       (λ v at. record { told = unary_stops (IsOther c) (other_stuck c) op v })
   level_clean (layer.Binary op a b check) scope s h met env have marks inside tight =
-      let t = operands op ((Sorted x) a.0 scope) ((Sorted x) b.0 scope) s h in
+      let t = binary_parts op ((Sorted x) a.0 scope) ((Sorted x) b.0 scope) s h in
       let fa = a.1.few scope t.0.0 t.0.1 marks in
       let fb = b.1.few scope t.1.0 t.1.1 marks in
       let d = count_append c.0 (((Looked x) a.0).1 marks) (((Looked x) b.0).1 marks) in

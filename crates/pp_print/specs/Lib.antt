@@ -4,4 +4,5 @@ pub mod Refusals
 pub mod Puts
 pub mod Runs
 pub mod Listed
+pub mod Made
 pub mod Faults

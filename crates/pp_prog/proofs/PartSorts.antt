@@ -2,21 +2,21 @@
 use Rattle.std.proofs.Common.{◌≡◌, Bool, true, false, List, [], ◌∷◌, map, Option, Some, None, is_some, refl, sym, ap}
 use Rattle.std.proofs.Common.{◌∙◌}
 use Rattle.std.proofs.lemmas.Bool.{and_parts}
-use Rattle.pp_prog.specs.declared.expr.BinaryOp.{BinaryOp}
-use Rattle.pp_prog.specs.declared.expr.BinaryOp.TheVariants.{Add, Sub, Mul, Div, Rem, Equal, Differ, Less, AtMost}
-use Rattle.pp_prog.specs.declared.expr.BinaryOp.TheVariants.{More, AtLeast, AndAlso, OrElse, And, Or, Xor, Shl, Shr}
-use Rattle.pp_prog.specs.declared.expr.BinaryOp.TheVariants.{Ushr}
+use Rattle.pp_tree.specs.declared.operator.BinaryOp.{BinaryOp}
+use Rattle.pp_operators.specs.Classes.{class_of}
+use Rattle.pp_operators.specs.declared.class.OperatorClass.{OperatorClass}
+use Rattle.pp_operators.specs.declared.class.OperatorClass.TheVariants as class
 use Rattle.pp_prog.specs.declared.expr.Function.{Function}
-use Rattle.pp_prog.specs.declared.expr.UnaryOp.{UnaryOp}
-use Rattle.pp_prog.specs.declared.expr.UnaryOp.TheVariants.{Neg, Not, Flip}
+use Rattle.pp_tree.specs.declared.operator.UnaryOp.{UnaryOp}
+use Rattle.pp_tree.specs.declared.operator.UnaryOp.TheVariants.{Neg, Not, Flip}
 use Rattle.pp_prog.specs.declared.id.DataId.{DataId}
 use Rattle.pp_prog.specs.declared.sort.Sort.{Sort}
 use Rattle.pp_prog.specs.declared.sort.Sort.TheVariants as sort
 use Rattle.pp_prog.specs.declared.types.Ctor.{Ctor}
 use Rattle.pp_prog.specs.declared.types.TypeTable.{TypeTable}
-use Rattle.pp_prog.specs.ExprSorts.{a_bool, a_tree, alike, an_int, binary_sort, bits_sort, call_sort, equality_sort}
-use Rattle.pp_prog.specs.ExprSorts.{has_the_sort, match_sorts, number_sort, order_sort, sort_if, then_sort, tree_sort}
-use Rattle.pp_prog.specs.ExprSorts.{truth_sort, unary_sort}
+use Rattle.pp_prog.specs.ExprSorts.{a_bool, a_tree, alike, an_int, binary_sort, bits_sort, call_sort, class_sort}
+use Rattle.pp_prog.specs.ExprSorts.{equality_sort, has_the_sort, match_sorts, number_sort, order_sort, sort_if}
+use Rattle.pp_prog.specs.ExprSorts.{then_sort, tree_sort, truth_sort, unary_sort}
 use Rattle.pp_prog.specs.Sorts.{param_sorts}
 use Rattle.pp_prog.proofs.ValueSorts.{one_sort}
 
@@ -122,23 +122,15 @@ bits_parts (Some sort.Int) b s h = ((sort.Int, refl), int_part b _ s h)
 bits_parts (Some sort.Bool) b s h = ((sort.Bool, refl), bool_part b _ s h)
 bits_parts (Some (sort.Tree d)) b s h = cc
 
+class_parts : (c : OperatorClass) (a b : Option Sort) (s : Sort) → class_sort c a b ≡ Some s → HaveSorts a b
+class_parts class.Sum a b s h = number_parts a b s h
+class_parts class.Product a b s h = number_parts a b s h
+class_parts class.Quotient a b s h = number_parts a b s h
+class_parts class.Equality a b s h = equality_parts a b s h
+class_parts class.Order a b s h = order_parts a b s h
+class_parts class.Logic a b s h = truth_parts a b s h
+class_parts class.Bitwise a b s h = bits_parts a b s h
+class_parts class.Shift a b s h = number_parts a b s h
+
 pub binary_parts : (op : BinaryOp) (a b : Option Sort) (s : Sort) → binary_sort op a b ≡ Some s → HaveSorts a b
-binary_parts Add a b s h = number_parts a b s h
-binary_parts Sub a b s h = number_parts a b s h
-binary_parts Mul a b s h = number_parts a b s h
-binary_parts Div a b s h = number_parts a b s h
-binary_parts Rem a b s h = number_parts a b s h
-binary_parts Equal a b s h = equality_parts a b s h
-binary_parts Differ a b s h = equality_parts a b s h
-binary_parts Less a b s h = order_parts a b s h
-binary_parts AtMost a b s h = order_parts a b s h
-binary_parts More a b s h = order_parts a b s h
-binary_parts AtLeast a b s h = order_parts a b s h
-binary_parts AndAlso a b s h = truth_parts a b s h
-binary_parts OrElse a b s h = truth_parts a b s h
-binary_parts And a b s h = bits_parts a b s h
-binary_parts Or a b s h = bits_parts a b s h
-binary_parts Xor a b s h = bits_parts a b s h
-binary_parts Shl a b s h = number_parts a b s h
-binary_parts Shr a b s h = number_parts a b s h
-binary_parts Ushr a b s h = number_parts a b s h
+binary_parts op a b s h = class_parts (class_of op) a b s h

@@ -1,9 +1,10 @@
 -- Where an expression has a sort, it is the one that is read off its form.
-use Rattle.std.proofs.Common.{◌≡◌, ℕ, nat_eq, Bool, true, false, ◌&&◌, if◌then◌else◌, List, [], ◌∷◌, ◌++◌, map, Option}
-use Rattle.std.proofs.Common.{Some, None, slice_get, refl, sym, ap, ◌∙◌, subst}
-use Rattle.pp_prog.specs.declared.expr.BinaryOp.{BinaryOp}
-use Rattle.pp_prog.specs.declared.expr.BinaryOp.TheVariants.{Add, Sub, Mul, Div, Rem, Equal, Differ, Less, AtMost, More}
-use Rattle.pp_prog.specs.declared.expr.BinaryOp.TheVariants.{AtLeast, AndAlso, OrElse, And, Or, Xor, Shl, Shr, Ushr}
+use Rattle.std.proofs.Common.{◌≡◌, ℕ, nat_eq, Bool, true, false, if◌then◌else◌, List, [], ◌∷◌, ◌++◌, map, Option, Some}
+use Rattle.std.proofs.Common.{None, slice_get, refl, sym, ap, ◌∙◌, subst, ◌&&◌}
+use Rattle.pp_tree.specs.declared.operator.BinaryOp.{BinaryOp}
+use Rattle.pp_operators.specs.Classes.{class_of}
+use Rattle.pp_operators.specs.declared.class.OperatorClass.{OperatorClass}
+use Rattle.pp_operators.specs.declared.class.OperatorClass.TheVariants as class
 use Rattle.pp_prog.specs.declared.expr.Case.{Case}
 use Rattle.pp_prog.specs.declared.expr.Expr.{Expr}
 use Rattle.pp_prog.specs.declared.expr.Expr.TheFolds.{fold-Case, fold-roll-Case, fold-roll-Expr, ind-Expr, map-Case}
@@ -15,8 +16,8 @@ use Rattle.pp_prog.specs.declared.expr.Pattern.{Pattern}
 use Rattle.pp_prog.specs.declared.expr.Pattern.TheFolds.{fold-roll-Pattern, ind-Pattern, map-Pattern}
 use Rattle.pp_prog.specs.declared.expr.Pattern.TheOpen as pattern
 use Rattle.pp_prog.specs.declared.expr.Pattern.TheViews.{roll-Pattern}
-use Rattle.pp_prog.specs.declared.expr.UnaryOp.{UnaryOp}
-use Rattle.pp_prog.specs.declared.expr.UnaryOp.TheVariants.{Neg, Not, Flip}
+use Rattle.pp_tree.specs.declared.operator.UnaryOp.{UnaryOp}
+use Rattle.pp_tree.specs.declared.operator.UnaryOp.TheVariants.{Neg, Not, Flip}
 use Rattle.pp_prog.specs.declared.id.DataId.{DataId}
 use Rattle.pp_prog.specs.declared.sort.Sort.{Sort}
 use Rattle.pp_prog.specs.declared.sort.Sort.TheVariants as sort
@@ -24,15 +25,15 @@ use Rattle.pp_prog.specs.declared.types.Ctor.{Ctor}
 use Rattle.pp_prog.specs.declared.types.Datatype.{Datatype}
 use Rattle.pp_prog.specs.declared.types.TypeTable.{TypeTable}
 use Rattle.pp_prog.specs.ExprSorts.{Arm, Sorting, a_bool, a_tree, alike, an_int, arm_sort, arm_step, arm_with}
-use Rattle.pp_prog.specs.ExprSorts.{arms_like, arms_sort, binary_sort, bits_sort, call_sort, equality_sort}
+use Rattle.pp_prog.specs.ExprSorts.{arms_like, arms_sort, binary_sort, bits_sort, call_sort, class_sort, equality_sort}
 use Rattle.pp_prog.specs.ExprSorts.{field_of_ctor, field_of_data, field_sort, guarded_sort, match_sorts, number_sort}
 use Rattle.pp_prog.specs.ExprSorts.{order_sort, sort_if, sort_of, sort_step, then_sort, tree_sort, truth_sort}
 use Rattle.pp_prog.specs.ExprSorts.{unary_sort}
 use Rattle.pp_prog.specs.PatternSorts.{Binding, bind_fields, bind_step, bind_tree, binds_none, bound_sorts, then_bind}
 use Rattle.pp_prog.specs.Sorts.{is_int, param_sorts, same_sort}
 use Rattle.pp_prog.specs.Results.{Binds, Body, Result, bind_each, binds, binds_step, body, body_step, call_result}
-use Rattle.pp_prog.specs.Results.{field_result, fields_of_ctor, first_ctor, first_result, operator_result, or_int}
-use Rattle.pp_prog.specs.Results.{result_of, result_step, sort_at, tree_result, unary_result}
+use Rattle.pp_prog.specs.Results.{class_result, field_result, fields_of_ctor, first_ctor, first_result, operator_result}
+use Rattle.pp_prog.specs.Results.{or_int, result_of, result_step, sort_at, tree_result, unary_result}
 
 same_some : (s t : Sort) → Some s ≡ Some t → s ≡ t
 same_some s t e = cc
@@ -88,28 +89,21 @@ bits_are (Some sort.Int) b s e = after_int b (Some sort.Int) s e
 bits_are (Some sort.Bool) b s e = after_bool b (Some sort.Bool) s e
 bits_are (Some (sort.Tree d)) b s e = let no : None ≡ Some s = e in cc
 
+class_is : (c : OperatorClass) (a b : Option Sort) (r s : Sort) → ((t : Sort) → a ≡ Some t → r ≡ t)
+    → class_sort c a b ≡ Some s → class_result c r ≡ s
+class_is class.Sum a b r s left e = number_is a b s e
+class_is class.Product a b r s left e = number_is a b s e
+class_is class.Quotient a b r s left e = number_is a b s e
+class_is class.Equality a b r s left e = equality_is a b s e
+class_is class.Order a b r s left e = order_is a b s e
+class_is class.Logic a b r s left e = truth_is a b s e
+class_is class.Bitwise a b r s left e = left s (bits_are a b s e)
+class_is class.Shift a b r s left e = number_is a b s e
+
 -- where the left operand's sort is read off rightly, so is the result's
 pub binary_is : (op : BinaryOp) (a b : Option Sort) (r s : Sort) → ((t : Sort) → a ≡ Some t → r ≡ t)
     → binary_sort op a b ≡ Some s → operator_result op r ≡ s
-binary_is Add a b r s left e = number_is a b s e
-binary_is Sub a b r s left e = number_is a b s e
-binary_is Mul a b r s left e = number_is a b s e
-binary_is Div a b r s left e = number_is a b s e
-binary_is Rem a b r s left e = number_is a b s e
-binary_is Equal a b r s left e = equality_is a b s e
-binary_is Differ a b r s left e = equality_is a b s e
-binary_is Less a b r s left e = order_is a b s e
-binary_is AtMost a b r s left e = order_is a b s e
-binary_is More a b r s left e = order_is a b s e
-binary_is AtLeast a b r s left e = order_is a b s e
-binary_is AndAlso a b r s left e = truth_is a b s e
-binary_is OrElse a b r s left e = truth_is a b s e
-binary_is And a b r s left e = left s (bits_are a b s e)
-binary_is Or a b r s left e = left s (bits_are a b s e)
-binary_is Xor a b r s left e = left s (bits_are a b s e)
-binary_is Shl a b r s left e = number_is a b s e
-binary_is Shr a b r s left e = number_is a b s e
-binary_is Ushr a b r s left e = number_is a b s e
+binary_is op a b r s left e = class_is (class_of op) a b r s left e
 
 data_is : (ctors : List Ctor) (t : Datatype) (k : ℕ) (s : Sort) → field_of_data ctors (Some t) k ≡ Some s
     → sort_at (fields_of_ctor (slice_get ctors t.first.0)) k ≡ s

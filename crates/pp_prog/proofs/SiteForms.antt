@@ -6,14 +6,14 @@ use Rattle.pp_prog.specs.ExprSorts.{sort_of}
 use Rattle.pp_prog.specs.Listing.{CaseSites, Site, Sites, assertion, at_sort, case_sites, matching, measure}
 use Rattle.pp_prog.specs.Listing.{operator_site, precondition, site_step, sites, sites_of_all, sites_of_cases}
 use Rattle.pp_prog.specs.Listing.{unguarded}
-use Rattle.pp_prog.specs.declared.expr.BinaryOp.{BinaryOp}
+use Rattle.pp_tree.specs.declared.operator.BinaryOp.{BinaryOp}
 use Rattle.pp_prog.specs.declared.expr.Case.{Case}
 use Rattle.pp_prog.specs.declared.expr.Expr.{Expr}
 use Rattle.pp_prog.specs.declared.expr.Expr.TheFolds.{para-Case, para-roll-Expr}
 use Rattle.pp_prog.specs.declared.expr.Expr.TheOpen as layer
 use Rattle.pp_prog.specs.declared.expr.Expr.TheVariants as prog
 use Rattle.pp_prog.specs.declared.expr.Function.{Function}
-use Rattle.pp_prog.specs.declared.expr.UnaryOp.{UnaryOp}
+use Rattle.pp_tree.specs.declared.operator.UnaryOp.{UnaryOp}
 use Rattle.pp_prog.specs.declared.id.CheckId.{CheckId}
 use Rattle.pp_prog.specs.declared.id.CtorId.{CtorId}
 use Rattle.pp_prog.specs.declared.id.FunctionId.{FunctionId}

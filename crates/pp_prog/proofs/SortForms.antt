@@ -4,14 +4,14 @@ use Rattle.std.specs.Prelude.{Option, Some, slice_get}
 use Rattle.pp_prog.specs.ExprSorts.{Arm, Sorting, a_bool, a_tree, alike, arm_step, arms_sort, binary_sort, call_sort}
 use Rattle.pp_prog.specs.ExprSorts.{field_sort, sort_if, sort_of, sort_step, sorts_in, then_sort, tree_sort, unary_sort}
 use Rattle.pp_prog.specs.Sorts.{is_int}
-use Rattle.pp_prog.specs.declared.expr.BinaryOp.{BinaryOp}
+use Rattle.pp_tree.specs.declared.operator.BinaryOp.{BinaryOp}
 use Rattle.pp_prog.specs.declared.expr.Case.{Case}
 use Rattle.pp_prog.specs.declared.expr.Expr.{Expr}
 use Rattle.pp_prog.specs.declared.expr.Expr.TheFolds.{fold-Case, fold-roll-Expr}
 use Rattle.pp_prog.specs.declared.expr.Expr.TheOpen as layer
 use Rattle.pp_prog.specs.declared.expr.Expr.TheVariants as prog
 use Rattle.pp_prog.specs.declared.expr.Function.{Function}
-use Rattle.pp_prog.specs.declared.expr.UnaryOp.{UnaryOp}
+use Rattle.pp_tree.specs.declared.operator.UnaryOp.{UnaryOp}
 use Rattle.pp_prog.specs.declared.id.CheckId.{CheckId}
 use Rattle.pp_prog.specs.declared.id.CtorId.{CtorId}
 use Rattle.pp_prog.specs.declared.id.FunctionId.{FunctionId}

@@ -52,6 +52,10 @@ abbrev pub post_calls : Option (CheckId × Expr) → List ℕ
 post_calls None = []
 post_calls (Some post) = calls post.1
 
+-- the functions that the contract of a function calls before its body: in its precondition and in its measure list
+abbrev pub contract_calls : Function → List ℕ
+contract_calls f = pre_calls f.pre ++ joined (map calls f.measure)
+
 -- the functions that a function calls: in its precondition, its measure, its body and its postcondition
 abbrev pub function_calls : Function → List ℕ
 function_calls f = pre_calls f.pre ++ joined (map calls f.measure) ++ calls f.body ++ post_calls f.post

@@ -2,15 +2,16 @@
 -- own.
 use Rattle.std.specs.Prelude.{ℕ, nat_eq, Bool, true, false, if◌then◌else◌, ◌&&◌, List, [], ◌∷◌, ◌++◌, map, Option, Some}
 use Rattle.std.specs.Prelude.{None, is_some, slice_get}
-use Rattle.pp_prog.specs.declared.expr.BinaryOp.{BinaryOp}
-use Rattle.pp_prog.specs.declared.expr.BinaryOp.TheVariants.{Add, Sub, Mul, Div, Rem, Equal, Differ, Less, AtMost, More}
-use Rattle.pp_prog.specs.declared.expr.BinaryOp.TheVariants.{AtLeast, AndAlso, OrElse, And, Or, Xor, Shl, Shr, Ushr}
+use Rattle.pp_tree.specs.declared.operator.BinaryOp.{BinaryOp}
+use Rattle.pp_operators.specs.Classes.{class_of}
+use Rattle.pp_operators.specs.declared.class.OperatorClass.{OperatorClass}
+use Rattle.pp_operators.specs.declared.class.OperatorClass.TheVariants as class
 use Rattle.pp_prog.specs.declared.expr.Expr.{Expr}
 use Rattle.pp_prog.specs.declared.expr.Expr.TheFolds.{fold-Expr}
 use Rattle.pp_prog.specs.declared.expr.Expr.TheOpen as layer
 use Rattle.pp_prog.specs.declared.expr.Function.{Function}
-use Rattle.pp_prog.specs.declared.expr.UnaryOp.{UnaryOp}
-use Rattle.pp_prog.specs.declared.expr.UnaryOp.TheVariants.{Neg, Not, Flip}
+use Rattle.pp_tree.specs.declared.operator.UnaryOp.{UnaryOp}
+use Rattle.pp_tree.specs.declared.operator.UnaryOp.TheVariants.{Neg, Not, Flip}
 use Rattle.pp_prog.specs.declared.id.CheckId.{CheckId}
 use Rattle.pp_prog.specs.declared.id.DataId.{DataId}
 use Rattle.pp_prog.specs.declared.sort.Sort.{Sort}
@@ -103,26 +104,19 @@ bits_sort (Some sort.Bool) b = a_bool b (Some sort.Bool)
 bits_sort (Some (sort.Tree d)) b = None
 bits_sort None b = None
 
+-- the sort of the result of an operator of this class, at the sorts of its operands
+abbrev pub class_sort : OperatorClass → Option Sort → Option Sort → Option Sort
+class_sort class.Sum a b = number_sort a b
+class_sort class.Product a b = number_sort a b
+class_sort class.Quotient a b = number_sort a b
+class_sort class.Equality a b = equality_sort a b
+class_sort class.Order a b = order_sort a b
+class_sort class.Logic a b = truth_sort a b
+class_sort class.Bitwise a b = bits_sort a b
+class_sort class.Shift a b = number_sort a b
+
 abbrev pub binary_sort : BinaryOp → Option Sort → Option Sort → Option Sort
-binary_sort Add a b = number_sort a b
-binary_sort Sub a b = number_sort a b
-binary_sort Mul a b = number_sort a b
-binary_sort Div a b = number_sort a b
-binary_sort Rem a b = number_sort a b
-binary_sort Equal a b = equality_sort a b
-binary_sort Differ a b = equality_sort a b
-binary_sort Less a b = order_sort a b
-binary_sort AtMost a b = order_sort a b
-binary_sort More a b = order_sort a b
-binary_sort AtLeast a b = order_sort a b
-binary_sort AndAlso a b = truth_sort a b
-binary_sort OrElse a b = truth_sort a b
-binary_sort And a b = bits_sort a b
-binary_sort Or a b = bits_sort a b
-binary_sort Xor a b = bits_sort a b
-binary_sort Shl a b = number_sort a b
-binary_sort Shr a b = number_sort a b
-binary_sort Ushr a b = number_sort a b
+binary_sort op a b = class_sort (class_of op) a b
 
 -- a tree of this constructor, with fields of these sorts
 abbrev pub tree_sort : Option Ctor → List (Option Sort) → Option Sort

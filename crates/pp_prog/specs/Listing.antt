@@ -1,10 +1,10 @@
 -- The sites of a function, in order: those in its precondition, its measure, its body and its postcondition, and last
 -- that of the postcondition itself. Inside an expression they stand in the order of evaluation. Source: own.
-use Rattle.std.specs.Prelude.{List, [], ◌∷◌, ◌++◌, map, Option, Some, None}
+use Rattle.std.specs.Prelude.{Bool, true, false, List, [], ◌∷◌, ◌++◌, map, Option, Some, None}
 use Rattle.pp_prog.specs.declared.check.CheckKind.{CheckKind}
 use Rattle.pp_prog.specs.declared.check.CheckKind.TheVariants as kind
-use Rattle.pp_prog.specs.declared.expr.BinaryOp.{BinaryOp}
-use Rattle.pp_prog.specs.declared.expr.BinaryOp.TheVariants.{Div, Rem}
+use Rattle.pp_operators.specs.Classes.{is_division}
+use Rattle.pp_tree.specs.declared.operator.BinaryOp.{BinaryOp}
 use Rattle.pp_prog.specs.declared.expr.Case.{Case}
 use Rattle.pp_prog.specs.declared.expr.Expr.{Expr}
 use Rattle.pp_prog.specs.declared.expr.Expr.TheFolds.{para-Expr}
@@ -46,10 +46,12 @@ carried (measure g check) = as_kind kind.Measure check
 carried (matching s patterns check) = as_kind kind.Match check
 carried (postcondition check) = as_kind kind.Postcondition (Some check)
 
+abbrev pub division_site : Bool → Option CheckId → Site
+division_site true check = division check
+division_site false check = plain check
+
 abbrev pub operator_site : BinaryOp → Option CheckId → Site
-operator_site Div check = division check
-operator_site Rem check = division check
-operator_site op check = plain check
+operator_site op check = division_site (is_division op) check
 
 -- what an expression is: its sites, with the sorts of the variables in scope
 abbrev pub Sites : Type 0

@@ -1,9 +1,11 @@
 -- The sort of an expression, read off its form without a test of its parts. Where the expression has a sort, it is
 -- this one: `proofs/Results` has that lemma. Source: own.
+use Rattle.pp_prog.specs.declared.id.DataId.{DataId}
 use Rattle.std.specs.Prelude.{ℕ, List, [], ◌∷◌, ◌++◌, Option, Some, None, slice_get}
-use Rattle.pp_prog.specs.declared.expr.BinaryOp.{BinaryOp}
-use Rattle.pp_prog.specs.declared.expr.BinaryOp.TheVariants.{Equal, Differ, Less, AtMost, More, AtLeast, AndAlso}
-use Rattle.pp_prog.specs.declared.expr.BinaryOp.TheVariants.{OrElse, And, Or, Xor}
+use Rattle.pp_tree.specs.declared.operator.BinaryOp.{BinaryOp}
+use Rattle.pp_operators.specs.Classes.{class_of}
+use Rattle.pp_operators.specs.declared.class.OperatorClass.{OperatorClass}
+use Rattle.pp_operators.specs.declared.class.OperatorClass.TheVariants as class
 use Rattle.pp_prog.specs.declared.expr.Expr.{Expr}
 use Rattle.pp_prog.specs.declared.expr.Case.{Case}
 use Rattle.pp_prog.specs.declared.expr.Expr.TheFolds.{fold-Case, fold-Expr}
@@ -12,9 +14,8 @@ use Rattle.pp_prog.specs.declared.expr.Function.{Function}
 use Rattle.pp_prog.specs.declared.expr.Pattern.{Pattern}
 use Rattle.pp_prog.specs.declared.expr.Pattern.TheFolds.{fold-Pattern}
 use Rattle.pp_prog.specs.declared.expr.Pattern.TheOpen as pattern
-use Rattle.pp_prog.specs.declared.expr.UnaryOp.{UnaryOp}
-use Rattle.pp_prog.specs.declared.expr.UnaryOp.TheVariants.{Not}
-use Rattle.pp_prog.specs.declared.id.DataId.{DataId}
+use Rattle.pp_tree.specs.declared.operator.UnaryOp.{UnaryOp}
+use Rattle.pp_tree.specs.declared.operator.UnaryOp.TheVariants.{Not}
 use Rattle.pp_prog.specs.declared.sort.Sort.{Sort}
 use Rattle.pp_prog.specs.declared.sort.Sort.TheVariants as sort
 use Rattle.pp_prog.specs.declared.types.Ctor.{Ctor}
@@ -30,20 +31,16 @@ or_int (Some s) = s
 abbrev pub sort_at : List Sort → ℕ → Sort
 sort_at scope i = or_int (slice_get scope i)
 
--- the sort of an operator's result, at the sort of its left operand
+-- the sort of the result of an operator of this class, at the sort of its left operand
+abbrev pub class_result : OperatorClass → Sort → Sort
+class_result class.Equality s = sort.Bool
+class_result class.Order s = sort.Bool
+class_result class.Logic s = sort.Bool
+class_result class.Bitwise s = s
+class_result c s = sort.Int
+
 abbrev pub operator_result : BinaryOp → Sort → Sort
-operator_result Equal s = sort.Bool
-operator_result Differ s = sort.Bool
-operator_result Less s = sort.Bool
-operator_result AtMost s = sort.Bool
-operator_result More s = sort.Bool
-operator_result AtLeast s = sort.Bool
-operator_result AndAlso s = sort.Bool
-operator_result OrElse s = sort.Bool
-operator_result And s = s
-operator_result Or s = s
-operator_result Xor s = s
-operator_result op s = sort.Int
+operator_result op s = class_result (class_of op) s
 
 abbrev pub unary_result : UnaryOp → Sort
 unary_result Not = sort.Bool

@@ -1,7 +1,8 @@
 //! The functions that a function calls.
 
 ghost use Rattle.std.specs.Prelude.{◌≡◌, ◌++◌, IfOk, map};
-ghost use Rattle.pp_prog.specs.Calls.{call_table, calls, calls_in_case, function_calls, joined, pre_calls};
+ghost use Rattle.pp_prog.specs.Calls.{call_table, calls, calls_in_case, contract_calls, function_calls, joined};
+ghost use Rattle.pp_prog.specs.Calls.{pre_calls};
 
 use crate::{Case, Expr, Function, NoMemory};
 use pp_list::Items;
@@ -99,7 +100,7 @@ fn add_guard(e: &Option<Expr>, found: &mut Items<u32>) -> Result<(), NoMemory>
 /// The functions that the function's contract calls before its body: in its precondition and in its measure list. The
 /// only error is want of memory.
 pub fn contract_calls(alloc: Global, f: &Function) -> Result<Items<u32>, NoMemory>
-    ensures { IfOk result (λ found. found ≡ pre_calls f.now.pre ++ joined (map calls f.now.measure)) }
+    ensures { IfOk result (λ found. found ≡ contract_calls f.now) }
 {
     let mut found = Items::new(alloc);
     add_guard(&f.pre, &mut found)?;

@@ -2,39 +2,8 @@
 
 use crate::{CheckId, CtorId, FunctionId, Place, Sort};
 use pp_list::{Boxed, Items};
+use pp_operators::{BinaryOp, UnaryOp};
 use pp_text::Name;
-
-/// An operator with one operand: `-`, `!` and `~`.
-#[derive(Clone, Copy, PartialEq, Eq, Debug)]
-pub enum UnaryOp {
-    Neg,
-    Not,
-    Flip,
-}
-
-/// An operator with two operands: `+ - * / % == != < <= > >= && || & | ^ << >> >>>`.
-#[derive(Clone, Copy, PartialEq, Eq, Debug)]
-pub enum BinaryOp {
-    Add,
-    Sub,
-    Mul,
-    Div,
-    Rem,
-    Equal,
-    Differ,
-    Less,
-    AtMost,
-    More,
-    AtLeast,
-    AndAlso,
-    OrElse,
-    And,
-    Or,
-    Xor,
-    Shl,
-    Shr,
-    Ushr,
-}
 
 /// A pattern. `Bind` adds one variable, the value that its pattern is matched with: the outer before the inner, from
 /// left to right.

@@ -28,12 +28,10 @@ mod value;
 
 pub use calls::{call_table, contract_calls};
 pub use check::{Check, CheckKind, Checks};
-pub use expr::{
-    BinaryOp, Case, Cases, Expr, Exprs, Function, Functions, Param, Params, Pattern, Patterns,
-    UnaryOp,
-};
+pub use expr::{Case, Cases, Expr, Exprs, Function, Functions, Param, Params, Pattern, Patterns};
 pub use id::{CheckId, CtorId, DataId, FunctionId};
 pub use place::Place;
+pub use pp_operators::{BinaryOp, UnaryOp};
 pub use program::Program;
 pub use sort::{Sort, Sorts};
 pub use std::alloc::AllocError as NoMemory;

@@ -1,10 +1,11 @@
 //! Tries what the program answers: a case a line of standard input, an answer a line. What the answers must be
 //! was worked out apart from the program: `stdout` has it.
 //!
-//! A case is the words of the command line without the paths, then `|`, then the sources. In these `\n`, `\r` and
-//! `\t` stand for what they stand for in Rust, `\x` for the byte 255, and `\s` stands between sources. The answer
-//! is the exit status and then what is put, where `\n` stands for a line feed. It is `no case` where a source is
-//! too long or there are more than 16, and `no words` where the words are refused before any source is read.
+//! A case is the words of the command line without the paths, then `|`, then the sources; without `|` there are none.
+//! In the sources `\n`, `\r` and `\t` stand for what they stand for in Rust, `\x` for the byte 255, and `\s` stands
+//! between sources. The answer is the exit status and then what is put, where `\n` stands for a line feed. It is
+//! `no case` where a source is too long or there are more than 16, and `no words` where the words are refused before
+//! any source is read.
 #![tactic(auto)]
 
 ghost use Rattle.std.specs.Prelude.{◌↔◌, All, IsTrue};
@@ -113,10 +114,10 @@ fn told(alloc: Global, task: Task, sources: &[Vec<u8>]) -> Result<String>
 
 #[tactic(auto, using(crate::proofs::Ranges::line_in_range))]
 fn answer(alloc: Global, case: &str) -> Result<String> {
-    let Some((text, parts)) = case.split_once('|') else {
-        return Ok(String::from_str(alloc, "no case")?);
+    let (text, sources) = match case.split_once('|') {
+        Some((text, parts)) => (text, sources(alloc, parts)?),
+        None => (case, Vec::new(alloc)),
     };
-    let sources = sources(alloc, parts)?;
     let words = words(alloc, text, sources.len())?;
     match read(alloc, &words) {
         Ok(line) => told(alloc, line.task, &sources),

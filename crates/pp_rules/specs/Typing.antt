@@ -25,7 +25,8 @@ use Rattle.pp_typed.specs.declared.sort.GenericSort.TheVariants as sort
 use Rattle.pp_typed.specs.declared.typed.TypedCtor.{TypedCtor}
 use Rattle.pp_rules.specs.declared.callee.Callee.{Callee}
 use Rattle.pp_rules.specs.Elab.{arm, pattern, typed}
-use Rattle.pp_rules.specs.Operators.{admits, gives, is_equality, right_expected, unary_sort}
+use Rattle.pp_operators.specs.Classes.{is_equality}
+use Rattle.pp_rules.specs.Operators.{admits, gives, right_expected, unary_sort}
 use Rattle.pp_rules.specs.Scope.{Env, Scope, clashes, place}
 use Rattle.pp_rules.specs.Shapes.{application, applied_by, field_place, field_sort, named_by, only_ctor}
 use Rattle.pp_sorts.specs.IsSort.{count as count_types}

@@ -2,10 +2,10 @@
 use Rattle.std.proofs.Common.{◌≡◌, refl, ℕ, Bool, true, false, Option, Some, None, Ok, Err}
 use Rattle.std.specs.Prelude.{pos, slice_get}
 use Rattle.std.specs.Ordering.{int_eq}
-use Rattle.pp_prog.specs.declared.expr.BinaryOp.{BinaryOp}
-use Rattle.pp_prog.specs.declared.expr.BinaryOp.TheVariants.{Div, Rem, Equal, Differ, AndAlso, OrElse, And, Or, Xor}
-use Rattle.pp_prog.specs.declared.expr.UnaryOp.{UnaryOp}
-use Rattle.pp_prog.specs.declared.expr.UnaryOp.TheVariants.{Neg, Not, Flip}
+use Rattle.pp_tree.specs.declared.operator.BinaryOp.{BinaryOp}
+use Rattle.pp_tree.specs.declared.operator.BinaryOp.TheVariants.{Div, Rem, Equal, Differ, AndAlso, OrElse, And, Or, Xor}
+use Rattle.pp_tree.specs.declared.operator.UnaryOp.{UnaryOp}
+use Rattle.pp_tree.specs.declared.operator.UnaryOp.TheVariants.{Neg, Not, Flip}
 use Rattle.pp_prog.specs.declared.id.CheckId.{CheckId}
 use Rattle.pp_prog.specs.declared.value.Value.{Value}
 use Rattle.pp_prog.specs.declared.value.Value.TheOpen as value

@@ -2,15 +2,10 @@
 use Rattle.std.proofs.Common.{◌≡◌, ℕ, zero, suc, ◌+◌, ◌<◌, Bool, true, false, List, [], ◌∷◌, length, slice_set, refl}
 use Rattle.std.proofs.Common.{sym, ap, ◌∙◌, arith}
 use Rattle.std.specs.Prelude.{if◌then◌else◌}
+use Rattle.pp_steps.proofs.Counting.{add_suc, plus_zero}
 use Rattle.pp_steps.specs.declared.step.Step.{Step}
 use Rattle.pp_steps.specs.declared.step.Step.TheVariants as steps
 use Rattle.pp_simplify.specs.Pruned.{pruned}
-
-plus_zero : (k : ℕ) → k + 0 ≡ k
-plus_zero k = omega arith
-
-add_suc : (k n : ℕ) → k + suc n ≡ suc k + n
-add_suc k n = omega arith
 
 module _ (kept : ℕ → Bool) where
   -- the steps of which the first n were looked at

@@ -4,6 +4,7 @@ use Rattle.std.proofs.Common.{slice_get, slice_index_or, take, Option, Some, Non
 use Rattle.std.proofs.Common.{inl, inr}
 use Rattle.std.proofs.lemmas.List.{take_all, take_more}
 use Rattle.pp_prog.specs.declared.id.CtorId.{CtorId}
+use Rattle.pp_steps.proofs.Counting.{add_suc, plus_zero}
 use Rattle.pp_steps.specs.declared.step.Step.{Step}
 use Rattle.pp_steps.specs.declared.step.Step.TheVariants as steps
 use Rattle.pp_steps.specs.Compile.{number_or}
@@ -130,12 +131,6 @@ pub record Reading (f : Folding) : Type 0 where
   pub reads : AllRead 0 f.steps
   pub many : length f.names ≡ length f.steps
   pub low : (k : ℕ) → named f.names k ≤ k
-
-plus_zero : (k : ℕ) → k + 0 ≡ k
-plus_zero k = omega arith
-
-add_suc : (k n : ℕ) → k + suc n ≡ suc k + n
-add_suc k n = omega arith
 
 reads_push : (k : ℕ) (ss : List Step) (t : Step) → AllRead k ss → Reads (k + length ss) t → AllRead k (ss ++ t ∷ [])
 reads_push k [] t reads r = (subst (λ n. Reads n t) (plus_zero k) r, tt)

@@ -43,8 +43,3 @@ literal_or s (layer.Tree c fields) = s
 abbrev pub stated : Step → Part Value → Step
 stated s (Ok v) = literal_or s (out-Value v)
 stated s (Err e) = s
-
--- what a call that gives only the value says of a part
-abbrev pub Gives : Option Value → Part Value → Type 0
-Gives (Some v) part = part ≡ Ok v
-Gives None part = part ≡ Err Stuck

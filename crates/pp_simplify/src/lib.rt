@@ -11,7 +11,6 @@
 mod folding;
 mod literals;
 mod marks;
-mod operators;
 mod pruning;
 mod renaming;
 

@@ -2,9 +2,8 @@
 
 ghost use Rattle.std.specs.Prelude.{◌≡◌, MatchOption};
 ghost use Rattle.pp_simplify.specs.Literals as spec;
-ghost use Rattle.pp_simplify.specs.Literals.{Gives};
 
-use crate::operators::{binary, goes_down, is_alike, unary};
+use pp_eval::{Stop, goes_down, one_sort, operate, unary};
 use pp_list::at;
 use pp_prog::Value;
 use pp_steps::Step;
@@ -15,38 +14,44 @@ pub(crate) fn literal(news: &[Step], step: &Step) -> Option<Step>
         (λ t. t ≡ spec.stated step.now (spec.computed news.now step.now)) }
 {
     match computed(news, step) {
-        Some(Value::Int(n)) => Some(Step::Int(n)),
-        Some(Value::Bool(b)) => Some(Step::Bool(b)),
+        Ok(Value::Int(n)) => Some(Step::Int(n)),
+        Ok(Value::Bool(b)) => Some(Step::Bool(b)),
         _ => None,
     }
 }
 
-/// What the step behind these ones comes to, where its operands are literals.
-fn computed(news: &[Step], step: &Step) -> Option<Value>
-    ensures { Gives result (spec.computed news.now step.now) }
+/// What the step behind these ones comes to, where its operands are literals. A divisor of 0 has no check that it
+/// fails, and no literal is a tree.
+fn computed(news: &[Step], step: &Step) -> Result<Value, Stop>
+    ensures { result ≡ spec.computed news.now step.now }
 {
     match step {
         Step::Unary(op, a) => unary(*op, &literal_at(news, *a)?),
-        Step::Binary(op, a, b) => binary(*op, &literal_at(news, *a)?, &literal_at(news, *b)?),
+        Step::Binary(op, a, b) => operate(
+            *op,
+            None,
+            &literal_at(news, *a)?,
+            &literal_at(news, *b)?,
+        ),
         Step::IsAlike(a, b) => {
-            let alike = is_alike(&literal_at(news, *a)?, &literal_at(news, *b)?);
-            Some(Value::Bool(alike))
+            let alike = one_sort(&[], &literal_at(news, *a)?, &literal_at(news, *b)?);
+            Ok(Value::Bool(alike))
         }
         Step::GoesDown(a, b) => {
             let down = goes_down(&literal_at(news, *a)?, &literal_at(news, *b)?);
-            Some(Value::Bool(down))
+            Ok(Value::Bool(down))
         }
-        _ => None,
+        _ => Err(Stop::Stuck),
     }
 }
 
 /// The value of the step with the number, if that is a literal.
-fn literal_at(news: &[Step], number: u32) -> Option<Value>
-    ensures { Gives result (spec.literal_at news.now number) }
+fn literal_at(news: &[Step], number: u32) -> Result<Value, Stop>
+    ensures { result ≡ spec.literal_at news.now number }
 {
     match at(news, number as usize) {
-        Some(Step::Int(n)) => Some(Value::Int(*n)),
-        Some(Step::Bool(b)) => Some(Value::Bool(*b)),
-        _ => None,
+        Some(Step::Int(n)) => Ok(Value::Int(*n)),
+        Some(Step::Bool(b)) => Ok(Value::Bool(*b)),
+        _ => Err(Stop::Stuck),
     }
 }

@@ -6,6 +6,7 @@ use Rattle.pp_prog.specs.declared.id.CtorId.{CtorId}
 use Rattle.pp_prog.specs.declared.sort.Sort.{Sort}
 use Rattle.pp_prog.specs.declared.types.TypeTable.{TypeTable}
 use Rattle.pp_prog.specs.Sizes.{height_at}
+use Rattle.pp_steps.proofs.Counting.{zero_plus}
 use Rattle.pp_steps.specs.declared.step.Step.{Step}
 use Rattle.pp_steps.specs.declared.step.Step.TheVariants as steps
 use Rattle.pp_steps.specs.Frames.{open_step}
@@ -121,9 +122,6 @@ opens_fully K params rest k lt known =
     subst (λ (g : Folding). folded_known g K k) (sym (folded_behind nothing_folded opens rest))
     (subst (IsFully all.steps K) (sym (names_stay f rest k there ∙ opens_own params k))
     (fully k known (λ x c. absurd (nothing_in (made_of (slice_get all.steps k)) x makes c))))
-
-zero_plus : (k : ℕ) → 0 + k ≡ k
-zero_plus k = omega arith
 
 le_of : (a b : ℕ) → a ≡ b → a ≤ b
 le_of a b e = omega arith

@@ -7,6 +7,7 @@ use Rattle.std.proofs.lemmas.Option.{same_Some}
 use Rattle.std.proofs.lemmas.List.Elements.{All-cons, All-head, All-nil, All-tail}
 use Rattle.pp_prog.specs.declared.id.CtorId.{CtorId}
 use Rattle.pp_prog.specs.declared.types.Ctor.{Ctor}
+use Rattle.pp_steps.proofs.Counting.{add_suc, plus_zero, zero_plus}
 use Rattle.pp_steps.specs.declared.step.Step.{Step}
 use Rattle.pp_steps.specs.declared.step.Step.TheVariants as steps
 use Rattle.pp_steps.specs.Compile.{number_or}
@@ -24,15 +25,9 @@ use Rattle.pp_simplify.proofs.Turns.{Reading, push_length, reading_next}
 use Rattle.pp_simplify_laws.specs.Fully.{IsFully, folded_known, fully, made_of}
 use Rattle.pp_simplify_laws.specs.Laws.{AgreeFolded}
 use Rattle.pp_simplify_laws.proofs.Folds.{bit_at, folded_tells}
-use Rattle.pp_simplify_laws.proofs.FoldedValues.{agrees_next, zero_plus}
+use Rattle.pp_simplify_laws.proofs.FoldedValues.{agrees_next}
 use Rattle.pp_simplify_laws.proofs.Forms.{IsGiven, tells_renamed}
 use Rattle.pp_simplify_laws.proofs.Stays.{name_here, names_stay, step_here, steps_stay}
-
-plus_zero : (k : ℕ) → k + 0 ≡ k
-plus_zero k = omega arith
-
-add_suc : (k n : ℕ) → k + suc n ≡ suc k + n
-add_suc k n = omega arith
 
 tells_at : (ρ : Values) (K : ℕ → Type 0) (k : ℕ) (ss : List Step) (i : ℕ) (s : Step) → AllTell ρ K k ss
     → slice_get ss i ≡ Some s → Tells ρ K s (k + i)

@@ -6,6 +6,7 @@ use Rattle.std.proofs.lemmas.Option.{same_Some, slice_get-map}
 use Rattle.pp_prog.specs.declared.sort.Sort.{Sort}
 use Rattle.pp_prog.specs.declared.types.Ctor.{Ctor}
 use Rattle.pp_prog.specs.declared.types.TypeTable.{TypeTable}
+use Rattle.pp_steps.proofs.Counting.{zero_plus}
 use Rattle.pp_steps.specs.declared.step.Step.{Step}
 use Rattle.pp_steps.specs.declared.step.Step.TheVariants as steps
 use Rattle.pp_steps.specs.Compile.{number_or}
@@ -17,7 +18,7 @@ use Rattle.pp_simplify.specs.Operands.{operands, renamed}
 use Rattle.pp_simplify.proofs.Naming.{IsSource, named_push, source_or}
 use Rattle.pp_simplify.proofs.Turns.{Reading, push_length, reading_next}
 use Rattle.pp_simplify_laws.specs.Laws.{SortedFolded}
-use Rattle.pp_simplify_laws.proofs.FoldedValues.{each_all, zero_plus}
+use Rattle.pp_simplify_laws.proofs.FoldedValues.{each_all}
 use Rattle.pp_simplify_laws.proofs.Folds.{folded_sorted, sorted_at, sorted_push}
 use Rattle.pp_simplify_laws.proofs.Forms.{sorted_renamed}
 

@@ -10,6 +10,7 @@ use Rattle.pp_prog.specs.declared.types.Ctor.{Ctor}
 use Rattle.pp_prog.specs.declared.value.Value.{Value}
 use Rattle.pp_prog.specs.declared.value.Value.TheVariants.{Tree, outs-Tree}
 use Rattle.pp_eval.specs.Part.{found}
+use Rattle.pp_steps.proofs.Counting.{zero_plus}
 use Rattle.pp_steps.specs.declared.step.Step.{Step}
 use Rattle.pp_steps.specs.declared.step.Step.TheVariants as steps
 use Rattle.pp_steps.specs.Compile.{number_or}
@@ -27,9 +28,6 @@ use Rattle.pp_simplify_laws.proofs.Forms.{does_renamed}
 pub each_all : (P : ℕ → Type 0) (ns : List ℕ) → ((a : ℕ) → P a) → Each P ns
 each_all P [] all = tt
 each_all P (n ∷ ns) all = (all n, each_all P ns all)
-
-pub zero_plus : (k : ℕ) → 0 + k ≡ k
-zero_plus k = omega arith
 
 module _ (ctors : List Ctor) (missing : Missing) (ρ : Values) where
   abbrev Agrees : Folding → Type 0

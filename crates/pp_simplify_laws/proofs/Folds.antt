@@ -12,6 +12,7 @@ use Rattle.pp_prog.specs.declared.types.Ctor.{Ctor}
 use Rattle.pp_prog.specs.declared.types.TypeTable.{TypeTable}
 use Rattle.pp_prog.specs.declared.value.Value.{Value}
 use Rattle.pp_prog.specs.declared.value.Value.TheVariants.{Bool as Truth, outs-Bool, outs-Tree}
+use Rattle.pp_steps.proofs.Counting.{add_suc, plus_zero}
 use Rattle.pp_steps.specs.declared.step.Step.{Step}
 use Rattle.pp_steps.specs.declared.step.Step.TheVariants as steps
 use Rattle.pp_steps.specs.Known.{Tells}
@@ -22,12 +23,6 @@ use Rattle.pp_simplify.specs.Literals.{computed, stated}
 use Rattle.pp_simplify.proofs.Stating.{stated_by}
 use Rattle.pp_simplify_laws.proofs.Computed.{computed_does, computed_sorted}
 use Rattle.pp_simplify_laws.proofs.Forms.{tells_anyway}
-
-plus_zero : (k : ℕ) → k + 0 ≡ k
-plus_zero k = omega arith
-
-add_suc : (k n : ℕ) → k + suc n ≡ suc k + n
-add_suc k n = omega arith
 
 bool_is : (o : Option Step) (b : Bool) → bool_of o ≡ Some b → o ≡ Some (steps.Bool b)
 bool_is (Some (steps.Bool v)) b e = ap (λ x. Some (steps.Bool x)) (same_Some v b e)

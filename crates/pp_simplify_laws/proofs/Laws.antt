@@ -2,6 +2,7 @@
 use Rattle.std.proofs.Common.{◌≡◌, ℕ, suc, ◌+◌, Bool, List, [], ◌∷◌, ◌++◌, length, map}
 use Rattle.std.proofs.Common.{slice_get, Some, Contains, refl, sym, ap, ◌∙◌, subst, arith}
 use Rattle.pp_prog.specs.declared.sort.Sort.{Sort}
+use Rattle.pp_steps.proofs.Counting.{zero_plus}
 use Rattle.pp_steps.specs.declared.step.Step.{Step}
 use Rattle.pp_steps.specs.Frames.{open_step}
 use Rattle.pp_steps.specs.Known.{AllTell}
@@ -32,9 +33,6 @@ closed_from kept k (s ∷ ss) all = (
   all 0 k s refl (omega arith),
   closed_from kept (suc k) ss (λ i j t at e. all (suc i) j t at (omega arith)),
 )
-
-zero_plus : (k : ℕ) → 0 + k ≡ k
-zero_plus k = omega arith
 
 module _ (first asked : ℕ) (old new : List Step) (is : IsPruned first asked old new) where
   abbrev kept : ℕ → Bool

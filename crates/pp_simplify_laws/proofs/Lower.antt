@@ -1,9 +1,9 @@
 -- What stands in the place of a step is at most as high, and takes at most as many gates.
-use Rattle.std.proofs.Common.{◌≡◌, ℕ, ◌-◌, ◌<◌, ◌≤◌, max, min, Bool, true, false, List, [], ◌∷◌}
-use Rattle.std.proofs.Common.{map, slice_get, Option, Some, None, arith, subst, sym}
+use Rattle.std.proofs.Common.{◌≡◌, ℕ, ◌-◌, ◌<◌, ◌≤◌, max, min, Bool, true, false, List, [], ◌∷◌, map, slice_get, Option}
+use Rattle.std.proofs.Common.{Some, None, arith, subst, sym}
 use Rattle.std.proofs.Math.Nat.{le-max_left, le-max_right, le-min, max-le, min-le_left, min-le_right}
-use Rattle.pp_prog.specs.declared.expr.BinaryOp.{BinaryOp}
-use Rattle.pp_prog.specs.declared.expr.BinaryOp.TheVariants.{Equal, Differ}
+use Rattle.pp_tree.specs.declared.operator.BinaryOp.{BinaryOp}
+use Rattle.pp_tree.specs.declared.operator.BinaryOp.TheVariants.{Equal, Differ}
 use Rattle.pp_prog.specs.declared.id.CtorId.{CtorId}
 use Rattle.pp_prog.specs.declared.sort.Sort.{Sort}
 use Rattle.pp_prog.specs.declared.sort.Sort.TheVariants as sort
@@ -13,8 +13,8 @@ use Rattle.pp_estimate_laws.proofs.Numbers.{le_same, plus_grows, times_grow}
 use Rattle.pp_estimate_laws.proofs.Sizes.{bits_grow, height_grows, nodes_grow}
 use Rattle.pp_steps.specs.declared.step.Step.{Step}
 use Rattle.pp_steps.specs.declared.step.Step.TheVariants as steps
-use Rattle.pp_steps.specs.Gates.{Heights, binary_gates, choice_gates, descent_gates, equality_gates}
-use Rattle.pp_steps.specs.Gates.{gates_of, height_of}
+use Rattle.pp_steps.specs.Gates.{Heights, binary_gates, choice_gates, descent_gates, equality_gates, gates_of}
+use Rattle.pp_steps.specs.Gates.{height_of}
 use Rattle.pp_steps.specs.Reads.{Below, Reads}
 use Rattle.pp_steps.specs.Sorted.{Sorts}
 use Rattle.pp_simplify.specs.Folded.{both, bool_at, chosen, folded, taken, tested, turned}

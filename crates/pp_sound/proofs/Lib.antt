@@ -3,7 +3,6 @@ pub mod Binding
 pub mod Patterns
 pub mod Parts
 pub mod Sites
-pub mod Operands
 pub mod Operators
 pub mod Fields
 pub mod Cases

@@ -4,11 +4,12 @@ use Rattle.std.specs.Prelude.{not, pos}
 use Rattle.std.specs.Ordering.{int_eq}
 use Rattle.std.specs.Int.{w32}
 use Rattle.pp_word.specs.Word.{word_neg, word_not}
-use Rattle.pp_prog.specs.declared.expr.BinaryOp.{BinaryOp}
-use Rattle.pp_prog.specs.declared.expr.BinaryOp.TheVariants.{Add, Sub, Mul, Div, Rem, Equal, Differ, Less, AtMost, More}
-use Rattle.pp_prog.specs.declared.expr.BinaryOp.TheVariants.{AtLeast, AndAlso, OrElse, And, Or, Xor, Shl, Shr, Ushr}
-use Rattle.pp_prog.specs.declared.expr.UnaryOp.{UnaryOp}
-use Rattle.pp_prog.specs.declared.expr.UnaryOp.TheVariants.{Neg, Not, Flip}
+use Rattle.pp_tree.specs.declared.operator.BinaryOp.{BinaryOp}
+use Rattle.pp_tree.specs.declared.operator.BinaryOp.TheVariants.{Add, Sub, Mul, Div, Rem, Equal, Differ, Less, AtMost}
+use Rattle.pp_tree.specs.declared.operator.BinaryOp.TheVariants.{More, AtLeast, AndAlso, OrElse, And, Or, Xor, Shl, Shr}
+use Rattle.pp_tree.specs.declared.operator.BinaryOp.TheVariants.{Ushr}
+use Rattle.pp_tree.specs.declared.operator.UnaryOp.{UnaryOp}
+use Rattle.pp_tree.specs.declared.operator.UnaryOp.TheVariants.{Neg, Not, Flip}
 use Rattle.pp_prog.specs.declared.id.CheckId.{CheckId}
 use Rattle.pp_prog.specs.declared.program.Program.{Program}
 use Rattle.pp_prog.specs.declared.sort.Sort.{Sort}

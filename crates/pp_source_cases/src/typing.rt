@@ -7,7 +7,7 @@
 use anyhow::{Result, bail};
 use bumpalo::Bump;
 use pp_parse::parse;
-use pp_text::{MOST_BYTES, Name, Text};
+use pp_text::{MOST_BYTES, Text};
 use pp_tokens::tokens;
 use pp_tree::Unit;
 use pp_types::{TypeFault, check};
@@ -68,7 +68,7 @@ fn functions(alloc: Global, units: &[Unit]) -> Option<usize> {
         return None;
     }
     match check(alloc, units) {
-        Ok(typed) => Some(typed.typed().defs.as_slice().len()),
+        Ok(typed) => Some(typed.defs.as_slice().len()),
         Err(_) => None,
     }
 }
@@ -102,9 +102,15 @@ fn unit<'a>(alloc: Global, arena: &'a Bump, bytes: &[u8]) -> Option<Unit<'a>> {
 }
 
 /// A fault, with its name, the number of its source and its offset.
-fn fault(alloc: Global, kind: &str, name: &Name, source: u32, offset: u32) -> Result<String> {
-    let name = name.as_str();
-    Ok(format!(in alloc; "{kind} {name} at {source}:{offset}")?)
+fn show_fault(alloc: Global, fault: TypeFault) -> Result<String> {
+    let kind = format!(in alloc; "{fault}")?;
+    match fault.into_fault() {
+        Some(fault) => {
+            let name = fault.name.as_str();
+            Ok(format!(in alloc; "{kind} {name} at {}:{}", fault.source, fault.at)?)
+        }
+        None => Ok(kind),
+    }
 }
 
 /// What the units are answered.
@@ -114,76 +120,28 @@ fn told(alloc: Global, units: &[Unit]) -> Result<String> {
     }
     match check(alloc, units) {
         Ok(_) => Ok(String::from_str(alloc, "typed")?),
-        Err(
-            TypeFault::Unknown {
-                name,
-                source,
-                offset,
-            },
-        ) => fault(alloc, "unknown", &name, source, offset),
-        Err(
-            TypeFault::Duplicate {
-                name,
-                source,
-                offset,
-            },
-        ) => fault(alloc, "duplicate", &name, source, offset),
-        Err(
-            TypeFault::Mismatch {
-                name,
-                source,
-                offset,
-            },
-        ) => fault(alloc, "mismatch", &name, source, offset),
-        Err(
-            TypeFault::Arity {
-                name,
-                source,
-                offset,
-            },
-        ) => fault(alloc, "arity", &name, source, offset),
-        Err(
-            TypeFault::CannotInfer {
-                name,
-                source,
-                offset,
-            },
-        ) => fault(alloc, "cannot infer", &name, source, offset),
-        Err(
-            TypeFault::Uninhabited {
-                name,
-                source,
-                offset,
-            },
-        ) => fault(alloc, "uninhabited", &name, source, offset),
-        Err(
-            TypeFault::NotABoolean {
-                name,
-                source,
-                offset,
-            },
-        ) => fault(alloc, "not a boolean", &name, source, offset),
-        Err(
-            TypeFault::OverLimit {
-                name,
-                source,
-                offset,
-            },
-        ) => fault(alloc, "over limit", &name, source, offset),
-        Err(TypeFault::Memory) => Ok(String::from_str(alloc, "out of memory")?),
+        Err(fault) => show_fault(alloc, fault),
     }
+}
+
+/// The units of the sources of a line, where each spells one.
+fn units_of<'a>(alloc: Global, arena: &'a Bump, line: &str) -> Result<Option<Vec<Unit<'a>>>> {
+    let mut units = Vec::new(alloc);
+    for part in line.split("\\s") {
+        let source = source(alloc, part)?;
+        let Some(unit) = unit(alloc, arena, source.as_bytes()) else {
+            return Ok(None);
+        };
+        units.push(unit)?;
+    }
+    Ok(Some(units))
 }
 
 /// What the sources of a line are answered.
 fn answer(alloc: Global, line: &str) -> Result<String> {
     let arena = Bump::new(alloc);
-    let mut units = Vec::new(alloc);
-    for part in line.split("\\s") {
-        let source = source(alloc, part)?;
-        let Some(unit) = unit(alloc, &arena, source.as_bytes()) else {
-            return Ok(String::from_str(alloc, "no unit")?);
-        };
-        units.push(unit)?;
+    match units_of(alloc, &arena, line)? {
+        Some(units) => told(alloc, &units),
+        None => Ok(String::from_str(alloc, "no unit")?),
     }
-    told(alloc, &units)
 }

@@ -3,8 +3,8 @@
 -- whether a branch is taken, never by its test alone: where nothing is reached, a test may stand for nothing.
 -- Source: own.
 use Rattle.std.specs.Prelude.{ℕ, suc, pos, false, List, [], ◌∷◌, ◌++◌, Option, Some, None, slice_index_or}
-use Rattle.pp_prog.specs.declared.expr.BinaryOp.{BinaryOp}
-use Rattle.pp_prog.specs.declared.expr.BinaryOp.TheVariants.{AndAlso, OrElse, Div, Rem, Equal}
+use Rattle.pp_tree.specs.declared.operator.BinaryOp.{BinaryOp}
+use Rattle.pp_tree.specs.declared.operator.BinaryOp.TheVariants.{AndAlso, OrElse, Div, Rem, Equal}
 use Rattle.pp_prog.specs.declared.expr.Case.{Case}
 use Rattle.pp_prog.specs.declared.expr.Expr.{Expr}
 use Rattle.pp_prog.specs.declared.expr.Expr.TheFolds.{fold-Case, fold-Expr}

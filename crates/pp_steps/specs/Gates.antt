@@ -1,11 +1,11 @@
 -- How high the values of steps are at most, and how many gates and inputs the steps take where trees are full blocks up
 -- to a height. Source: own.
 use Rattle.std.specs.Prelude.{◌≡◌, ℕ, suc, ◌+◌, ◌-◌, ◌*◌, max, min, nat_eq, if◌then◌else◌, List, [], ◌∷◌, map}
-use Rattle.pp_prog.specs.declared.expr.BinaryOp.{BinaryOp}
-use Rattle.pp_prog.specs.declared.expr.BinaryOp.TheVariants.{Add, Sub, Mul, Div, Rem, Equal, Differ, Less, AtMost, More}
-use Rattle.pp_prog.specs.declared.expr.BinaryOp.TheVariants.{AtLeast, AndAlso, OrElse, And, Or, Xor, Shl, Shr, Ushr}
-use Rattle.pp_prog.specs.declared.expr.UnaryOp.{UnaryOp}
-use Rattle.pp_prog.specs.declared.expr.UnaryOp.TheVariants.{Neg, Not, Flip}
+use Rattle.pp_operators.specs.Classes.{class_of}
+use Rattle.pp_operators.specs.declared.class.OperatorClass.{OperatorClass}
+use Rattle.pp_operators.specs.declared.class.OperatorClass.TheVariants as class
+use Rattle.pp_operators.specs.Gates.{number_gates, unary_gates}
+use Rattle.pp_tree.specs.declared.operator.BinaryOp.{BinaryOp}
 use Rattle.pp_prog.specs.declared.sort.Sort.{Sort}
 use Rattle.pp_prog.specs.declared.sort.Sort.TheVariants as sort
 use Rattle.pp_prog.specs.declared.types.TypeTable.{TypeTable}
@@ -19,12 +19,6 @@ use Rattle.pp_steps.specs.Sorted.{Sorts}
 abbrev pub Heights : Type 0
 Heights = ℕ → ℕ
 
--- the gates of an operator with one operand
-abbrev pub unary_gates : UnaryOp → ℕ
-unary_gates Neg = 256
-unary_gates Not = 0
-unary_gates Flip = 64
-
 module _ (types : TypeTable) where
   -- what an unknown value of a sort takes: nothing where it is a tree without a height
   abbrev pub open_gates : ℕ → Sort → ℕ
@@ -36,29 +30,16 @@ module _ (types : TypeTable) where
 
   -- the equality of two values of a sort, the lower of which has the height h
   abbrev pub equality_gates : ℕ → Sort → ℕ
-  equality_gates h s = by_sort 64 1 (λ d. 4 * (32 + bits types h (sort.Tree d))) s
+  equality_gates h s = by_sort (number_gates class.Equality) 1 (λ d. 4 * (32 + bits types h (sort.Tree d))) s
 
-  -- an operator on two values of this sort, the lower of which has the height h
+  -- an operator of this class on two values of this sort, the lower of which has the height h
+  abbrev pub class_gates : OperatorClass → ℕ → Sort → ℕ
+  class_gates class.Equality h s = equality_gates h s
+  class_gates class.Bitwise h s = by_sort (number_gates class.Bitwise) 1 (λ d. 0) s
+  class_gates c h s = number_gates c
+
   abbrev pub binary_gates : BinaryOp → ℕ → Sort → ℕ
-  binary_gates Add h s = 256
-  binary_gates Sub h s = 256
-  binary_gates Mul h s = 8192
-  binary_gates Div h s = 16384
-  binary_gates Rem h s = 16384
-  binary_gates Equal h s = equality_gates h s
-  binary_gates Differ h s = equality_gates h s
-  binary_gates Less h s = 256
-  binary_gates AtMost h s = 256
-  binary_gates More h s = 256
-  binary_gates AtLeast h s = 256
-  binary_gates AndAlso h s = 0
-  binary_gates OrElse h s = 0
-  binary_gates And h s = by_sort 64 1 (λ d. 0) s
-  binary_gates Or h s = by_sort 64 1 (λ d. 0) s
-  binary_gates Xor h s = by_sort 64 1 (λ d. 0) s
-  binary_gates Shl h s = 512
-  binary_gates Shr h s = 512
-  binary_gates Ushr h s = 512
+  binary_gates op h s = class_gates (class_of op) h s
 
   -- whether a component of a measure of this sort goes down, from the height `old` to the height `new`
   abbrev pub descent_gates : ℕ → ℕ → Sort → ℕ

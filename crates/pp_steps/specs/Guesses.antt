@@ -4,7 +4,7 @@
 -- Köksal, Kuncak, Satisfiability Modulo Recursive Programs, SAS 2011; that a call may have no answer is own.
 use Rattle.std.specs.Prelude.{ℕ, zero, suc, nat_eq, nat_lt, Bool, true, false, if◌then◌else◌, List, [], ◌∷◌, ◌++◌}
 use Rattle.std.specs.Prelude.{Option, Some, None, length, slice_get}
-use Rattle.pp_prog.specs.declared.expr.BinaryOp.TheVariants.{Equal}
+use Rattle.pp_tree.specs.declared.operator.BinaryOp.TheVariants.{Equal}
 use Rattle.pp_prog.specs.declared.expr.Expr.{Expr}
 use Rattle.pp_prog.specs.declared.expr.Function.{Function}
 use Rattle.pp_prog.specs.declared.id.CheckId.{CheckId}
@@ -15,8 +15,8 @@ use Rattle.pp_steps.specs.declared.step.OpenCall.{OpenCall}
 use Rattle.pp_steps.specs.declared.step.Step.{Step}
 use Rattle.pp_steps.specs.declared.step.Step.TheVariants as steps
 use Rattle.pp_steps.specs.Compile.{Site, compile}
-use Rattle.pp_steps.specs.Frames.{Frame, admitting, any_of, arguments, descending, measuring, result_of}
-use Rattle.pp_steps.specs.Frames.{running, stopped}
+use Rattle.pp_steps.specs.Frames.{Frame, admitting, any_of, arguments, descending, measuring, result_of, running}
+use Rattle.pp_steps.specs.Frames.{stopped}
 use Rattle.pp_steps.specs.Piece.{Piece, after, asks, bind, demand, plain}
 
 -- ---- calls

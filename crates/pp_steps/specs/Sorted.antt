@@ -1,15 +1,17 @@
 -- The sort of each step: that of its value, given the sorts of its operands. Source: own; the sorts are those of the
 -- expressions that the steps come from.
 use Rattle.std.specs.Prelude.{◌≡◌, ℕ, suc, List, [], ◌∷◌, Option, Some, None, IsTrue, length, map, slice_get}
-use Rattle.pp_prog.specs.declared.expr.BinaryOp.{BinaryOp}
-use Rattle.pp_prog.specs.declared.expr.BinaryOp.TheVariants.{AndAlso, OrElse}
+use Rattle.pp_operators.specs.Classes.{class_of}
+use Rattle.pp_operators.specs.declared.class.OperatorClass.{OperatorClass}
+use Rattle.pp_operators.specs.declared.class.OperatorClass.TheVariants as class
+use Rattle.pp_tree.specs.declared.operator.BinaryOp.{BinaryOp}
 use Rattle.pp_prog.specs.declared.id.CtorId.{CtorId}
 use Rattle.pp_prog.specs.declared.id.DataId.{DataId}
 use Rattle.pp_prog.specs.declared.sort.Sort.{Sort}
 use Rattle.pp_prog.specs.declared.sort.Sort.TheVariants as sort
 use Rattle.pp_prog.specs.declared.types.Ctor.{Ctor}
 use Rattle.pp_prog.specs.declared.types.TypeTable.{TypeTable}
-use Rattle.pp_prog.specs.ExprSorts.{binary_sort, field_sort, unary_sort}
+use Rattle.pp_prog.specs.ExprSorts.{class_sort, field_sort, unary_sort}
 use Rattle.pp_prog.specs.Sorts.{is_int}
 use Rattle.pp_prog.specs.Table.{is_sort}
 use Rattle.pp_steps.specs.declared.step.Step.{Step}
@@ -19,11 +21,13 @@ use Rattle.pp_steps.specs.declared.step.Step.TheVariants as steps
 abbrev pub Sorts : Type 0
 Sorts = ℕ → Sort
 
--- the sort of an operator on two values: one that skips its right side is no step
+-- the sort of an operator of this class on two values: one that skips its right side is no step
+abbrev pub class_operated : OperatorClass → Option Sort → Option Sort → Option Sort
+class_operated class.Logic a b = None
+class_operated c a b = class_sort c a b
+
 abbrev pub operated_sort : BinaryOp → Option Sort → Option Sort → Option Sort
-operated_sort AndAlso a b = None
-operated_sort OrElse a b = None
-operated_sort op a b = binary_sort op a b
+operated_sort op a b = class_operated (class_of op) a b
 
 module _ (types : TypeTable) (σ : Sorts) where
   -- the constructor is in the table, and the fields with these numbers have its fields' sorts

@@ -2,7 +2,7 @@
 use Rattle.std.proofs.Common.{◌≡◌, ℕ, zero, suc, ◌+◌, ◌<◌, ◌≤◌, false, List, [], ◌∷◌, ◌++◌, length, map, Option, Some}
 use Rattle.std.proofs.Common.{None, sym, subst, arith}
 use Rattle.std.specs.Prelude.{slice_get}
-use Rattle.pp_prog.specs.declared.expr.BinaryOp.TheVariants.{Equal}
+use Rattle.pp_tree.specs.declared.operator.BinaryOp.TheVariants.{Equal}
 use Rattle.pp_prog.specs.declared.expr.Case.{Case}
 use Rattle.pp_prog.specs.declared.expr.Expr.{Expr}
 use Rattle.pp_prog.specs.declared.expr.Expr.TheFolds.{fold-roll-Case, fold-roll-Expr, ind-Expr, map-Case, map-Expr}
@@ -11,6 +11,7 @@ use Rattle.pp_prog.specs.declared.expr.Expr.TheViews.{roll-Case, roll-Expr}
 use Rattle.pp_prog.specs.declared.expr.Function.{Function}
 use Rattle.pp_prog.specs.declared.expr.Pattern.{Pattern}
 use Rattle.pp_prog.specs.declared.id.CheckId.{CheckId}
+use Rattle.pp_steps.proofs.Counting.{less_suc, plus_zero, self_less}
 use Rattle.pp_steps.specs.declared.step.Step.TheVariants as steps
 use Rattle.pp_steps.specs.Compile.{Arm, Compiling, Site, all, arm, arm_step, compile, compile_step, one}
 use Rattle.pp_steps.specs.Frames.{Frame, admitting, allowing, any_of, descending, entering, falling, finishing, inlined}
@@ -22,9 +23,6 @@ use Rattle.pp_steps_exist.proofs.Forms.{below_end, below_more, binary_stays, cal
 use Rattle.pp_steps_exist.proofs.Forms.{map_stays, match_stays, val_stays, variable_below}
 use Rattle.pp_steps_exist.proofs.Within.{IsWithin, LessOne, at_most, below_later, demand_within, joined_within}
 use Rattle.pp_steps_exist.proofs.Within.{one_within, plain_within, up}
-
-plus_zero : (a : ℕ) → a + 0 ≡ a
-plus_zero a = omega arith
 
 end_one : (k : ℕ) → k < k + 1
 end_one k = omega arith
@@ -126,12 +124,6 @@ abbrev pub Frames : ℕ → Frame → Type 0
 Frames k None = Unit {0}
 Frames k (Some ns) = Below k ns
 
-suc_up : (a k : ℕ) → a < k → a < suc k
-suc_up a k h = omega arith
-
-suc_self : (k : ℕ) → k < suc k
-suc_self k = omega arith
-
 end_two : (k : ℕ) → suc k < k + 2
 end_two k = omega arith
 
@@ -149,13 +141,13 @@ falling_within (x ∷ z ∷ xs) (y ∷ ys) k alive n o a =
     let q = falling (z ∷ xs) ys i alive in
     let j = after i q in
     let l : Piece ℕ = plain (steps.Both (suc k) q.out ∷ steps.Choose k k j ∷ []) (suc j) alive in
-    let hp = plain_within {R = LessOne} k p.steps k alive ((n.0, o.0), ((suc_up x k n.0, suc_up y k o.0), tt))
+    let hp = plain_within {R = LessOne} k p.steps k alive ((n.0, o.0), ((less_suc x k n.0, less_suc y k o.0), tt))
     (first_two k) a in
     let hq = falling_within (z ∷ xs) ys i alive (below_end k 2 (z ∷ xs) n.1) (below_end k 2 ys o.1) (up alive k 2 a) in
     let kj = up k i (length q.steps) (first_two k) in
     joined_within k p (joined q l) hp (joined_within i q l hq
     (plain_within {R = LessOne} j l.steps (suc j) alive
-    ((up (suc k) i (length q.steps) (end_two k), hq.out), ((suc_up k j kj, suc_up k j kj, suc_self j), tt))
+    ((up (suc k) i (length q.steps) (end_two k), hq.out), ((less_suc k j kj, less_suc k j kj, self_less j), tt))
     (end_two j) (up alive i (length q.steps) (up alive k 2 a))))
 
 shaped_within : (new old : List ℕ) (k test alive : ℕ) → Below k new → Below k old → test < k → alive < k
@@ -165,7 +157,7 @@ shaped_within [] (y ∷ ys) k test alive n o t a = one_within (steps.Bool false)
 shaped_within (x ∷ xs) [] k test alive n o t a = one_within (steps.Bool false) k alive tt a
 shaped_within (x ∷ xs) (y ∷ ys) k test alive n o t a =
     let p : Piece ℕ = plain (steps.IsAlike x y ∷ steps.Both test k ∷ []) (suc k) alive in
-    let hp = plain_within {R = LessOne} k p.steps (suc k) alive ((n.0, o.0), ((suc_up test k t, suc_self k), tt))
+    let hp = plain_within {R = LessOne} k p.steps (suc k) alive ((n.0, o.0), ((less_suc test k t, self_less k), tt))
     (end_two k) a in
     joined_within k p (shaped xs ys (after k p) (suc k) alive) hp
     (shaped_within xs ys (after k p) (suc k) alive (below_end k 2 xs n.1) (below_end k 2 ys o.1) hp.out

@@ -2,8 +2,8 @@
 use Rattle.std.proofs.Common.{◌≡◌, ℕ, zero, suc, ◌+◌, ◌<◌, ◌≤◌, Bool, true, false, List, [], ◌∷◌, ◌++◌, length, map}
 use Rattle.std.proofs.Common.{Option, Some, None, sym, ap, ◌∙◌, subst, arith, length-append}
 use Rattle.std.specs.Prelude.{pos, slice_index_or}
-use Rattle.pp_prog.specs.declared.expr.BinaryOp.{BinaryOp}
-use Rattle.pp_prog.specs.declared.expr.BinaryOp.TheVariants.{AndAlso, OrElse, Div, Rem, Equal}
+use Rattle.pp_tree.specs.declared.operator.BinaryOp.{BinaryOp}
+use Rattle.pp_tree.specs.declared.operator.BinaryOp.TheVariants.{AndAlso, OrElse, Div, Rem, Equal}
 use Rattle.pp_prog.specs.declared.expr.Pattern.{Pattern}
 use Rattle.pp_prog.specs.declared.expr.Pattern.TheFolds.{fold-roll-Pattern, ind-Pattern, map-Pattern}
 use Rattle.pp_prog.specs.declared.expr.Pattern.TheOpen as pattern
@@ -11,6 +11,7 @@ use Rattle.pp_prog.specs.declared.expr.Pattern.TheViews.{roll-Pattern}
 use Rattle.pp_prog.specs.declared.id.CheckId.{CheckId}
 use Rattle.pp_prog.specs.declared.id.CtorId.{CtorId}
 use Rattle.pp_prog.specs.declared.id.FunctionId.{FunctionId}
+use Rattle.pp_steps.proofs.Counting.{plus_zero}
 use Rattle.pp_steps.specs.declared.step.Step.{Step}
 use Rattle.pp_steps.specs.declared.step.Step.TheVariants as steps
 use Rattle.pp_steps.specs.Compile.{Arm, Compiling, Site, all, all_from, all_of, binary, branches, cases, deciding}
@@ -21,9 +22,6 @@ use Rattle.pp_steps.specs.Reads.{AllRead, Below, Reads}
 use Rattle.pp_steps_exist.proofs.Within.{IsWithin, LessMaybe, LessOne, at_most, below_join, below_later, choice_within}
 use Rattle.pp_steps_exist.proofs.Within.{demand_within, joined_within, one_within, plain_within, possible_within}
 use Rattle.pp_steps_exist.proofs.Within.{read_join, unless_within, up, when_within}
-
-plus_zero : (a : ℕ) → a + 0 ≡ a
-plus_zero a = omega arith
 
 pub below_end : (k n : ℕ) (env : List ℕ) → Below k env → Below (k + n) env
 below_end k n env h = below_later k (k + n) env (at_most k n) h

@@ -10,6 +10,7 @@ use Rattle.pp_prog.specs.declared.types.Ctor.{Ctor}
 use Rattle.pp_prog.specs.declared.value.Value.{Value}
 use Rattle.pp_prog.specs.declared.value.Value.TheVariants.{Bool as Truth}
 use Rattle.pp_prog.specs.Sorts.{has_sort, have_sorts, param_sorts}
+use Rattle.pp_steps.proofs.Counting.{zero_plus}
 use Rattle.pp_steps.specs.declared.step.Step.{Step}
 use Rattle.pp_steps.specs.declared.step.Step.TheVariants as steps
 use Rattle.pp_steps.specs.Frames.{any_of, arguments, inlined, numbers, open_step, run_steps, running}
@@ -149,9 +150,6 @@ module _ (ctors : List Ctor) (missing : Missing) (chosen : Values) where
     opened_are ρ ss vs (suc k) (and_parts (has_sort ctors v s) _ h).1
         (λ i lt. ap chosen (plus_suc k i) ∙ at (suc i) (suc_less i (length vs) lt)) o.1,
   )
-
-zero_plus : (i : ℕ) → 0 + i ≡ i
-zero_plus i = omega arith
 
 pub runs_exist : RunsExist
 runs_exist p i f args called check fuel missing =

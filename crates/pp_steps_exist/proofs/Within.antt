@@ -1,17 +1,12 @@
 -- Pieces whose steps look at earlier ones alone, and whose numbers are those of steps that stand.
 use Rattle.std.proofs.Common.{◌≡◌, ℕ, suc, ◌+◌, ◌<◌, ◌≤◌, Bool, true, false, List, [], ◌∷◌, ◌++◌, length, Option, Some}
 use Rattle.std.proofs.Common.{None, sym, ap, ◌∙◌, subst, arith, length-append}
+use Rattle.pp_steps.proofs.Counting.{add_suc, plus_zero}
 use Rattle.pp_steps.specs.declared.step.Step.{Step}
 use Rattle.pp_steps.specs.declared.step.Step.TheVariants as steps
 use Rattle.pp_steps.specs.Compile.{one, unless, when}
 use Rattle.pp_steps.specs.Piece.{Piece, after, choice, demand, joined, pick_step, picked, plain, possible}
 use Rattle.pp_steps.specs.Reads.{AllRead, Below, Reads}
-
-plus_zero : (a : ℕ) → a + 0 ≡ a
-plus_zero a = omega arith
-
-add_suc : (a b : ℕ) → a + suc b ≡ suc a + b
-add_suc a b = omega arith
 
 add_assoc : (a b c : ℕ) → a + (b + c) ≡ (a + b) + c
 add_assoc a b c = omega arith

@@ -3,8 +3,7 @@ use Rattle.std.proofs.Common.{◌≡◌, ℕ, suc, ◌+◌, ◌≤◌, max, List
 use Rattle.std.proofs.Common.{arith}
 use Rattle.std.proofs.lemmas.Option.{same_Some}
 use Rattle.std.proofs.Math.Nat.{le-max_left, le-max_right}
-use Rattle.pp_prog.specs.declared.expr.UnaryOp.{UnaryOp}
-use Rattle.pp_prog.specs.declared.expr.UnaryOp.TheVariants.{Neg, Not, Flip}
+use Rattle.pp_tree.specs.declared.operator.UnaryOp.{UnaryOp}
 use Rattle.pp_prog.specs.declared.id.CheckId.{CheckId}
 use Rattle.pp_prog.specs.declared.sort.Sort.{Sort}
 use Rattle.pp_prog.specs.declared.sort.Sort.TheVariants as sort
@@ -14,29 +13,19 @@ use Rattle.pp_prog.specs.Results.{unary_result}
 use Rattle.pp_prog.specs.Sizes.{bits}
 use Rattle.pp_prog.proofs.Results.{unary_is}
 use Rattle.pp_estimate.specs.declared.shape.Shape.{Shape}
-use Rattle.pp_estimate.specs.Visits.{Visiting, choice_extra, node, shape, unary_extra, visit}
+use Rattle.pp_estimate.specs.Visits.{Visiting, choice_extra, node, shape, visit}
 use Rattle.pp_estimate_laws.proofs.Growth.{cost_of_both}
 use Rattle.pp_estimate_laws.proofs.Numbers.{le_same}
-use Rattle.pp_prog.proofs.PartSorts.{alike_are, bool_then, int_then, sort_then}
+use Rattle.pp_prog.proofs.PartSorts.{alike_are, bool_then, sort_then, unary_part}
 use Rattle.pp_steps.specs.declared.step.Step.TheVariants as steps
 use Rattle.pp_steps.specs.Compile.{Compiling, branches, one, unless, when}
-use Rattle.pp_steps.specs.Gates.{Heights, unary_gates}
+use Rattle.pp_operators.specs.Gates.{unary_gates}
+use Rattle.pp_steps.specs.Gates.{Heights}
 use Rattle.pp_steps.specs.Piece.{Piece, after, asks, bind, choice, demand, joined, possible}
 use Rattle.pp_steps.specs.Sorted.{Sorts}
 use Rattle.pp_steps_gates.proofs.Pieces.{Has, IsBit, choice_few, demand_few, joined_few, load, made_left, made_one}
 use Rattle.pp_steps_gates.proofs.Pieces.{made_other, made_right, one_few, unless_few, when_few}
 use Rattle.pp_steps_gates.proofs.Scopes.{Covers, are_join, cost_of_node, covered, covered_of, has_more}
-
--- the operand of an operator has a sort
-unary_part : (op : UnaryOp) (o : Option Sort) (s : Sort) → unary_sort op o ≡ Some s → (t : Sort) × (o ≡ Some t)
-unary_part Neg o s h = (sort.Int, (int_then o (Some sort.Int) s h).0)
-unary_part Not o s h = (sort.Bool, (bool_then o (Some sort.Bool) s h).0)
-unary_part Flip o s h = (sort.Int, (int_then o (Some sort.Int) s h).0)
-
-unary_fits : (op : UnaryOp) → unary_gates op ≤ unary_extra op
-unary_fits Neg = le_same 256
-unary_fits Not = le_same 0
-unary_fits Flip = le_same 64
 
 module _ (types : TypeTable) (σ : Sorts) (η : Heights) (old : List Shape) where
   abbrev C : Compiling → Visiting → Sorting → Type 0
@@ -79,7 +68,7 @@ module _ (types : TypeTable) (σ : Sorts) (η : Heights) (old : List Shape) wher
 
   pub unary_covers : (op : UnaryOp) (a : Compiling) (v : Visiting) (t : Sorting) → C a v t
       → C (λ k env reach. bind k (a k env reach) (λ n x alive. one (steps.Unary op x) n alive))
-      (λ o env. visit (shape (unary_result op) 0) ((v o env).events ++ node (unary_extra op)))
+      (λ o env. visit (shape (unary_result op) 0) ((v o env).events ++ node (unary_gates op)))
       (λ scope. unary_sort op (t scope))
   unary_covers op a v t ha k env reach shapes scope s are r h m =
       let q = unary_part op (t scope) s h in
@@ -93,10 +82,9 @@ module _ (types : TypeTable) (σ : Sorts) (η : Heights) (old : List Shape) wher
       (sym my.0.0 ∙ ap (λ z. unary_sort op (Some z)) hx.out.sort ∙ ap (unary_sort op) (sym q.1) ∙ h) in
       let low : η n ≤ 0 = subst (λ z. z ≤ 0) (sym my.0.1) (le_same 0) in
       let few = hx.few in
-      let fits = unary_fits op in
-      let cost_is = cost_of_both p.events (node (unary_extra op)) in
-      let node_is = cost_of_node (unary_extra op) in
-      covered types σ η k (joined x y) s (visit (shape (unary_result op) 0) (p.events ++ node (unary_extra op)))
+      let cost_is = cost_of_both p.events (node (unary_gates op)) in
+      let node_is = cost_of_node (unary_gates op) in
+      covered types σ η k (joined x y) s (visit (shape (unary_result op) 0) (p.events ++ node (unary_gates op)))
       (L k x + unary_gates op) (unary_is op (t scope) s h)
       (joined_few types σ η (H s 0) k x y (L k x) (unary_gates op) (le_same (L k x))
       (one_few types σ η (H s 0) (steps.Unary op x.out) n x.alive (record { sort = is; height = low }) hx.alive))

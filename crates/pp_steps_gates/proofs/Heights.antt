@@ -9,6 +9,7 @@ use Rattle.pp_prog.specs.declared.sort.Sort.TheVariants as sort
 use Rattle.pp_prog.specs.declared.types.TypeTable.{TypeTable}
 use Rattle.pp_prog.specs.Sizes.{height_at}
 use Rattle.pp_prog.specs.Values.{greatest}
+use Rattle.pp_steps.proofs.Counting.{less_suc, self_less}
 use Rattle.pp_steps.specs.declared.step.Step.{Step}
 use Rattle.pp_steps.specs.declared.step.Step.TheVariants as steps
 use Rattle.pp_steps.specs.Gates.{AllHigh, Heights, height_of}
@@ -27,12 +28,6 @@ set_here η k h = rw (eq-eqb k k refl) refl
 
 set_less : (η : Heights) (k h i : ℕ) → i < k → set η k h i ≡ η i
 set_less η k h i le = rw (nat_eq_less i k le) refl
-
-less_suc : (i k : ℕ) → i < k → i < suc k
-less_suc i k h = omega arith
-
-self_less : (k : ℕ) → k < suc k
-self_less k = omega arith
 
 pub height_at_most : (h : ℕ) (s : Sort) → height_at h s ≤ h
 height_at_most h sort.Int = omega arith

@@ -23,6 +23,7 @@ use Rattle.pp_estimate_laws.proofs.Numbers.{le_same, sum_grows}
 use Rattle.pp_estimate_laws.proofs.Sizes.{height_grows}
 use Rattle.pp_sound.specs.Sound.{IsCheckOf}
 use Rattle.pp_sound.proofs.Calls.{whole}
+use Rattle.pp_steps.proofs.Counting.{add_suc}
 use Rattle.pp_steps.specs.declared.step.Step.{Step}
 use Rattle.pp_steps.specs.declared.step.Step.TheVariants as steps
 use Rattle.pp_steps.specs.Frames.{any_of, arguments, inlined, numbers, open_step, run_steps, running}
@@ -34,7 +35,7 @@ use Rattle.pp_steps_exist.proofs.Laws.{runs_read}
 use Rattle.pp_steps_gates.specs.Laws.{FitsIn, RunsFitEstimates}
 use Rattle.pp_steps_gates.proofs.Deep.{Apart, Near, all_apart, all_near}
 use Rattle.pp_steps_gates.proofs.Heights.{height_at_most, solved, solved_flat, solved_high, solved_keeps, solved_low}
-use Rattle.pp_steps_gates.proofs.Pieces.{IsMade, add_suc, gates, gates_of_both, made_by_both, made_first, made_rest}
+use Rattle.pp_steps_gates.proofs.Pieces.{IsMade, gates, gates_of_both, made_by_both, made_first, made_rest}
 use Rattle.pp_steps_gates.proofs.Runs.{any_few, running_few}
 use Rattle.pp_steps_gates.proofs.Scopes.{Are}
 

@@ -4,7 +4,7 @@ use Rattle.std.proofs.Common.{◌≡◌, ℕ, suc, false, ◌+◌, ◌*◌, ◌�
 use Rattle.std.proofs.Common.{None, refl, sym, ap, ◌∙◌, subst, arith}
 use Rattle.std.proofs.lemmas.List.{length-map}
 use Rattle.std.proofs.Math.Nat.{min-le_left}
-use Rattle.pp_prog.specs.declared.expr.BinaryOp.TheVariants.{Equal}
+use Rattle.pp_tree.specs.declared.operator.BinaryOp.TheVariants.{Equal}
 use Rattle.pp_prog.specs.declared.id.CheckId.{CheckId}
 use Rattle.pp_prog.specs.declared.sort.Sort.{Sort}
 use Rattle.pp_prog.specs.declared.sort.Sort.TheVariants as sort

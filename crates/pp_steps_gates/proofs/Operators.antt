@@ -4,90 +4,45 @@ use Rattle.std.proofs.Common.{ap, ◌∙◌, subst, arith}
 use Rattle.std.proofs.lemmas.Option.{same_Some}
 use Rattle.std.proofs.Math.Nat.{add-zero, le-max_left, min-le_left}
 use Rattle.std.specs.Prelude.{pos}
-use Rattle.pp_prog.specs.declared.expr.BinaryOp.{BinaryOp}
-use Rattle.pp_prog.specs.declared.expr.BinaryOp.TheVariants.{Add, Sub, Mul, Div, Rem, Equal, Differ, Less, AtMost, More}
-use Rattle.pp_prog.specs.declared.expr.BinaryOp.TheVariants.{AtLeast, AndAlso, OrElse, And, Or, Xor, Shl, Shr, Ushr}
+use Rattle.pp_operators.specs.Classes.{class_of}
+use Rattle.pp_operators.specs.declared.class.OperatorClass.{OperatorClass}
+use Rattle.pp_operators.specs.declared.class.OperatorClass.TheVariants as class
+use Rattle.pp_tree.specs.declared.operator.BinaryOp.{BinaryOp}
+use Rattle.pp_tree.specs.declared.operator.BinaryOp.TheVariants.{Div, Rem, Equal, AndAlso, OrElse}
 use Rattle.pp_prog.specs.declared.id.CheckId.{CheckId}
 use Rattle.pp_prog.specs.declared.sort.Sort.{Sort}
 use Rattle.pp_prog.specs.declared.sort.Sort.TheVariants as sort
 use Rattle.pp_prog.specs.declared.types.TypeTable.{TypeTable}
-use Rattle.pp_prog.specs.ExprSorts.{Sorting, a_bool, alike, an_int, binary_sort, bits_sort, equality_sort, truth_sort}
+use Rattle.pp_prog.specs.ExprSorts.{Sorting, a_bool, alike, binary_sort, class_sort}
+use Rattle.pp_prog.specs.ExprSorts.{truth_sort}
 use Rattle.pp_prog.specs.Results.{operator_result}
 use Rattle.pp_prog.specs.Sizes.{bits, by_sort}
 use Rattle.pp_prog.proofs.Results.{binary_is}
 use Rattle.pp_estimate.specs.declared.shape.Shape.{Shape}
 use Rattle.pp_estimate.specs.Events.{cost}
-use Rattle.pp_estimate.specs.Visits.{Visiting, binary_extra, node, shape, visit}
+use Rattle.pp_estimate.specs.Visits.{Visiting, binary_extra, class_extra, node, shape, visit}
 use Rattle.pp_estimate_laws.proofs.Growth.{cost_of_both}
 use Rattle.pp_estimate_laws.proofs.Numbers.{le_same, le_then, plus_grows, times_grow}
 use Rattle.pp_estimate_laws.proofs.Sizes.{bits_grow}
-use Rattle.pp_prog.proofs.PartSorts.{alike_are, bool_then, int_then, sort_then}
+use Rattle.pp_prog.proofs.PartSorts.{alike_are, binary_parts, bool_then, sort_then}
 use Rattle.pp_steps.specs.declared.step.Step.TheVariants as steps
 use Rattle.pp_steps.specs.Compile.{Compiling, binary, one, quotient, skipping, unless, when}
-use Rattle.pp_steps.specs.Gates.{Heights, binary_gates, equality_gates}
+use Rattle.pp_steps.specs.Gates.{Heights, binary_gates, class_gates, equality_gates}
+use Rattle.pp_operators.specs.Gates.{number_gates}
 use Rattle.pp_steps.specs.Piece.{Piece, after, asks, bind, demand, joined, plain}
-use Rattle.pp_steps.specs.Sorted.{IsSorted, Sorts, operated_sort}
+use Rattle.pp_steps.specs.Sorted.{IsSorted, Sorts, class_operated, operated_sort}
 use Rattle.pp_steps_gates.proofs.Pieces.{Has, IsBit, IsFew, IsMade, choice_few, demand_few, joined_few, load, made_left}
 use Rattle.pp_steps_gates.proofs.Pieces.{made_one, made_right, one_few, unless_few, when_few}
 use Rattle.pp_steps_gates.proofs.Scopes.{Are, Covers, IsCovered, cost_of_node, covered}
 
--- both operands have sorts
-record Operands (o q : Option Sort) : Type 0 where
-  left : Sort
-  right : Sort
-  left_is : o ≡ Some left
-  right_is : q ≡ Some right
-
-numbers_are : (o q : Option Sort) (r s : Sort) → an_int o (an_int q (Some r)) ≡ Some s → Operands o q
-numbers_are o q r s h =
-    let a = int_then o (an_int q (Some r)) s h in
-    record { left = sort.Int; right = sort.Int; left_is = a.0; right_is = (int_then q (Some r) s a.1).0 }
-
-truths_are : (o q : Option Sort) (r s : Sort) → a_bool o (a_bool q (Some r)) ≡ Some s → Operands o q
-truths_are o q r s h =
-    let a = bool_then o (a_bool q (Some r)) s h in
-    record { left = sort.Bool; right = sort.Bool; left_is = a.0; right_is = (bool_then q (Some r) s a.1).0 }
-
-equals_are : (o q : Option Sort) (s : Sort) → equality_sort o q ≡ Some s → Operands o q
-equals_are o q s h =
-    let t = sort_then (alike o q) (λ u. Some sort.Bool) s h in
-    let both = alike_are o q t.0 t.1 in
-    record { left = t.0; right = t.0; left_is = both.0; right_is = both.1 }
-
-bits_are : (o q : Option Sort) (s : Sort) → bits_sort o q ≡ Some s → Operands o q
-bits_are None q s h = let no : None ≡ Some s = h in cc
-bits_are (Some sort.Int) q s h =
-    record { left = sort.Int; right = sort.Int; left_is = refl; right_is = (int_then q (Some sort.Int) s h).0 }
-bits_are (Some sort.Bool) q s h =
-    record { left = sort.Bool; right = sort.Bool; left_is = refl; right_is = (bool_then q (Some sort.Bool) s h).0 }
-bits_are (Some (sort.Tree d)) q s h = let no : None ≡ Some s = h in cc
-
-operands_are : (op : BinaryOp) (o q : Option Sort) (s : Sort) → binary_sort op o q ≡ Some s → Operands o q
-operands_are Add o q s h = numbers_are o q sort.Int s h
-operands_are Sub o q s h = numbers_are o q sort.Int s h
-operands_are Mul o q s h = numbers_are o q sort.Int s h
-operands_are Div o q s h = numbers_are o q sort.Int s h
-operands_are Rem o q s h = numbers_are o q sort.Int s h
-operands_are Equal o q s h = equals_are o q s h
-operands_are Differ o q s h = equals_are o q s h
-operands_are Less o q s h = numbers_are o q sort.Bool s h
-operands_are AtMost o q s h = numbers_are o q sort.Bool s h
-operands_are More o q s h = numbers_are o q sort.Bool s h
-operands_are AtLeast o q s h = numbers_are o q sort.Bool s h
-operands_are AndAlso o q s h = truths_are o q sort.Bool s h
-operands_are OrElse o q s h = truths_are o q sort.Bool s h
-operands_are And o q s h = bits_are o q s h
-operands_are Or o q s h = bits_are o q s h
-operands_are Xor o q s h = bits_are o q s h
-operands_are Shl o q s h = numbers_are o q sort.Int s h
-operands_are Shr o q s h = numbers_are o q sort.Int s h
-operands_are Ushr o q s h = numbers_are o q sort.Int s h
+class_binary : (c : OperatorClass) (o q : Option Sort) (s : Sort) → class_operated c o q ≡ Some s
+    → class_sort c o q ≡ Some s
+class_binary class.Logic o q s h = let no : None ≡ Some s = h in cc
+class_binary c o q s h = h
 
 pub operated_binary : (op : BinaryOp) (o q : Option Sort) (s : Sort) → operated_sort op o q ≡ Some s
     → binary_sort op o q ≡ Some s
-operated_binary AndAlso o q s h = let no : None ≡ Some s = h in cc
-operated_binary OrElse o q s h = let no : None ≡ Some s = h in cc
-operated_binary op o q s h = h
+operated_binary op o q s h = class_binary (class_of op) o q s h
 
 le_more : (n : ℕ) → n ≤ n + 64
 le_more n = omega arith
@@ -113,14 +68,15 @@ module _ (types : TypeTable) where
   bits_within sort.Bool n = omega arith
   bits_within (sort.Tree d) n = omega arith
 
+  class_fits : (c : OperatorClass) (s : Sort) (g h : ℕ) (p e : Shape) → p.sort ≡ s → g ≤ p.height
+      → class_gates types c (min g h) s ≤ class_extra types c p e + 64
+  class_fits class.Equality s g h p e is le = equality_within s g h p e is le
+  class_fits class.Bitwise s g h p e is le = bits_within s _
+  class_fits c s g h p e is le = le_more (number_gates c)
+
   operator_fits : (op : BinaryOp) (s : Sort) (g h : ℕ) (p e : Shape) → p.sort ≡ s → g ≤ p.height
       → binary_gates types op (min g h) s ≤ binary_extra types op p e + 64
-  operator_fits Equal s g h p e is le = equality_within s g h p e is le
-  operator_fits Differ s g h p e is le = equality_within s g h p e is le
-  operator_fits And s g h p e is le = bits_within s _
-  operator_fits Or s g h p e is le = bits_within s _
-  operator_fits Xor s g h p e is le = bits_within s _
-  operator_fits op s g h p e is le = le_more (binary_extra types op p e)
+  operator_fits op s g h p e is le = class_fits (class_of op) s g h p e is le
 
 module _ (types : TypeTable) (σ : Sorts) (η : Heights) (old : List Shape) where
   abbrev C : Compiling → Visiting → Sorting → Type 0
@@ -169,7 +125,7 @@ module _ (types : TypeTable) (σ : Sorts) (η : Heights) (old : List Shape) wher
         (λ m y going. one (steps.Binary op x y) m going))) (visited op v w)
         (λ scope. binary_sort op (t scope) (u scope))
     plain_covers k env reach shapes scope s are r h m =
-        let q = operands_are op (t scope) (u scope) s h in
+        let q = binary_parts op (t scope) (u scope) s h in
         let x = a k env reach in
         let n = after k x in
         let y = b n env x.alive in
@@ -179,11 +135,11 @@ module _ (types : TypeTable) (σ : Sorts) (η : Heights) (old : List Shape) wher
         let e = w old shapes in
         let my = made_right types σ η k x (joined y z) m in
         let mz = made_right types σ η n y z my in
-        let hx = ha k env reach shapes scope q.left are r q.left_is (made_left types σ η k x (joined y z) m) in
-        let hy = hb n env x.alive shapes scope q.right are hx.alive q.right_is (made_left types σ η n y z my) in
-        let is = step_has op x.out y.out i p.shape e.shape (t scope) (u scope) s q.left q.right h q.left_is q.right_is
+        let hx = ha k env reach shapes scope q.0.0 are r q.0.1 (made_left types σ η k x (joined y z) m) in
+        let hy = hb n env x.alive shapes scope q.1.0 are hx.alive q.1.1 (made_left types σ η n y z my) in
+        let is = step_has op x.out y.out i p.shape e.shape (t scope) (u scope) s q.0.0 q.1.0 h q.0.1 q.1.1
         hx.out hy.out mz.0.0 mz.0.1 in
-        let fits = step_fits op x.out y.out p.shape e.shape q.left hx.out hx.shape in
+        let fits = step_fits op x.out y.out p.shape e.shape q.0.0 hx.out hx.shape in
         let extra = binary_extra types op p.shape e.shape in
         let gates = binary_gates types op (min (η x.out) (η y.out)) (σ x.out) in
         let few_x = hx.few in
@@ -192,7 +148,7 @@ module _ (types : TypeTable) (σ : Sorts) (η : Heights) (old : List Shape) wher
         let two_is = cost_of_both p.events e.events in
         let three = cost_of_node extra in
         covered types σ η k (joined x (joined y z)) s (visited op v w old shapes) (L k x + (L n y + gates))
-        (result_is op (t scope) (u scope) p.shape.sort q.left s q.left_is hx.shape h)
+        (result_is op (t scope) (u scope) p.shape.sort q.0.0 s q.0.1 hx.shape h)
         (joined_few types σ η (H s 0) k x (joined y z) (L k x) (L n y + gates) (le_same (L k x))
         (joined_few types σ η (H s 0) n y z (L n y) gates (le_same (L n y))
         (one_few types σ η (H s 0) (steps.Binary op x.out y.out) i y.alive is hy.alive))) (omega arith)
@@ -210,7 +166,7 @@ module _ (types : TypeTable) (σ : Sorts) (η : Heights) (old : List Shape) wher
         bind n (b n env alive) (λ m y going. quotient asked op check m going x y))) (visited op v w)
         (λ scope. binary_sort op (t scope) (u scope))
     quotient_covers asked check k env reach shapes scope s are r h m =
-        let q = operands_are op (t scope) (u scope) s h in
+        let q = binary_parts op (t scope) (u scope) s h in
         let x = a k env reach in
         let n = after k x in
         let y = b n env x.alive in
@@ -227,14 +183,14 @@ module _ (types : TypeTable) (σ : Sorts) (η : Heights) (old : List Shape) wher
         let mf = made_right types σ η n y (joined f (joined d z)) my in
         let md = made_right types σ η i f (joined d z) mf in
         let mz = made_right types σ η j d z md in
-        let hx = ha k env reach shapes scope q.left are r q.left_is
+        let hx = ha k env reach shapes scope q.0.0 are r q.0.1
         (made_left types σ η k x (joined y (joined f (joined d z))) m) in
-        let hy = hb n env x.alive shapes scope q.right are hx.alive q.right_is
+        let hy = hb n env x.alive shapes scope q.1.0 are hx.alive q.1.1
         (made_left types σ η n y (joined f (joined d z)) my) in
         let hd = demand_few types σ η (asks asked check) j y.alive (suc (suc i)) (made_left types σ η j d z md) in
-        let is = step_has op x.out y.out l p.shape e.shape (t scope) (u scope) s q.left q.right h q.left_is q.right_is
+        let is = step_has op x.out y.out l p.shape e.shape (t scope) (u scope) s q.0.0 q.1.0 h q.0.1 q.1.1
         hx.out hy.out mz.0.0 mz.0.1 in
-        let fits = step_fits op x.out y.out p.shape e.shape q.left hx.out hx.shape in
+        let fits = step_fits op x.out y.out p.shape e.shape q.0.0 hx.out hx.shape in
         let zero_is = nonzero_fits y.out i mf.0.0.0 mf.1.0.0 in
         let extra = binary_extra types op p.shape e.shape in
         let gates = binary_gates types op (min (η x.out) (η y.out)) (σ x.out) in
@@ -246,7 +202,7 @@ module _ (types : TypeTable) (σ : Sorts) (η : Heights) (old : List Shape) wher
         let three = cost_of_node extra in
         covered types σ η k (joined x (joined y (joined f (joined d z)))) s (visited op v w old shapes)
         (L k x + (L n y + (64 + (3 + gates))))
-        (result_is op (t scope) (u scope) p.shape.sort q.left s q.left_is hx.shape h)
+        (result_is op (t scope) (u scope) p.shape.sort q.0.0 s q.0.1 hx.shape h)
         (joined_few types σ η (H s 0) k x (joined y (joined f (joined d z))) (L k x) _ (le_same (L k x))
         (joined_few types σ η (H s 0) n y (joined f (joined d z)) (L n y) _ (le_same (L n y))
         (joined_few types σ η (H s 0) i f (joined d z) 64 _ few_f

@@ -25,10 +25,11 @@ use Rattle.pp_estimate.specs.Visits.{Binding, bind_each, bind_step, bound, look_
 use Rattle.pp_estimate.specs.Visits.{pattern_step}
 use Rattle.pp_estimate_laws.proofs.Growth.{cost_of_both}
 use Rattle.pp_estimate_laws.proofs.Sizes.{height_grows}
+use Rattle.pp_steps.proofs.Counting.{add_suc}
 use Rattle.pp_steps.specs.Gates.{Heights, equality_gates}
 use Rattle.pp_steps.specs.Patterns.{Fitting, Matching, fit_fields, fitting, fitting_step}
 use Rattle.pp_steps.specs.Sorted.{Selects, Sorts}
-use Rattle.pp_steps_gates.proofs.Pieces.{IsMade, add_suc, gates, gates_of_both, made_first, made_rest}
+use Rattle.pp_steps_gates.proofs.Pieces.{IsMade, gates, gates_of_both, made_first, made_rest}
 use Rattle.pp_steps_gates.proofs.Scopes.{Are, IsOf, are_join}
 
 module _ (types : TypeTable) (σ : Sorts) (η : Heights) where

@@ -8,15 +8,13 @@ use Rattle.pp_prog.specs.declared.types.TypeTable.{TypeTable}
 use Rattle.pp_prog.specs.Sizes.{bits}
 use Rattle.pp_estimate_laws.proofs.Numbers.{le_same, le_then, plus_grows}
 use Rattle.pp_estimate_laws.proofs.Sizes.{bits_grow}
+use Rattle.pp_steps.proofs.Counting.{add_suc}
 use Rattle.pp_steps.specs.declared.step.Step.{Step}
 use Rattle.pp_steps.specs.declared.step.Step.TheVariants as steps
 use Rattle.pp_steps.specs.Compile.{one, unless, when}
 use Rattle.pp_steps.specs.Gates.{AllHigh, Heights, all_gates, choice_gates, gates_of, height_of}
 use Rattle.pp_steps.specs.Piece.{Piece, after, choice, demand, joined, pick_step, picked, plain}
 use Rattle.pp_steps.specs.Sorted.{AllSorted, IsSorted, Sorts}
-
-pub add_suc : (a b : ℕ) → a + suc b ≡ suc a + b
-add_suc a b = omega arith
 
 module _ (types : TypeTable) (σ : Sorts) (η : Heights) where
   -- each step has its sort and its height, where the first has the number k

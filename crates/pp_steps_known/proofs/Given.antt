@@ -8,6 +8,7 @@ use Rattle.std.proofs.lemmas.List.Elements.{All-append, All-cons, All-nil}
 use Rattle.pp_prog.specs.declared.types.Ctor.{Ctor}
 use Rattle.pp_prog.specs.declared.value.Value.{Value}
 use Rattle.pp_prog.specs.declared.value.Value.TheVariants.{Bool as Truth}
+use Rattle.pp_steps.proofs.Counting.{add_suc}
 use Rattle.pp_steps.specs.declared.step.Step.{Step}
 use Rattle.pp_steps.specs.declared.step.Step.TheVariants as steps
 use Rattle.pp_steps.specs.Compile.{unless, when}
@@ -16,9 +17,6 @@ use Rattle.pp_steps.specs.Meaning.{Missing, Obeys, Values, bit}
 use Rattle.pp_steps.specs.Piece.{Piece, after, choice, demand, joined, pick_step, picked, plain, possible}
 use Rattle.pp_steps_run.specs.Told.{Off, On}
 use Rattle.pp_steps_run.proofs.Pieces.{bit_truth, obeys_left, obeys_right}
-
-add_suc : (a b : ℕ) → a + suc b ≡ suc a + b
-add_suc a b = omega arith
 
 module _ (ρ : Values) (K : ℕ → Type 0) where
   tells_left : (k : ℕ) (xs ys : List Step) → AllTell ρ K k (xs ++ ys) → AllTell ρ K k xs

@@ -20,9 +20,6 @@ use Rattle.pp_steps_run.proofs.Lasting.{Lasts, lasts_first, told_either, told_th
 use Rattle.pp_steps_run.proofs.Pieces.{made_left, made_right, quiet_bind, quiet_plain, told_after}
 use Rattle.pp_steps_run.proofs.Rights.{IsRight}
 
-plus_zero : (a : ℕ) → a + 0 ≡ a
-plus_zero a = omega arith
-
 -- a value with this truth value is it
 truth_made : (o : layer.Value-F Value) (b : Bool) → truth_in o ≡ Ok b → o ≡ layer.Bool b
 truth_made (layer.Int n) b h = absurd (cc)

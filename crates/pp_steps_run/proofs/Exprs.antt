@@ -1,7 +1,7 @@
 -- The steps of each expression tell what it comes to.
 use Rattle.std.proofs.Common.{List, [], ◌∷◌, map, Option, Some, None, refl, sym, subst}
-use Rattle.pp_prog.specs.declared.expr.BinaryOp.{BinaryOp}
-use Rattle.pp_prog.specs.declared.expr.BinaryOp.TheVariants.{AndAlso, OrElse}
+use Rattle.pp_tree.specs.declared.operator.BinaryOp.{BinaryOp}
+use Rattle.pp_tree.specs.declared.operator.BinaryOp.TheVariants.{AndAlso, OrElse}
 use Rattle.pp_prog.specs.declared.expr.Case.{Case}
 use Rattle.pp_prog.specs.declared.expr.Expr.{Expr}
 use Rattle.pp_prog.specs.declared.expr.Expr.TheFolds.{fold-roll-Case, fold-roll-Expr, ind-Expr, map-Case, map-Expr}

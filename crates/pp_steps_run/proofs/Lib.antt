@@ -14,4 +14,4 @@ pub mod Exprs
 pub mod Measures
 pub mod Calls
 pub mod Runs
-mod Laws
+pub mod Laws

@@ -5,6 +5,7 @@ use Rattle.pp_prog.specs.declared.id.CheckId.{CheckId}
 use Rattle.pp_prog.specs.declared.types.Ctor.{Ctor}
 use Rattle.pp_eval.specs.declared.outcome.Stop.{Stop}
 use Rattle.pp_eval.specs.Part.{Part, and_then}
+use Rattle.pp_steps.proofs.Counting.{add_suc, plus_zero}
 use Rattle.pp_steps.specs.declared.step.Step.{Step}
 use Rattle.pp_steps.specs.Meaning.{Missing, Obeys, Values}
 use Rattle.pp_steps.specs.Piece.{Piece, after, joined, plain}
@@ -32,12 +33,6 @@ module _ {A : Type 0} (p : A → Type 0) where
   pub some_right : (xs ys : List A) → SomeOf p ys → SomeOf p (xs ++ ys)
   some_right [] ys h = h
   some_right (x ∷ xs) ys h = there (some_right xs ys h)
-
-plus_zero : (a : ℕ) → a + 0 ≡ a
-plus_zero a = omega arith
-
-add_suc : (a b : ℕ) → a + suc b ≡ suc a + b
-add_suc a b = omega arith
 
 module _ (ctors : List Ctor) (missing : Missing) (ρ : Values) where
   pub obeys_left : (k : ℕ) (xs ys : List Step) → Obeys ctors missing ρ k (xs ++ ys) → Obeys ctors missing ρ k xs

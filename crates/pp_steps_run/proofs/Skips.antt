@@ -9,6 +9,7 @@ use Rattle.pp_eval.specs.declared.outcome.Stop.TheVariants.{Fails}
 use Rattle.pp_eval.specs.Meaning.{Frame, Meaning}
 use Rattle.pp_eval.specs.Part.{Part, either}
 use Rattle.pp_eval.proofs.Extends.{either_extends}
+use Rattle.pp_steps.proofs.Counting.{plus_zero}
 use Rattle.pp_steps.specs.Meaning.{Missing, Values, bit}
 use Rattle.pp_steps.specs.Compile.{Compiling, skipping, unless, when}
 use Rattle.pp_steps.specs.Piece.{Piece, after, asks, bind, choice, demand, joined, plain}
@@ -20,9 +21,6 @@ use Rattle.pp_steps_run.proofs.Choices.{when_off, when_on}
 use Rattle.pp_steps_run.proofs.Lasting.{Lasts}
 use Rattle.pp_steps_run.proofs.Pieces.{made_left, made_right, quiet_bind, quiet_plain, told_after, told_stop}
 use Rattle.pp_steps_run.proofs.Rights.{IsRight}
-
-plus_zero : (a : ℕ) → a + 0 ≡ a
-plus_zero a = omega arith
 
 module _ (ctors : List Ctor) (missing : Missing) (ρ : Values) (asked : Option CheckId)
     (frame : Frame) where

@@ -3,8 +3,8 @@ use Rattle.std.proofs.Common.{◌≡◌, ℕ, suc, Bool, true, false, List, [], 
 use Rattle.std.proofs.Common.{subst}
 use Rattle.std.specs.Prelude.{pos, not}
 use Rattle.std.specs.Ordering.{int_eq}
-use Rattle.pp_prog.specs.declared.expr.BinaryOp.{BinaryOp}
-use Rattle.pp_prog.specs.declared.expr.BinaryOp.TheVariants.{Div, Rem, Equal}
+use Rattle.pp_tree.specs.declared.operator.BinaryOp.{BinaryOp}
+use Rattle.pp_tree.specs.declared.operator.BinaryOp.TheVariants.{Div, Rem, Equal}
 use Rattle.pp_prog.specs.declared.id.CheckId.{CheckId}
 use Rattle.pp_prog.specs.declared.types.Ctor.{Ctor}
 use Rattle.pp_prog.specs.declared.value.Value.{Value}

@@ -9,6 +9,7 @@ use Rattle.pp_prog.specs.declared.sort.Sort.TheVariants as sort
 use Rattle.pp_prog.specs.declared.types.Ctor.{Ctor}
 use Rattle.pp_prog.specs.declared.types.TypeTable.{TypeTable}
 use Rattle.pp_prog.specs.ExprSorts.{a_tree, field_of_ctor, field_sort, unary_sort}
+use Rattle.pp_steps.proofs.Counting.{less_suc, self_less}
 use Rattle.pp_steps.specs.declared.step.Step.{Step}
 use Rattle.pp_steps.specs.declared.step.Step.TheVariants as steps
 use Rattle.pp_steps.specs.Reads.{AllRead, Reads}
@@ -71,12 +72,6 @@ updated_here σ k s = rw (eq-eqb k k refl) refl
 
 updated_before : (σ : Sorts) (k : ℕ) (s : Sort) (i : ℕ) → i < k → updated σ k s i ≡ σ i
 updated_before σ k s i h = rw (nat_eq_less i k h) refl
-
-less_suc : (i k : ℕ) → i < k → i < suc k
-less_suc i k h = omega arith
-
-self_less : (k : ℕ) → k < suc k
-self_less k = omega arith
 
 module _ (types : TypeTable) where
   -- the sorts of steps, the first of which has the number k, after those of the earlier ones

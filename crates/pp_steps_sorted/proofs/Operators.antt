@@ -1,17 +1,16 @@
 -- The steps of operators are well sorted where those of the operands are.
 use Rattle.std.proofs.Common.{◌≡◌, ℕ, suc, ◌+◌, List, [], ◌∷◌, Option, Some, refl, sym, ap, ◌∙◌, subst, arith}
 use Rattle.std.specs.Prelude.{pos}
-use Rattle.pp_prog.specs.declared.expr.BinaryOp.{BinaryOp}
-use Rattle.pp_prog.specs.declared.expr.BinaryOp.TheVariants.{Equal, AndAlso, OrElse, Div, Rem}
-use Rattle.pp_prog.specs.declared.expr.UnaryOp.{UnaryOp}
+use Rattle.pp_tree.specs.declared.operator.BinaryOp.{BinaryOp}
+use Rattle.pp_tree.specs.declared.operator.BinaryOp.TheVariants.{Equal, AndAlso, OrElse, Div, Rem}
+use Rattle.pp_tree.specs.declared.operator.UnaryOp.{UnaryOp}
 use Rattle.pp_prog.specs.declared.id.CheckId.{CheckId}
 use Rattle.pp_prog.specs.declared.sort.Sort.{Sort}
 use Rattle.pp_prog.specs.declared.sort.Sort.TheVariants as sort
 use Rattle.pp_prog.specs.declared.types.TypeTable.{TypeTable}
-use Rattle.pp_prog.specs.ExprSorts.{a_bool, an_int, binary_sort, truth_sort}
-use Rattle.pp_prog.specs.ExprSorts.{unary_sort}
-use Rattle.pp_prog.proofs.PartSorts.{bool_then, int_then}
-use Rattle.pp_sound.proofs.Operands.{operand, operands}
+use Rattle.pp_prog.specs.ExprSorts.{a_bool, an_int, binary_sort, truth_sort, unary_sort}
+use Rattle.pp_prog.proofs.PartSorts.{binary_parts, bool_then, int_then, unary_part}
+use Rattle.pp_steps.proofs.Counting.{plus_zero}
 use Rattle.pp_steps.specs.declared.step.Step.TheVariants as steps
 use Rattle.pp_steps.specs.Compile.{Compiling, binary, one, operating, quotient, skipping, unless, when}
 use Rattle.pp_steps.specs.Piece.{Piece, after, asks, bind, choice, demand, plain}
@@ -36,9 +35,6 @@ same_operated : (op : BinaryOp) (a b t u : Sort) → a ≡ t → b ≡ u
     → operated_sort op (Some a) (Some b) ≡ operated_sort op (Some t) (Some u)
 same_operated op a b t u e f =
     ap (λ v. operated_sort op (Some v) (Some b)) e ∙ ap (λ v. operated_sort op (Some t) (Some v)) f
-
-plus_zero : (a : ℕ) → a + 0 ≡ a
-plus_zero a = omega arith
 
 module _ (types : TypeTable) (σ : Sorts) where
   -- ---- the operator itself
@@ -86,7 +82,7 @@ module _ (types : TypeTable) (σ : Sorts) where
       → ((t : Sort) → q ≡ Some t → Compiles types σ scope t b)
       → binary_sort op o q ≡ Some s → Compiles types σ scope s (binary asked op a b check)
   binary_compiles asked op check a b scope o q s ha hb h =
-      let both = operands op o q s h in
+      let both = binary_parts op o q s h in
       on_sorts asked op check a b scope both.0.0 both.1.0 s (ha both.0.0 both.0.1) (hb both.1.0 both.1.1)
       (sym (ap (λ v. binary_sort op v q) both.0.1 ∙ ap (λ v. binary_sort op (Some both.0.0) v) both.1.1) ∙ h)
     where
@@ -117,7 +113,7 @@ module _ (types : TypeTable) (σ : Sorts) where
       → ((t : Sort) → o ≡ Some t → Compiles types σ scope t a) → unary_sort op o ≡ Some s
       → Compiles types σ scope s (λ k env reach. bind k (a k env reach) (λ n x alive. one (steps.Unary op x) n alive))
   unary_compiles op a scope o s ha h k env reach e r =
-      let has = operand op o s h in
+      let has = unary_part op o s h in
       let there = sym (ap (unary_sort op) has.1) ∙ h in
       joined_sorted types σ k (a k env reach) _ (ha has.0 has.1 k env reach e r)
       (λ x. one_sorted types σ (steps.Unary op _) s _ _

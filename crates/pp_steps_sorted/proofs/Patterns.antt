@@ -16,6 +16,7 @@ use Rattle.pp_prog.specs.PatternSorts.{Binding, bind_fields, bind_step, bound_so
 use Rattle.pp_prog.specs.Sorts.{is_int, same_sort}
 use Rattle.pp_prog.proofs.ValueSorts.{one_sort}
 use Rattle.pp_sound.proofs.Binding.{bind_then, none_binds, tree_binds}
+use Rattle.pp_steps.proofs.Counting.{plus_zero, zero_plus}
 use Rattle.pp_steps.specs.declared.step.Step.{Step}
 use Rattle.pp_steps.specs.declared.step.Step.TheVariants as steps
 use Rattle.pp_steps.specs.Patterns.{Fitting, Matching, equals, fit_fields, fitting, fitting_step}
@@ -23,12 +24,6 @@ use Rattle.pp_steps.specs.Sorted.{AllSorted, Sorts}
 use Rattle.pp_steps_sorted.proofs.Assigned.{AllAssigned, assigned_parts}
 use Rattle.pp_steps_sorted.proofs.Pieces.{AreBool, AreOf, Makes, bool_join, of_join, sorted_join}
 use Rattle.pp_steps_sorted.proofs.Steps.{equal_makes, select_makes}
-
-plus_zero : (j : ℕ) → j + 0 ≡ j
-plus_zero j = omega arith
-
-zero_plus : (i : ℕ) → 0 + i ≡ i
-zero_plus i = omega arith
 
 plus_suc : (j i : ℕ) → suc j + i ≡ j + suc i
 plus_suc j i = omega arith

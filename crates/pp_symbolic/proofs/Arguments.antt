@@ -15,6 +15,7 @@ use Rattle.pp_domain.specs.declared.symbol.Symbol.{Symbol}
 use Rattle.pp_domain.specs.Naming.{Naming}
 use Rattle.pp_domain.specs.Sense.{Sense}
 use Rattle.pp_domain.specs.Symbols.{AreSymbols, IsSymbol, SymbolStands, SymbolsStand, symbol_height}
+use Rattle.pp_steps.proofs.Counting.{add_suc, plus_zero}
 use Rattle.pp_steps.specs.declared.step.Step.{Step}
 use Rattle.pp_steps.specs.Frames.{numbers, open_step}
 use Rattle.pp_steps.specs.Known.{AllTell}
@@ -22,12 +23,6 @@ use Rattle.pp_steps.specs.Meaning.{Values}
 use Rattle.pp_steps.specs.Sorted.{Sorts}
 use Rattle.pp_steps_run.specs.Told.{AreValues}
 use Rattle.pp_build.specs.Registers.{IsKnown}
-
-plus_zero : (k : ℕ) → k + 0 ≡ k
-plus_zero k = omega arith
-
-add_suc : (k n : ℕ) → k + suc n ≡ suc k + n
-add_suc k n = omega arith
 
 -- ---- lists from a number on
 

@@ -25,6 +25,7 @@ use Rattle.pp_domain.specs.Sense.{Sense, Good}
 use Rattle.pp_domain.specs.Symbols.{IsSymbol, SymbolsStand}
 use Rattle.pp_domain.proofs.Composition.{Moves_more, Moves_weaker}
 use Rattle.pp_domain.proofs.Symbols.{AreSymbols_later, SymbolsStand_later}
+use Rattle.pp_steps.proofs.Counting.{zero_plus}
 use Rattle.pp_steps.specs.declared.step.Step.{Step}
 use Rattle.pp_steps.specs.Frames.{numbers, open_step}
 use Rattle.pp_steps.specs.Gates.{AllHigh, all_gates, open_gates}
@@ -40,9 +41,6 @@ use Rattle.pp_build.specs.Unknown.{AreUnknown}
 use Rattle.pp_symbolic.specs.Evaluated.{AllKnown, CanEvaluate, IsEvaluated}
 use Rattle.pp_symbolic.proofs.Arguments.{as_many, height_of, known_from, opens_tell, registers_first, sort_at}
 use Rattle.pp_symbolic.proofs.Arguments.{sorts_from, symbol_of}
-
-zero_plus : (k : ℕ) → 0 + k ≡ k
-zero_plus k = omega arith
 
 same_most : (a b c : ℕ) → a ≡ b → b ≤ c → a ≤ c
 same_most a b c e h = omega arith

@@ -21,7 +21,7 @@ use Rattle.pp_sound.specs.Sound.{IsCheckOf}
 use Rattle.pp_checks.specs.Plan.{IsPlanOf, Plan}
 use Rattle.pp_estimate.specs.Cut.{top}
 use Rattle.pp_estimate.specs.Estimates.{estimate, single, sum_below}
-use Rattle.pp_estimate_laws.specs.Laws.{GrowsWithDepth, SumsRounds}
+use Rattle.pp_estimate_laws.proofs.Estimates.{grows_with_depth, sums_rounds}
 use Rattle.pp_induction.specs.Ends.{GuessFails}
 use Rattle.pp_domain.specs.Answers.{Fresh}
 use Rattle.pp_domain.specs.Laws.{Lawful}
@@ -31,8 +31,11 @@ use Rattle.pp_domain.proofs.Composition.{Moves_weaker}
 use Rattle.pp_steps.specs.declared.step.Step.{Step}
 use Rattle.pp_steps.specs.Guesses.{GuessSteps, guess_steps}
 use Rattle.pp_steps.specs.Meaning.{Does, Missing, Obeys, Values}
-use Rattle.pp_guess_steps.specs.Laws.{GuessesAreSorted, GuessesRead, HaveGuessSorts}
-use Rattle.pp_guess_gates.specs.Laws.{FitIn, GuessesFit}
+use Rattle.pp_guess_steps.specs.Laws.{HaveGuessSorts}
+use Rattle.pp_guess_steps.proofs.Existing.{guesses_read}
+use Rattle.pp_guess_steps.proofs.RoundsSorted.{guesses_are_sorted}
+use Rattle.pp_guess_gates.specs.Laws.{FitIn}
+use Rattle.pp_guess_gates.proofs.Laws.{guesses_fit}
 use Rattle.pp_guess_gates.specs.Measure.{round_gates}
 use Rattle.pp_guess_values.specs.NamedGuess.{IsNamedGuess, IsShort, all_looked_at, fields_at}
 use Rattle.pp_guess_values.proofs.Looking.{guess_looks_before}
@@ -67,14 +70,6 @@ same_owner p i j c one other =
     let check = same_Some one.check other.check (sym one.listed ∙ other.listed) in
     sym one.owner ∙ ap (λ (k : Check). k.function.0) check ∙ other.owner
 
--- what is known of the steps of guess runs and of estimates
-pub record GuessLaws : Type 0 where
-  pub read : GuessesRead
-  pub sorted : GuessesAreSorted
-  pub fit : GuessesFit
-  pub sums : SumsRounds
-  pub deep : GrowsWithDepth
-
 below_top : (a b : ℕ) → a ≤ b → b ≤ 4000000 → a < top
 below_top a b le small = omega (arith, le, small)
 
@@ -91,7 +86,7 @@ and_first false b h = h
 
 module _ {D T : Type 0} (m : Sense D T) (law : Lawful m) (inexact : m.exact ≡ false) (p : Program) (plan : Plan)
     (is_plan : IsPlanOf plan p) (c : CheckId) (f : Function) (own : IsOwner p c f) (round depth : ℕ) (some : 1 ≤ depth)
-    (small : estimate p.types p.functions p.checks c.0 round depth ≤ 4000000) (laws : GuessLaws) (d : D)
+    (small : estimate p.types p.functions p.checks c.0 round depth ≤ 4000000) (d : D)
     (gs : List Gate) (fresh : Fresh m p.types d gs) (one : length gs ≡ 1)
   where
     abbrev G : GuessSteps
@@ -105,18 +100,18 @@ module _ {D T : Type 0} (m : Sense D T) (law : Lawful m) (inexact : m.exact ≡ 
     most = estimate p.types p.functions p.checks c.0 round depth
 
     have : HaveGuessSorts p.types G (param_sorts f.params)
-    have = laws.sorted plan p is_plan own.number f own.here c round
+    have = guesses_are_sorted plan p is_plan own.number f own.here c round
 
     fits : FitIn p.types have.sorts G (single p.types p.functions f round 1)
-    fits = laws.fit plan p is_plan own.number f own.here c round have
+    fits = guesses_fit plan p is_plan own.number f own.here c round have
 
     -- the round by itself, on the least arguments, is estimated at no more
     single_most : single p.types p.functions f round 1 ≤ most
     single_most =
-        let lower = laws.deep p.types p.functions p.checks c.0 round 1 depth some in
+        let lower = grows_with_depth p.types p.functions p.checks c.0 round 1 depth some in
         let here : slice_get p.functions own.owner.check.function.0 ≡ Some f =
         ap (slice_get p.functions) own.owner.owner ∙ own.here in
-        let sums = laws.sums p.types p.functions p.checks c.0 round 1 own.owner.check f own.owner.listed here
+        let sums = sums_rounds p.types p.functions p.checks c.0 round 1 own.owner.check f own.owner.listed here
         (below_top _ most lower small) in
         last_round (sum_below round (λ r. single p.types p.functions f r 1)) (single p.types p.functions f round 1)
         (estimate p.types p.functions p.checks c.0 round 1) most sums lower
@@ -127,8 +122,8 @@ module _ {D T : Type 0} (m : Sense D T) (law : Lawful m) (inexact : m.exact ≡ 
     can_steps : Can G
     can_steps = record {
       have = have;
-      reads = laws.read p.functions f c round;
-      enough = enough_steps laws.read p.functions f c round;
+      reads = guesses_read p.functions f c round;
+      enough = enough_steps guesses_read p.functions f c round;
       looks = guess_looks_before p.functions f c round;
       room = (let few = few_gates in omega (arith, few, one, small));
     }

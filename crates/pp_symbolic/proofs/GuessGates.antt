@@ -1,33 +1,34 @@
 -- The steps of a guess run take no more gates than their measure says, in a domain that isn't exact; and what has to be
 -- named is paid by it.
-use Rattle.std.proofs.Common.{◌≡◌, ℕ, zero, suc, ◌+◌, ◌*◌, ◌<◌, ◌≤◌, ◌^◌, max, min, nat_eq, nat_le, nat_lt, Bool, true}
-use Rattle.std.proofs.Common.{false, ◌||◌, if◌then◌else◌, List, [], ◌∷◌, ◌++◌, drop, take, length, map, Option, None}
-use Rattle.std.proofs.Common.{Some, refl, sym, ap, ◌∙◌, subst, arith, slice_get}
-use Rattle.std.specs.Prelude.{sum}
-use Rattle.std.specs.List.{sum_by}
-use Rattle.std.proofs.lemmas.Bool.{and_parts}
 use Rattle.std.proofs.lemmas.List.{map-append}
+use Rattle.std.proofs.lemmas.Bool.{and_parts}
+use Rattle.std.specs.Prelude.{sum}
+use Rattle.std.proofs.Common.{◌≡◌, ℕ, suc, ◌+◌, ◌*◌, ◌≤◌, max, min, nat_eq, Bool, true, false, ◌||◌, if◌then◌else◌}
+use Rattle.std.proofs.Common.{List, [], ◌∷◌, ◌++◌, take, length, refl, sym, ap, ◌∙◌, subst, arith}
+use Rattle.std.proofs.Common.{zero, ◌<◌, ◌^◌, nat_le, nat_lt, drop, map, Option, None, Some, slice_get}
+use Rattle.std.specs.List.{sum_by}
 use Rattle.std.proofs.lemmas.List.Sums.{sum_by-append, sum_by-cons}
-use Rattle.pp_prog.specs.declared.expr.BinaryOp.{BinaryOp}
-use Rattle.pp_prog.specs.declared.expr.BinaryOp.TheVariants.{Add, Sub, Mul, Div, Rem, Equal, Differ, Less, AtMost, More}
-use Rattle.pp_prog.specs.declared.expr.BinaryOp.TheVariants.{AtLeast, AndAlso, OrElse, And, Or, Xor, Shl, Shr, Ushr}
+use Rattle.pp_operators.specs.declared.class.OperatorClass.{OperatorClass}
+use Rattle.pp_operators.specs.declared.class.OperatorClass.TheVariants as class
+use Rattle.pp_tree.specs.declared.operator.BinaryOp.{BinaryOp}
 use Rattle.pp_prog.specs.declared.id.DataId.{DataId}
 use Rattle.pp_prog.specs.declared.sort.Sort.{Sort}
 use Rattle.pp_prog.specs.declared.sort.Sort.TheVariants as sort
 use Rattle.pp_prog.specs.declared.types.TypeTable.{TypeTable}
-use Rattle.pp_prog.specs.Sizes.{bits, by_sort, flat, nodes, width}
+use Rattle.pp_prog.specs.Sizes.{bits, by_sort, flat, width, nodes}
 use Rattle.pp_domain.specs.Allowance.{bits_at, equality_gates, look_gates, nodes_at, times}
 use Rattle.pp_domain.specs.Sense.{Sense}
 use Rattle.pp_steps.specs.declared.step.Step.{Step}
 use Rattle.pp_steps.specs.declared.step.Step.TheVariants as steps
 use Rattle.pp_steps.specs.Gates.{Heights, binary_gates}
+use Rattle.pp_steps.specs.Gates as steps_gates
 use Rattle.pp_steps.specs.Sorted.{Sorts}
-use Rattle.pp_build_operators.specs.Budget.{is_equality}
+use Rattle.pp_operators.specs.Classes.{class_is_equality, class_of, is_equality}
 use Rattle.pp_build.specs.StepGates.{AtMostIn, all_step_gates, compared, is_seen, looked, looked_trees, one_look}
 use Rattle.pp_build.specs.StepGates.{opened_gates, step_gates, tree_of}
 use Rattle.pp_build.proofs.StepGates.{all_step_gates_le, more_times_all}
-use Rattle.pp_guess_gates.specs.Measure.{datatype_in, gates_after, newly_compared, newly_looked, operator_gates}
-use Rattle.pp_guess_gates.specs.Measure.{round_gates}
+use Rattle.pp_guess_gates.specs.Measure.{class_gates, datatype_in, gates_after, newly_compared, newly_looked}
+use Rattle.pp_guess_gates.specs.Measure.{operator_gates, round_gates}
 use Rattle.pp_guess_values.specs.LooksBefore.{LooksBefore}
 use Rattle.pp_guess_values.specs.NamedGuess.{all_looked_at, fields_at, looked_at}
 
@@ -163,28 +164,23 @@ module _ {D T : Type 0} (m : Sense D T) (types : TypeTable) (inexact : m.exact �
   equal_most h (sort.Tree of) =
       le_same _ 64 (ap (λ (b : Bool). if b then 4 * (32 + bits types h (sort.Tree of)) else 64) inexact)
 
+  class_most : (c : OperatorClass) (h : ℕ) (s : Sort)
+      → (if class_is_equality c then by_sort 64 1 (λ of. equality_gates m types of h) s
+      else steps_gates.class_gates types c 0 s)
+      ≤ class_gates types c s
+  class_most class.Equality h s = equal_most h s
+  class_most class.Sum h s = le_self _
+  class_most class.Product h s = le_self _
+  class_most class.Quotient h s = le_self _
+  class_most class.Order h s = le_self _
+  class_most class.Logic h s = le_self _
+  class_most class.Bitwise h s = le_self _
+  class_most class.Shift h s = le_self _
+
   operator_most : (op : BinaryOp) (h : ℕ) (s : Sort)
       → (if is_equality op then by_sort 64 1 (λ of. equality_gates m types of h) s else binary_gates types op 0 s)
       ≤ operator_gates types op s
-  operator_most Equal h s = equal_most h s
-  operator_most Differ h s = equal_most h s
-  operator_most Add h s = le_self _
-  operator_most Sub h s = le_self _
-  operator_most Mul h s = le_self _
-  operator_most Div h s = le_self _
-  operator_most Rem h s = le_self _
-  operator_most Less h s = le_self _
-  operator_most AtMost h s = le_self _
-  operator_most More h s = le_self _
-  operator_most AtLeast h s = le_self _
-  operator_most AndAlso h s = le_self _
-  operator_most OrElse h s = le_self _
-  operator_most And h s = le_self _
-  operator_most Or h s = le_self _
-  operator_most Xor h s = le_self _
-  operator_most Shl h s = le_self _
-  operator_most Shr h s = le_self _
-  operator_most Ushr h s = le_self _
+  operator_most op h s = class_most (class_of op) h s
 
   look_most : (looks : List DataId) (c : ℕ) (s : Sort)
       → by_sort 0 0 (one_look m types looks c) s ≤ by_sort 0 0 (look_gates types looks c) s

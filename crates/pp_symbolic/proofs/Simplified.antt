@@ -11,6 +11,7 @@ use Rattle.pp_prog.specs.declared.types.TypeTable.{TypeTable}
 use Rattle.pp_prog.specs.declared.value.Value.{Value}
 use Rattle.pp_prog.specs.Sizes.{height_at}
 use Rattle.pp_gate.specs.declared.gate.Gate.{Gate}
+use Rattle.pp_steps.proofs.Counting.{add_suc, plus_zero}
 use Rattle.pp_steps.specs.declared.step.Step.{Step}
 use Rattle.pp_steps.specs.Frames.{numbers, open_step}
 use Rattle.pp_steps.specs.Gates.{open_gates}
@@ -74,12 +75,6 @@ no_later h l e = omega arith
 
 plus_none : (k : ℕ) → k ≡ 0 + k
 plus_none k = omega arith
-
-plus_zero : (k : ℕ) → k + 0 ≡ k
-plus_zero k = omega arith
-
-add_suc : (k n : ℕ) → k + suc n ≡ suc k + n
-add_suc k n = omega arith
 
 some_at : {X : Type 0} (xs : List X) (k : ℕ) → k < length xs → (x : X) × (slice_get xs k ≡ Some x)
 some_at [] k lt = absurd (omega arith)

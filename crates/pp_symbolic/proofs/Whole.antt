@@ -18,10 +18,10 @@ use Rattle.pp_domain.proofs.Composition.{Moves_weaker}
 use Rattle.pp_estimate.specs.Estimates.{estimate}
 use Rattle.pp_steps.specs.declared.step.Step.{Step}
 use Rattle.pp_steps.specs.Frames.{run_steps}
-use Rattle.pp_steps_exist.specs.Laws.{RunsAsk, RunsExist, RunsRead}
-use Rattle.pp_steps_gates.specs.Laws.{RunsFitEstimates}
-use Rattle.pp_steps_run.specs.Laws.{TellRuns}
-use Rattle.pp_steps_sorted.specs.Laws.{RunsAreSorted}
+use Rattle.pp_steps_exist.proofs.Laws.{runs_ask, runs_exist, runs_read}
+use Rattle.pp_steps_gates.proofs.Laws.{runs_fit_estimates}
+use Rattle.pp_steps_run.proofs.Laws.{tell_runs}
+use Rattle.pp_steps_sorted.proofs.Laws.{runs_are_sorted}
 use Rattle.pp_symbolic.specs.declared.frame.Frame.{Frame}
 use Rattle.pp_symbolic.specs.Evaluated.{CanEvaluate, IsEvaluated}
 use Rattle.pp_symbolic.specs.Frame.{IsFrame, IsOwner}
@@ -33,15 +33,6 @@ use Rattle.pp_simplify_laws.proofs.Following.{follows_folded, follows_more, foll
 use Rattle.pp_symbolic.proofs.Simplified.{arguments_stand, can_folded, can_pruned}
 use Rattle.pp_symbolic.proofs.RunFrame.{FollowRun, is_frame, nothing_open}
 
--- the laws of steps that the evaluation rests on
-pub record StepLaws : Type 0 where
-  pub tell : TellRuns
-  pub exist : RunsExist
-  pub read : RunsRead
-  pub ask : RunsAsk
-  pub sorted : RunsAreSorted
-  pub fit : RunsFitEstimates
-
 -- the number that stands for the step with this one, once the steps are folded
 abbrev pub name_in : List Step → ℕ → ℕ
 name_in ss k = named (all_folded ss).names k
@@ -52,7 +43,7 @@ less_all e = omega arith
 size_after : (g h e : ℕ) → g ≡ 1 → 1 ≤ e → h ≤ g + (e - 1) → h ≤ e
 size_after g h e one some grown = omega arith
 
-module _ {D T : Type 0} (m : Sense D T) (law : Lawful m) (laws : StepLaws) (p : Program) (plan : Plan)
+module _ {D T : Type 0} (m : Sense D T) (law : Lawful m) (p : Program) (plan : Plan)
     (is_plan : IsPlanOf plan p) (c : CheckId) (f : Function) (own : IsOwner p c f) (round depth : ℕ)
     (some : 1 ≤ depth) (small : estimate p.types p.functions p.checks c.0 round depth ≤ 4000000)
     (r : Run) (is : IsRunOf (run_steps p.functions f c round) r) (few : length r.steps < 2 ^ 32)
@@ -66,7 +57,8 @@ module _ {D T : Type 0} (m : Sense D T) (law : Lawful m) (laws : StepLaws) (p : 
 
     can_steps : Can (run_steps p.functions f c round).steps (run_steps p.functions f c round).fails (most - 1)
     can_steps = can_evaluate p f c round plan is_plan own.number own.here own.owner depth some small
-        (subst (λ (ss : List Step). length ss < 2 ^ 32) is.steps few) laws.sorted laws.fit laws.read laws.ask gs one
+        (subst (λ (ss : List Step). length ss < 2 ^ 32) is.steps few) runs_are_sorted runs_fit_estimates runs_read
+        runs_ask gs one
 
     pub can_run : Can r.steps r.fails (most - 1)
     can_run = subst (λ k. Can r.steps k (most - 1)) (sym is.fails)
@@ -77,7 +69,8 @@ module _ {D T : Type 0} (m : Sense D T) (law : Lawful m) (laws : StepLaws) (p : 
 
     some_most : 1 ≤ most
     some_most = some_gates p f c round plan is_plan own.number own.here own.owner depth some small
-        (subst (λ (ss : List Step). length ss < 2 ^ 32) is.steps few) laws.sorted laws.fit laws.read laws.ask
+        (subst (λ (ss : List Step). length ss < 2 ^ 32) is.steps few) runs_are_sorted runs_fit_estimates runs_read
+        runs_ask
 
     -- where the steps were folded and pruned
     module _ (new : List Step) (next : ℕ) (is_next : next ≡ name_in r.steps r.fails)
@@ -112,7 +105,7 @@ module _ {D T : Type 0} (m : Sense D T) (law : Lawful m) (laws : StepLaws) (p : 
         follow ρ obeys =
             let many = length (param_sorts f.params) in
             let folds = follows_folded p.types.ctors nothing_open (param_sorts f.params) (behind p f c round) asked
-            steps_of_run ρ (steps_split p f c round) (laws.read p.functions f c round) obeys in
+            steps_of_run ρ (steps_split p f c round) (runs_read p.functions f c round) obeys in
             follows_more p.types.ctors nothing_open many asked name name steps_of_run
             (all_folded steps_of_run).steps new
             ρ folds
@@ -141,7 +134,7 @@ module _ {D T : Type 0} (m : Sense D T) (law : Lawful m) (laws : StepLaws) (p : 
               let at_name = subst (λ ss. Evaluates frame (name_in ss asked)) is.steps
               (subst (λ j. Evaluates frame (name_in r.steps j)) is.fails
               (subst (λ j. Evaluates frame j) is_next (evaluates (most - 1) can_new))) in
-              is_frame m p c round depth d gs e hs frame law fresh one laws.tell laws.exist own.number f own.here new
+              is_frame m p c round depth d gs e hs frame law fresh one tell_runs runs_exist own.number f own.here new
               name follow can_new.sorts at_name own.owner
 
 -- ---- facts of results

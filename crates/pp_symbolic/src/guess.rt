@@ -15,10 +15,7 @@ use crate::owner::owner;
 use pp_checks::Plan;
 use pp_compile::compile_guess;
 use pp_domain::Domain;
-use pp_estimate_laws::{grows_with_depth, sums_rounds};
 use pp_gate::Circuit;
-use pp_guess_gates::guesses_fit;
-use pp_guess_steps::{guesses_are_sorted, guesses_read};
 use pp_prog::{CheckId, Program};
 use std::alloc::Global;
 
@@ -49,11 +46,6 @@ pub(crate) fn of_guess<D: Domain>(
         estimate program.now.types program.now.functions program.now.checks check.0 round depth) }
     ensures guess { IfOk result (λ r. IsGuessFrame D.sense program.now check round domain.new circuit.new r) }
 {
-    guesses_read();
-    guesses_are_sorted();
-    guesses_fit();
-    sums_rounds();
-    grows_with_depth();
     let f = owner(program, check);
     let guess = compile_guess(alloc, program.functions.as_slice(), f, check, round)?;
     evaluate_guess(

@@ -18,10 +18,6 @@ use pp_domain::Domain;
 use pp_gate::Circuit;
 use pp_prog::{CheckId, Program};
 use pp_simplify::simplify;
-use pp_steps_exist::{runs_ask, runs_exist, runs_read};
-use pp_steps_gates::runs_fit_estimates;
-use pp_steps_run::tell_runs;
-use pp_steps_sorted::runs_are_sorted;
 use std::alloc::Global;
 
 /// The run of the check's function with the round as its fuel, on arguments up to the depth, over an exact domain. What
@@ -52,12 +48,6 @@ pub(crate) fn of_run<D: Domain>(
         estimate program.now.types program.now.functions program.now.checks check.0 round depth) }
     ensures frame { IfOk result (λ r. IsFrame D.sense program.now check round depth domain.new circuit.new r) }
 {
-    tell_runs();
-    runs_exist();
-    runs_read();
-    runs_ask();
-    runs_are_sorted();
-    runs_fit_estimates();
     let f = owner(program, check);
     let mut run = compile_run(alloc, program.functions.as_slice(), f, check, round)?;
     if run.steps.len() > u32::MAX as usize {

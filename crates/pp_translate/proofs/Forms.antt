@@ -5,27 +5,24 @@ use Rattle.std.specs.Prelude.{◌↔◌, IsTrue}
 use Rattle.std.proofs.lemmas.List.{take_more}
 use Rattle.pp_prog.specs.Valid.{Covers}
 use Rattle.pp_prog.specs.declared.check.CheckKind.TheVariants as check
-use Rattle.pp_prog.specs.declared.expr.BinaryOp.{BinaryOp}
+use Rattle.pp_tree.specs.declared.operator.BinaryOp.{BinaryOp}
 use Rattle.pp_prog.specs.declared.expr.Case.{Case}
 use Rattle.pp_prog.specs.declared.expr.Expr.{Expr}
 use Rattle.pp_prog.specs.declared.expr.Expr.TheVariants as prog
 use Rattle.pp_prog.specs.declared.expr.Pattern.{Pattern}
-use Rattle.pp_prog.specs.declared.expr.UnaryOp.{UnaryOp}
+use Rattle.pp_tree.specs.declared.operator.UnaryOp.{UnaryOp}
 use Rattle.pp_prog.specs.declared.id.CheckId.{CheckId}
 use Rattle.pp_prog.specs.declared.id.CtorId.{CtorId}
-use Rattle.pp_translation.specs.Exprs.{binary_op, unary_op}
 use Rattle.pp_translation.specs.Numbered.{Translates, TranslateAll, TranslateGuard, TranslateCase, TranslateCases}
-use Rattle.pp_translation.specs.Numbered.{after_call, call, callee, check_at, is_division, more_if, number_if}
-use Rattle.pp_translation.specs.Numbered.{unguarded_at, of_call, of_construct, of_field, of_unary, of_binary, of_if}
-use Rattle.pp_translation.specs.Numbered.{of_match, of_val, of_assert, no_guard, one_guard, one_case, one_more}
-use Rattle.pp_translation.specs.Numbered.{more_cases}
+use Rattle.pp_translation.specs.Numbered.{after_call, call, callee, check_at, more_if, number_if, unguarded_at, of_call}
+use Rattle.pp_translation.specs.Numbered.{of_construct, of_field, of_unary, of_binary, of_if, of_match, of_val}
+use Rattle.pp_translation.specs.Numbered.{of_assert, no_guard, one_guard, one_case, one_more, more_cases}
+use Rattle.pp_operators.specs.Classes.{is_division}
 use Rattle.pp_translation.specs.Numbers.{ctor_number, sort_at}
 use Rattle.pp_translation.specs.Patterns.{pattern_at}
 use Rattle.pp_translation.specs.Setting.{Setting}
 use Rattle.pp_translation.specs.declared.frame.CheckAt.{CheckAt}
 use Rattle.pp_translation.specs.declared.frame.Frame.{Frame}
-use Rattle.pp_tree.specs.declared.operator.BinaryOp.{BinaryOp as TreeBinary}
-use Rattle.pp_tree.specs.declared.operator.UnaryOp.{UnaryOp as TreeUnary}
 use Rattle.pp_typed.specs.Put.{put}
 use Rattle.pp_typed.specs.declared.expr.TypedCase.{TypedCase}
 use Rattle.pp_typed.specs.declared.expr.TypedExpr.{TypedExpr}
@@ -76,27 +73,25 @@ module _ (typed : Typed) (set : Setting) (own : Frame) where
       moved e (prog.Field x j) (prog.Field y j) old new new (ap (λ z. prog.Field z j) q) refl
       (of_field j k (of_part base b2 x old new p t))
 
-  pub is_unary : (e a a2 : TypedExpr) (x y : Expr) (old new : List CheckAt) (op : TreeUnary) (op2 : UnaryOp)
+  pub is_unary : (e a a2 : TypedExpr) (x y : Expr) (old new : List CheckAt) (op : UnaryOp)
       → e.kind ≡ kind.Unary op a → a2 ≡ a
-      → Tr a2 x old new → op2 ≡ unary_op op → y ≡ x → Tr e (prog.Unary op2 y) old new
-  is_unary e a a2 x y old new op op2 k p t o q =
-      moved e (prog.Unary (unary_op op) x) (prog.Unary op2 y) old new new
-      (ap (λ z. prog.Unary z y) o ∙ ap (λ z. prog.Unary (unary_op op) z) q) refl
+      → Tr a2 x old new → y ≡ x → Tr e (prog.Unary op y) old new
+  is_unary e a a2 x y old new op k p t q =
+      moved e (prog.Unary op x) (prog.Unary op y) old new new (ap (λ z. prog.Unary op z) q) refl
       (of_unary op k (of_part a a2 x old new p t))
 
-  pub is_binary : (e a b a2 b2 : TypedExpr) (x y x2 y2 : Expr) (old mid last new : List CheckAt) (op : TreeBinary)
-      (op2 : BinaryOp) (d : Bool) (n : Option CheckId)
+  pub is_binary : (e a b a2 b2 : TypedExpr) (x y x2 y2 : Expr) (old mid last new : List CheckAt) (op : BinaryOp)
+      (d : Bool) (n : Option CheckId)
       → e.kind ≡ kind.Binary op a b → a2 ≡ a → b2 ≡ b → Tr a2 x old mid → Tr b2 y mid last → d ≡ is_division op
       → n ≡ number_if d last
-      → new ≡ more_if d (check_at typed set own check.Division e) last → op2 ≡ binary_op op → x2 ≡ x → y2 ≡ y
-      → Tr e (prog.Binary op2 x2 y2 n) old new
-  is_binary e a b a2 b2 x y x2 y2 old mid last new op op2 d n k p q ta tb dv num more o u v =
+      → new ≡ more_if d (check_at typed set own check.Division e) last → x2 ≡ x → y2 ≡ y
+      → Tr e (prog.Binary op x2 y2 n) old new
+  is_binary e a b a2 b2 x y x2 y2 old mid last new op d n k p q ta tb dv num more u v =
       let c = check_at typed set own check.Division e in
-      moved e (prog.Binary (binary_op op) x y (number_if (is_division op) last)) (prog.Binary op2 x2 y2 n) old
+      moved e (prog.Binary op x y (number_if (is_division op) last)) (prog.Binary op x2 y2 n) old
       (more_if (is_division op) c last) new
-      (ap (λ z. prog.Binary z x2 y2 n) o ∙ ap (λ z. prog.Binary (binary_op op) z y2 n) u
-      ∙ ap (λ z. prog.Binary (binary_op op) x z n) v
-      ∙ ap (λ z. prog.Binary (binary_op op) x y z) (num ∙ ap (λ z. number_if z last) dv))
+      (ap (λ z. prog.Binary op z y2 n) u ∙ ap (λ z. prog.Binary op x z n) v
+      ∙ ap (λ z. prog.Binary op x y z) (num ∙ ap (λ z. number_if z last) dv))
       (more ∙ ap (λ z. more_if z c last) dv)
       (of_binary op k (of_part a a2 x old mid p ta) (of_part b b2 y mid last q tb))
 

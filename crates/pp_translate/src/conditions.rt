@@ -1,7 +1,7 @@
 //! Several conditions as one.
 
 ghost use Rattle.std.specs.Prelude.{◌≡◌, ◌≤◌, ◌++◌, ◌∷◌, IfOk, None, OnOk, length, reverse};
-ghost use Rattle.pp_prog.specs.declared.expr.BinaryOp.TheVariants.{AndAlso};
+ghost use Rattle.pp_tree.specs.declared.operator.BinaryOp.TheVariants.{AndAlso};
 ghost use Rattle.pp_prog.specs.declared.expr.Expr.TheVariants.{Binary};
 ghost use Rattle.pp_translation.specs.Functions.{as_one, in_pairs};
 

@@ -12,10 +12,11 @@ ghost use Rattle.pp_typed.specs.Put.{put};
 use crate::NoMemory;
 use crate::covered::is_covered;
 use crate::patterns::pattern_at;
-use crate::sites::{add_check, binary_op, check_if, descends, has_pre, is_division, unary_op};
+use crate::sites::{add_check, check_if, descends, has_pre};
 use crate::target::Target;
 use pp_list::{Boxed, Items};
 use pp_numbers::{puts, sort_at};
+use pp_operators::is_division;
 use pp_prog::{Case, Cases, CheckKind, CtorId, Expr, Exprs, FunctionId, Patterns};
 use pp_translation::{CheckAt, Frame};
 use pp_typed::{GenericSort, Typed, TypedCase, TypedExpr, TypedKind};
@@ -199,14 +200,13 @@ pub(crate) fn expr(
         }
         TypedKind::Unary(op, a) => {
             let a = expr(alloc, typed, target, own, a.get(), checks)?;
-            Ok(Expr::Unary(unary_op(*op), Boxed::new(alloc, a)?))
+            Ok(Expr::Unary(*op, Boxed::new(alloc, a)?))
         }
         TypedKind::Binary(op, a, b) => {
             let a = expr(alloc, typed, target, own, a.get(), checks)?;
             let b = expr(alloc, typed, target, own, b.get(), checks)?;
             let check = check_if(is_division(*op), own, CheckKind::Division, e, checks)?;
-            let op = binary_op(*op);
-            Ok(Expr::Binary(op, Boxed::new(alloc, a)?, Boxed::new(alloc, b)?, check))
+            Ok(Expr::Binary(*op, Boxed::new(alloc, a)?, Boxed::new(alloc, b)?, check))
         }
         TypedKind::If(c, a, b) => {
             let c = expr(alloc, typed, target, own, c.get(), checks)?;

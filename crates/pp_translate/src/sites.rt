@@ -1,63 +1,15 @@
-//! Operators, and the checks of sites.
+//! The checks of sites.
 
 ghost use Rattle.std.specs.Prelude.{◌≡◌, ◌++◌, ◌∷◌, [], IfOk, length, slice_get};
 ghost use Rattle.pp_translate.specs.Target.{setting};
-ghost use Rattle.pp_translation.specs.Exprs as bare;
 ghost use Rattle.pp_translation.specs.Numbered as spec;
 
 use crate::NoMemory;
 use crate::target::Target;
 use pp_list::{Items, at};
-use pp_prog::{BinaryOp, CheckId, CheckKind, FunctionId, UnaryOp};
+use pp_prog::{CheckId, CheckKind, FunctionId};
 use pp_translation::{CheckAt, Frame};
-use pp_tree::{BinaryOp as TreeBinary, UnaryOp as TreeUnary};
 use pp_typed::{Typed, TypedExpr};
-
-pub(crate) fn unary_op(op: TreeUnary) -> UnaryOp
-    ensures { result ≡ bare.unary_op op }
-{
-    match op {
-        TreeUnary::Neg => UnaryOp::Neg,
-        TreeUnary::Not => UnaryOp::Not,
-        TreeUnary::Flip => UnaryOp::Flip,
-    }
-}
-
-pub(crate) fn binary_op(op: TreeBinary) -> BinaryOp
-    ensures { result ≡ bare.binary_op op }
-{
-    match op {
-        TreeBinary::Add => BinaryOp::Add,
-        TreeBinary::Sub => BinaryOp::Sub,
-        TreeBinary::Mul => BinaryOp::Mul,
-        TreeBinary::Div => BinaryOp::Div,
-        TreeBinary::Rem => BinaryOp::Rem,
-        TreeBinary::Equal => BinaryOp::Equal,
-        TreeBinary::Differ => BinaryOp::Differ,
-        TreeBinary::Less => BinaryOp::Less,
-        TreeBinary::AtMost => BinaryOp::AtMost,
-        TreeBinary::More => BinaryOp::More,
-        TreeBinary::AtLeast => BinaryOp::AtLeast,
-        TreeBinary::AndAlso => BinaryOp::AndAlso,
-        TreeBinary::OrElse => BinaryOp::OrElse,
-        TreeBinary::And => BinaryOp::And,
-        TreeBinary::Or => BinaryOp::Or,
-        TreeBinary::Xor => BinaryOp::Xor,
-        TreeBinary::Shl => BinaryOp::Shl,
-        TreeBinary::Shr => BinaryOp::Shr,
-        TreeBinary::Ushr => BinaryOp::Ushr,
-    }
-}
-
-pub(crate) fn is_division(op: TreeBinary) -> bool
-    ensures { result ≡ spec.is_division op }
-{
-    match op {
-        TreeBinary::Div => true,
-        TreeBinary::Rem => true,
-        _ => false,
-    }
-}
 
 /// Whether the function has a precondition. It takes no memory.
 pub(crate) fn has_pre(typed: &Typed, f: u32) -> bool

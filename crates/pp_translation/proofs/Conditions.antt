@@ -5,7 +5,7 @@ use Rattle.std.specs.Option.{option_map}
 use Rattle.std.specs.Prelude.{slice_get}
 use Rattle.std.proofs.lemmas.List.{append-nil, length-map}
 use Rattle.pp_prog.specs.Calls.{joined, or_none}
-use Rattle.pp_prog.specs.declared.expr.BinaryOp.TheVariants.{AndAlso}
+use Rattle.pp_tree.specs.declared.operator.BinaryOp.TheVariants.{AndAlso}
 use Rattle.pp_prog.specs.declared.expr.Expr.{Expr}
 use Rattle.pp_prog.specs.declared.expr.Expr.TheVariants.{Binary}
 use Rattle.pp_translation.specs.Functions.{as_one, in_pairs, paired}

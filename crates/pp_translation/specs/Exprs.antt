@@ -5,53 +5,16 @@ use Rattle.std.specs.Option.{option_map}
 use Rattle.pp_instances.specs.declared.member.Member.{Member}
 use Rattle.pp_translation.specs.Numbers.{ctor_number, function_number}
 use Rattle.pp_translation.specs.Patterns.{pattern_at}
-use Rattle.pp_prog.specs.declared.expr.BinaryOp.{BinaryOp}
-use Rattle.pp_prog.specs.declared.expr.BinaryOp.TheVariants as prog_binary
 use Rattle.pp_prog.specs.declared.expr.Case.{Case}
 use Rattle.pp_prog.specs.declared.expr.Expr.{Expr}
 use Rattle.pp_prog.specs.declared.expr.Expr.TheVariants as prog
-use Rattle.pp_prog.specs.declared.expr.UnaryOp.{UnaryOp}
-use Rattle.pp_prog.specs.declared.expr.UnaryOp.TheVariants as prog_unary
 use Rattle.pp_prog.specs.declared.id.CheckId.{CheckId}
-use Rattle.pp_tree.specs.declared.operator.BinaryOp.{BinaryOp as TreeBinary}
-use Rattle.pp_tree.specs.declared.operator.BinaryOp.TheVariants.{Add, Sub, Mul, Div, Rem, Equal, Differ, Less, AtMost}
-use Rattle.pp_tree.specs.declared.operator.BinaryOp.TheVariants.{More, AtLeast, AndAlso, OrElse, And, Or, Xor, Shl, Shr}
-use Rattle.pp_tree.specs.declared.operator.BinaryOp.TheVariants.{Ushr}
-use Rattle.pp_tree.specs.declared.operator.UnaryOp.{UnaryOp as TreeUnary}
-use Rattle.pp_tree.specs.declared.operator.UnaryOp.TheVariants.{Neg, Not, Flip}
 use Rattle.pp_typed.specs.Put.{put}
 use Rattle.pp_typed.specs.declared.expr.TypedExpr.{TypedExpr}
 use Rattle.pp_typed.specs.declared.expr.TypedKind.TheFolds.{fold-TypedExpr}
 use Rattle.pp_typed.specs.declared.expr.TypedKind.TheOpen as layer
 use Rattle.pp_typed.specs.declared.sort.GenericSort.{GenericSort}
 use Rattle.pp_typed.specs.declared.typed.Typed.{Typed}
-
--- the same operator
-abbrev pub unary_op : TreeUnary → UnaryOp
-unary_op Neg = prog_unary.Neg
-unary_op Not = prog_unary.Not
-unary_op Flip = prog_unary.Flip
-
-abbrev pub binary_op : TreeBinary → BinaryOp
-binary_op Add = prog_binary.Add
-binary_op Sub = prog_binary.Sub
-binary_op Mul = prog_binary.Mul
-binary_op Div = prog_binary.Div
-binary_op Rem = prog_binary.Rem
-binary_op Equal = prog_binary.Equal
-binary_op Differ = prog_binary.Differ
-binary_op Less = prog_binary.Less
-binary_op AtMost = prog_binary.AtMost
-binary_op More = prog_binary.More
-binary_op AtLeast = prog_binary.AtLeast
-binary_op AndAlso = prog_binary.AndAlso
-binary_op OrElse = prog_binary.OrElse
-binary_op And = prog_binary.And
-binary_op Or = prog_binary.Or
-binary_op Xor = prog_binary.Xor
-binary_op Shl = prog_binary.Shl
-binary_op Shr = prog_binary.Shr
-binary_op Ushr = prog_binary.Ushr
 
 -- a check whose number is left out
 abbrev pub unnumbered : CheckId
@@ -83,8 +46,8 @@ module _ (typed : Typed) (roots functions : List Member) (args : List GenericSor
   kind_step (layer.Construct c sorts es) =
       prog.Construct (ctor_number typed.ctors roots c (map (put args) sorts)) (map expr_of es)
   kind_step (layer.Field e j) = prog.Field e.1 j
-  kind_step (layer.Unary op a) = prog.Unary (unary_op op) a.1
-  kind_step (layer.Binary op a b) = prog.Binary (binary_op op) a.1 b.1 None
+  kind_step (layer.Unary op a) = prog.Unary op a.1
+  kind_step (layer.Binary op a b) = prog.Binary op a.1 b.1 None
   kind_step (layer.If c a b) = prog.If c.1 a.1 b.1
   kind_step (layer.Match e cases) = prog.Match e.1 (map (case_for e.0) cases) None
   kind_step (layer.Val bound rest) = prog.Val bound.1 rest.1

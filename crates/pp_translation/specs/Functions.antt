@@ -4,7 +4,7 @@ use Rattle.pp_instances.specs.declared.member.Instance.{Instance}
 use Rattle.pp_instances.specs.declared.member.Member.{Member}
 use Rattle.pp_translation.specs.Exprs.{expr_at, unnumbered}
 use Rattle.pp_translation.specs.Numbers.{sort_at}
-use Rattle.pp_prog.specs.declared.expr.BinaryOp.TheVariants.{AndAlso}
+use Rattle.pp_tree.specs.declared.operator.BinaryOp.TheVariants.{AndAlso}
 use Rattle.pp_prog.specs.declared.expr.Expr.{Expr}
 use Rattle.pp_prog.specs.declared.expr.Expr.TheVariants.{Binary}
 use Rattle.pp_prog.specs.declared.expr.Function.{Function}

@@ -15,13 +15,12 @@ use Rattle.pp_prog.specs.declared.expr.Expr.TheVariants as prog
 use Rattle.pp_prog.specs.declared.expr.Pattern.{Pattern}
 use Rattle.pp_prog.specs.declared.id.CheckId.{CheckId}
 use Rattle.pp_prog.specs.declared.id.FunctionId.{FunctionId}
-use Rattle.pp_translation.specs.Exprs.{binary_op, unary_op}
+use Rattle.pp_operators.specs.Classes.{is_division}
 use Rattle.pp_translation.specs.Patterns.{pattern_at}
 use Rattle.pp_translation.specs.Setting.{Setting}
 use Rattle.pp_translation.specs.declared.frame.CheckAt.{CheckAt}
 use Rattle.pp_translation.specs.declared.frame.Frame.{Frame}
 use Rattle.pp_tree.specs.declared.operator.BinaryOp.{BinaryOp}
-use Rattle.pp_tree.specs.declared.operator.BinaryOp.TheVariants.{Div, Rem}
 use Rattle.pp_tree.specs.declared.operator.UnaryOp.{UnaryOp}
 use Rattle.pp_typed.specs.Put.{put}
 use Rattle.pp_typed.specs.declared.expr.TypedCase.{TypedCase}
@@ -31,11 +30,6 @@ use Rattle.pp_typed.specs.declared.expr.TypedKind.TheViews.{out-TypedCase}
 use Rattle.pp_typed.specs.declared.sort.GenericSort.{GenericSort}
 use Rattle.pp_typed.specs.declared.typed.Typed.{Typed}
 use Rattle.pp_typed.specs.declared.typed.TypedDef.{TypedDef}
-
-abbrev pub is_division : BinaryOp → Bool
-is_division Div = true
-is_division Rem = true
-is_division op = false
 
 -- one more check, where the test holds
 abbrev pub more_if : Bool → CheckAt → List CheckAt → List CheckAt
@@ -125,10 +119,10 @@ module _ (typed : Typed) (set : Setting) (own : Frame) where
       of_field : {e base : TypedExpr} {x : Expr} {old new : List CheckAt} (j : ℕ) → e.kind ≡ kind.Field base j
           → Translates base x old new → Translates e (prog.Field x j) old new
       of_unary : {e a : TypedExpr} {x : Expr} {old new : List CheckAt} (op : UnaryOp) → e.kind ≡ kind.Unary op a
-          → Translates a x old new → Translates e (prog.Unary (unary_op op) x) old new
+          → Translates a x old new → Translates e (prog.Unary op x) old new
       of_binary : {e a b : TypedExpr} {x y : Expr} {old mid new : List CheckAt} (op : BinaryOp)
           → e.kind ≡ kind.Binary op a b → Translates a x old mid → Translates b y mid new
-          → Translates e (prog.Binary (binary_op op) x y (number_if (is_division op) new)) old
+          → Translates e (prog.Binary op x y (number_if (is_division op) new)) old
           (more_if (is_division op) (check_at check.Division e) new)
       of_if : {e c a b : TypedExpr} {x y z : Expr} {old mid end new : List CheckAt} → e.kind ≡ kind.If c a b
           → Translates c x old mid → Translates a y mid end → Translates b z end new

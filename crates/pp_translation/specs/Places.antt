@@ -1,6 +1,6 @@
 -- The places of the checks of a program: of a call's checks the called name, of a division the operator, of a match, an
 -- assertion and a postcondition the word. Source: own.
-use Rattle.std.specs.Prelude.{ℕ, List, [], ◌∷◌, ◌++◌, map, Option, Some, None, slice_get}
+use Rattle.std.specs.Prelude.{ℕ, Bool, true, false, List, [], ◌∷◌, ◌++◌, map, Option, Some, None, slice_get}
 use Rattle.pp_instances.specs.declared.member.Instance.{Instance}
 use Rattle.pp_translation.specs.Functions.{place_at}
 use Rattle.pp_prog.specs.Calls.{joined, or_none}
@@ -10,8 +10,8 @@ use Rattle.pp_prog.specs.declared.expr.Function.{Function}
 use Rattle.pp_prog.specs.declared.id.CheckId.{CheckId}
 use Rattle.pp_prog.specs.declared.place.Place.{Place}
 use Rattle.pp_prog.specs.declared.types.TypeTable.{TypeTable}
+use Rattle.pp_operators.specs.Classes.{is_division}
 use Rattle.pp_tree.specs.declared.operator.BinaryOp.{BinaryOp}
-use Rattle.pp_tree.specs.declared.operator.BinaryOp.TheVariants.{Div, Rem}
 use Rattle.pp_typed.specs.Stand.{Offset}
 use Rattle.pp_typed.specs.declared.expr.TypedExpr.{TypedExpr}
 use Rattle.pp_typed.specs.declared.expr.TypedKind.TheFolds.{fold-TypedExpr}
@@ -24,10 +24,12 @@ use Rattle.pp_typed.specs.declared.typed.TypedPost.{TypedPost}
 abbrev pub Below : Type 0
 Below = Offset → List Offset
 
+abbrev pub division_offset : Bool → Offset → List Offset
+division_offset true here = here ∷ []
+division_offset false here = []
+
 abbrev pub operator_offset : BinaryOp → Offset → List Offset
-operator_offset Div here = here ∷ []
-operator_offset Rem here = here ∷ []
-operator_offset op here = []
+operator_offset op here = division_offset (is_division op) here
 
 -- one level, with the offsets of the parts in their place
 abbrev pub kind_step : layer.TypedKind-F Below (List Offset) (List Offset) → Below

@@ -1,8 +1,8 @@
 -- Which typed units have their sites apart: in one function no two calls, no two divisions, no two matches and no two
 -- assertions stand at one offset. Source: own.
-use Rattle.std.specs.Prelude.{◌≡◌, ℕ, List, [], ◌∷◌, ◌++◌, map, Option, Some, None, All, slice_get}
+use Rattle.std.specs.Prelude.{◌≡◌, ℕ, Bool, true, false, List, [], ◌∷◌, ◌++◌, map, Option, Some, None, All, slice_get}
+use Rattle.pp_operators.specs.Classes.{is_division}
 use Rattle.pp_tree.specs.declared.operator.BinaryOp.{BinaryOp}
-use Rattle.pp_tree.specs.declared.operator.BinaryOp.TheVariants.{Div, Rem}
 use Rattle.pp_typed.specs.Stand.{Offset, joined, or_none}
 use Rattle.pp_typed.specs.declared.expr.TypedExpr.{TypedExpr}
 use Rattle.pp_typed.specs.declared.expr.TypedKind.TheFolds.{fold-TypedExpr}
@@ -25,10 +25,12 @@ Mark = SiteKind × Offset
 abbrev pub Below : Type 0
 Below = Offset → List Mark
 
+abbrev pub division_mark : Bool → Offset → List Mark
+division_mark true here = (a_division, here) ∷ []
+division_mark false here = []
+
 abbrev pub operator_mark : BinaryOp → Offset → List Mark
-operator_mark Div here = (a_division, here) ∷ []
-operator_mark Rem here = (a_division, here) ∷ []
-operator_mark op here = []
+operator_mark op here = division_mark (is_division op) here
 
 abbrev pub kind_marks : layer.TypedKind-F Below (List Mark) (List Mark) → Below
 kind_marks (layer.Int n) here = []

@@ -1,10 +1,10 @@
 -- The sorts of operands and of results. Source: Scala Language Specification 12.2.1 (Int and Boolean) for which
 -- operators there are; that both operands of `==` have one sort is own.
 use Rattle.std.specs.Prelude.{◌≡◌, ◌⊎◌}
+use Rattle.pp_operators.specs.Classes.{class_of}
+use Rattle.pp_operators.specs.declared.class.OperatorClass.{OperatorClass}
+use Rattle.pp_operators.specs.declared.class.OperatorClass.TheVariants as class
 use Rattle.pp_tree.specs.declared.operator.BinaryOp.{BinaryOp}
-use Rattle.pp_tree.specs.declared.operator.BinaryOp.TheVariants.{Add, Sub, Mul, Div, Rem, Equal, Differ, Less, AtMost}
-use Rattle.pp_tree.specs.declared.operator.BinaryOp.TheVariants.{More, AtLeast, AndAlso, OrElse, And, Or, Xor, Shl, Shr}
-use Rattle.pp_tree.specs.declared.operator.BinaryOp.TheVariants.{Ushr}
 use Rattle.pp_tree.specs.declared.operator.UnaryOp.{UnaryOp}
 use Rattle.pp_tree.specs.declared.operator.UnaryOp.TheVariants.{Neg, Not, Flip}
 use Rattle.pp_typed.specs.declared.sort.GenericSort.{GenericSort}
@@ -32,24 +32,16 @@ IsLogical s of = (s ≡ sort.Bool) × (of ≡ sort.Bool)
 abbrev pub IsBitwise : GenericSort → GenericSort → Type 0
 IsBitwise s of = IsNumeric s of ⊎ IsLogical s of
 
--- the operator takes two operands of the first sort, and its result has the second
+-- an operator of this class takes two operands of the first sort, and its result has the second
+abbrev pub ClassOperates : OperatorClass → GenericSort → GenericSort → Type 0
+ClassOperates class.Sum s of = IsNumeric s of
+ClassOperates class.Product s of = IsNumeric s of
+ClassOperates class.Quotient s of = IsNumeric s of
+ClassOperates class.Equality s of = of ≡ sort.Bool
+ClassOperates class.Order s of = IsOrder s of
+ClassOperates class.Logic s of = IsLogical s of
+ClassOperates class.Bitwise s of = IsBitwise s of
+ClassOperates class.Shift s of = IsNumeric s of
+
 abbrev pub Operates : BinaryOp → GenericSort → GenericSort → Type 0
-Operates Add s of = IsNumeric s of
-Operates Sub s of = IsNumeric s of
-Operates Mul s of = IsNumeric s of
-Operates Div s of = IsNumeric s of
-Operates Rem s of = IsNumeric s of
-Operates Equal s of = of ≡ sort.Bool
-Operates Differ s of = of ≡ sort.Bool
-Operates Less s of = IsOrder s of
-Operates AtMost s of = IsOrder s of
-Operates More s of = IsOrder s of
-Operates AtLeast s of = IsOrder s of
-Operates AndAlso s of = IsLogical s of
-Operates OrElse s of = IsLogical s of
-Operates And s of = IsBitwise s of
-Operates Or s of = IsBitwise s of
-Operates Xor s of = IsBitwise s of
-Operates Shl s of = IsNumeric s of
-Operates Shr s of = IsNumeric s of
-Operates Ushr s of = IsNumeric s of
+Operates op s of = ClassOperates (class_of op) s of

@@ -11,16 +11,13 @@ use Rattle.pp_fault.specs.declared.Halt.TheVariants.{Memory, Broken}
 use Rattle.pp_fault.specs.Part.{Part, Tells}
 use Rattle.pp_inhabited.specs.Value.{AreInhabited}
 use Rattle.pp_tree.specs.Plain.{UnitTree}
-use Rattle.pp_typed.specs.WellSorted.{IsWellSorted}
 use Rattle.pp_typed.specs.declared.declared.Declared.{Declared}
 use Rattle.pp_typed.specs.declared.typed.Typed.{Typed}
 use Rattle.pp_typed.specs.declared.typed.TypedDef.{TypedDef}
 use Rattle.pp_types.proofs.Functions.{defs_break, defs_complete, defs_sound, same_length}
 use Rattle.pp_types_laws.proofs.Unique.{same_answer}
-use Rattle.pp_types_laws.proofs.WellSorted.{typing_well_sorted}
 use Rattle.pp_types_laws.specs.Fault.{IsRefused, OnBroken, in_declarations, in_function, without_value, WithoutValue}
 use Rattle.pp_types.specs.Functions.{defs_after}
-use Rattle.pp_types_laws.specs.Literals.{UnitsInts}
 use Rattle.pp_types_laws.specs.Typing.{HasTyping, TypesDefs}
 
 not_both : {A : Type 0} (p : Part A) (a : A) (f : Fault) → p ≡ Ok a → p ≡ Err f → ⊥
@@ -53,11 +50,6 @@ module _ (units : List UnitTree) where
         ctors = ctors;
         defs = subst (TypesDefs d (defs_of (decls_in units)) d.functions) (sym after.all) after.types;
       }
-
-  pub is_well_sorted : (d : Declared) (t : Typed) → declare units ≡ Ok d → AreInhabited d.roots d.ctors
-      → typings d ≡ Ok t.defs → t.roots ≡ d.roots → t.ctors ≡ d.ctors → UnitsInts units → IsWellSorted t
-  is_well_sorted d t e inhabited typed roots ctors ints =
-      typing_well_sorted units t ints (has_typing d t e inhabited typed roots ctors)
 
   undeclared : (f : Fault) → declare units ≡ Err f → IsRefused units f
   undeclared f e = record {

@@ -1,6 +1,5 @@
 pub mod Checked
 pub mod EachDef
 pub mod Functions
-pub mod Reading
 pub mod Refusals
 pub mod Refused

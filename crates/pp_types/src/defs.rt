@@ -1,14 +1,12 @@
 //! The functions of all units.
 
-ghost use Rattle.std.specs.Prelude.{◌≡◌, ◌<◌, ◌^◌, [], Ok, OnOk, length};
+ghost use Rattle.std.specs.Prelude.{◌≡◌, ◌<◌, ◌^◌, [], Ok, length};
 ghost use Rattle.pp_declared.specs.Declare.{declare};
 ghost use Rattle.pp_declared.specs.Listed.{decls_in, defs_of};
 ghost use Rattle.pp_declared.specs.Shown.{AreFewOfDefs, def_ins, units_of};
 ghost use Rattle.pp_fault.specs.Part.{Tells};
 ghost use Rattle.pp_types.specs.Functions.{defs_after};
-ghost use Rattle.pp_types_laws.specs.Literals.{UnitsInts};
 
-use crate::numbers::read_numbers;
 use pp_declared::{DefAt, definitions};
 use pp_fault::Halt;
 use pp_list::Items;
@@ -18,17 +16,14 @@ use pp_typed::TypedDefs;
 use pp_typing::definition;
 use std::alloc::Global;
 
-/// Types the functions of units that declare these names, whose numbers are Ints. It refuses the first that has no
-/// typing.
-#[tactic(auto, using(crate::proofs::EachDef::few_defs, crate::proofs::EachDef::defs_counted, crate::proofs::Reading::ints_on_ok))]
+/// Types the functions of units that declare these names. It refuses the first that has no typing.
+#[tactic(auto, using(crate::proofs::EachDef::few_defs, crate::proofs::EachDef::defs_counted))]
 pub(crate) fn all_defs(alloc: Global, units: &[Unit], names: &Names) -> Result<TypedDefs, Halt>
     requires units { length units.now < 2 ^ 32 }
     requires declared { declare (units_of units.now) ≡ Ok names.now }
-    ensures told { Tells result (defs_after names.now [] (defs_of (decls_in (units_of units.now))) names.now.functions) }
-    ensures ints { OnOk result (UnitsInts (units_of units.now)) }
+    ensures { Tells result (defs_after names.now [] (defs_of (decls_in (units_of units.now))) names.now.functions) }
 {
     let defs = definitions(alloc, units)?;
-    read_numbers(defs.as_slice());
     each_def(alloc, names, defs.as_slice())
 }
 

@@ -1,6 +1,8 @@
 //! Why units have no typing.
 
-ghost use Rattle.pp_types.specs.Kinds.{IsKindOf};
+ghost use Rattle.std.specs.Prelude.{◌≡◌, Some};
+ghost use Rattle.pp_types.specs.Kinds.{broken_rule};
+ghost use Rattle.pp_types_laws.specs.Fault as spec;
 
 use pp_fault::{Fault, Rule};
 use pp_text::Name;
@@ -70,9 +72,72 @@ pub enum TypeFault {
     Memory,
 }
 
+/// The broken rule with this name and place.
+fn fault_of(rule: Rule, name: Name, source: u32, at: u32) -> Fault
+    ensures { result ≡ spec.fault_of rule name source at }
+{
+    Fault {
+        rule,
+        name,
+        source,
+        at,
+    }
+}
+
+impl TypeFault {
+    /// The broken rule, with the name that is written there, its source and its offset; none for want of memory.
+    pub fn into_fault(self) -> Option<Fault>
+        ensures { result ≡ broken_rule self }
+    {
+        match self {
+            TypeFault::Unknown {
+                name,
+                source,
+                offset,
+            } => Some(fault_of(Rule::Unknown, name, source, offset)),
+            TypeFault::Duplicate {
+                name,
+                source,
+                offset,
+            } => Some(fault_of(Rule::Duplicate, name, source, offset)),
+            TypeFault::Mismatch {
+                name,
+                source,
+                offset,
+            } => Some(fault_of(Rule::Mismatch, name, source, offset)),
+            TypeFault::Arity {
+                name,
+                source,
+                offset,
+            } => Some(fault_of(Rule::Arity, name, source, offset)),
+            TypeFault::CannotInfer {
+                name,
+                source,
+                offset,
+            } => Some(fault_of(Rule::CannotInfer, name, source, offset)),
+            TypeFault::Uninhabited {
+                name,
+                source,
+                offset,
+            } => Some(fault_of(Rule::Uninhabited, name, source, offset)),
+            TypeFault::NotABoolean {
+                name,
+                source,
+                offset,
+            } => Some(fault_of(Rule::NotABoolean, name, source, offset)),
+            TypeFault::OverLimit {
+                name,
+                source,
+                offset,
+            } => Some(fault_of(Rule::OverLimit, name, source, offset)),
+            TypeFault::Memory => None,
+        }
+    }
+}
+
 /// The refusal for a broken rule.
 pub(crate) fn type_fault(fault: Fault) -> TypeFault
-    ensures { IsKindOf result fault }
+    ensures { broken_rule result ≡ Some fault }
 {
     let Fault {
         rule,

@@ -6,7 +6,6 @@
 
 mod defs;
 mod fault;
-mod numbers;
 mod units;
 mod values;
 

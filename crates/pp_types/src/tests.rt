@@ -42,7 +42,7 @@ fn a_typing_outlives_the_arena_of_its_unit(rt: HostRuntime) -> Result<(), Fail> 
     let typed = check(alloc, &[unit]);
     arena.reset()?;
     match &typed {
-        Ok(typed) => assert_eq!(rt; typed.typed().defs.as_slice().len(), 1usize),
+        Ok(typed) => assert_eq!(rt; typed.defs.as_slice().len(), 1usize),
         Err(_) => assert!(rt; false),
     }
     Ok(())

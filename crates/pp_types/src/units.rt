@@ -14,13 +14,12 @@ use pp_declared::declare;
 use pp_fault::Halt;
 use pp_tree::Unit;
 use pp_typed::{Declared, Typed};
-use pp_well_sorted::WellSorted;
 use std::alloc::Global;
 
-/// Types the units of all sources, which are numbered from 1, and answers their typing, which is well sorted. It
-/// refuses units that have none, with a fault that stands in them; where there are several, any of them may be told.
-/// The answer owns all that it holds.
-pub fn check(alloc: Global, units: &[Unit]) -> Result<WellSorted, TypeFault>
+/// Types the units of all sources, which are numbered from 1, and answers their typing. It refuses units that
+/// have none, with a fault that stands in them; where there are several, any of them may be told. The answer owns all
+/// that it holds.
+pub fn check(alloc: Global, units: &[Unit]) -> Result<Typed, TypeFault>
     requires { length units.now < 2 ^ 32 }
     ensures typing { IfOk result (HasTyping (units_of units.now)) }
     ensures stands { IfErr result (λ e. OnFault e (Stands (units_of units.now))) }
@@ -34,8 +33,8 @@ pub fn check(alloc: Global, units: &[Unit]) -> Result<WellSorted, TypeFault>
 }
 
 /// Types units step by step: their declarations, the values of their roots, their functions.
-#[tactic(auto, using(crate::proofs::Checked::has_typing, crate::proofs::Checked::is_well_sorted, crate::proofs::Checked::declare_refused, crate::proofs::Checked::values_refused, crate::proofs::Checked::defs_refused))]
-fn typed(alloc: Global, units: &[Unit]) -> Result<WellSorted, Halt>
+#[tactic(auto, using(crate::proofs::Checked::has_typing, crate::proofs::Checked::declare_refused, crate::proofs::Checked::values_refused, crate::proofs::Checked::defs_refused))]
+fn typed(alloc: Global, units: &[Unit]) -> Result<Typed, Halt>
     requires { length units.now < 2 ^ 32 }
     ensures typing { IfOk result (HasTyping (units_of units.now)) }
     ensures refused { OnBroken result (IsRefused (units_of units.now)) }
@@ -44,5 +43,5 @@ fn typed(alloc: Global, units: &[Unit]) -> Result<WellSorted, Halt>
     check_values(alloc, units, &names)?;
     let defs = all_defs(alloc, units, &names)?;
     let Declared { roots, ctors, .. } = names.into_declared();
-    Ok(WellSorted::of(Typed { roots, ctors, defs }))
+    Ok(Typed { roots, ctors, defs })
 }

@@ -1,11 +1,11 @@
 -- The two tables of operators agree.
 use Rattle.std.proofs.Common.{◌≡◌, inl, inr, Bool, true, false, ◌||◌, refl, sym}
 use Rattle.pp_generic.proofs.Equal.{equal_same}
-use Rattle.pp_rules.specs.Operators.{admits, gives, is_bool, is_int, unary_sort}
+use Rattle.pp_operators.specs.Classes.{class_of}
+use Rattle.pp_operators.specs.declared.class.OperatorClass.{OperatorClass}
+use Rattle.pp_operators.specs.declared.class.OperatorClass.TheVariants as class
+use Rattle.pp_rules.specs.Operators.{admits, class_admits, class_gives, gives, is_bool, is_int, unary_sort}
 use Rattle.pp_tree.specs.declared.operator.BinaryOp.{BinaryOp}
-use Rattle.pp_tree.specs.declared.operator.BinaryOp.TheVariants.{Add, Sub, Mul, Div, Rem, Equal, Differ, Less, AtMost}
-use Rattle.pp_tree.specs.declared.operator.BinaryOp.TheVariants.{More, AtLeast, AndAlso, OrElse, And, Or, Xor, Shl, Shr}
-use Rattle.pp_tree.specs.declared.operator.BinaryOp.TheVariants.{Ushr}
 use Rattle.pp_tree.specs.declared.operator.UnaryOp.{UnaryOp}
 use Rattle.pp_tree.specs.declared.operator.UnaryOp.TheVariants.{Neg, Not, Flip}
 use Rattle.pp_typed.specs.Operators as table
@@ -28,24 +28,17 @@ bitwise s true b i j h = inl (int_is s i, int_is s i)
 bitwise s false true i j h = inr (bool_is s j, bool_is s j)
 bitwise s false false i j h = cc
 
+class_operates : (c : OperatorClass) (s : GenericSort) → class_admits c s ≡ true
+    → table.ClassOperates c s (class_gives c s)
+class_operates class.Sum s h = (int_is s h, int_is s h)
+class_operates class.Product s h = (int_is s h, int_is s h)
+class_operates class.Quotient s h = (int_is s h, int_is s h)
+class_operates class.Equality s h = refl
+class_operates class.Order s h = (int_is s h, refl)
+class_operates class.Logic s h = (bool_is s h, bool_is s h)
+class_operates class.Bitwise s h = bitwise s (is_int s) (is_bool s) refl refl h
+class_operates class.Shift s h = (int_is s h, int_is s h)
+
 -- an operator that admits two operands gives what the table says
 pub operates : (op : BinaryOp) (s : GenericSort) → admits op s ≡ true → table.Operates op s (gives op s)
-operates Add s h = (int_is s h, int_is s h)
-operates Sub s h = (int_is s h, int_is s h)
-operates Mul s h = (int_is s h, int_is s h)
-operates Div s h = (int_is s h, int_is s h)
-operates Rem s h = (int_is s h, int_is s h)
-operates Equal s h = refl
-operates Differ s h = refl
-operates Less s h = (int_is s h, refl)
-operates AtMost s h = (int_is s h, refl)
-operates More s h = (int_is s h, refl)
-operates AtLeast s h = (int_is s h, refl)
-operates AndAlso s h = (bool_is s h, bool_is s h)
-operates OrElse s h = (bool_is s h, bool_is s h)
-operates And s h = bitwise s (is_int s) (is_bool s) refl refl h
-operates Or s h = bitwise s (is_int s) (is_bool s) refl refl h
-operates Xor s h = bitwise s (is_int s) (is_bool s) refl refl h
-operates Shl s h = (int_is s h, int_is s h)
-operates Shr s h = (int_is s h, int_is s h)
-operates Ushr s h = (int_is s h, int_is s h)
+operates op s h = class_operates (class_of op) s h

@@ -1,5 +1,6 @@
 -- The sites of a typing are among those of its units, in order.
 use Rattle.std.proofs.Common.{◌≡◌, ◌∙◌, ℕ, List, [], ◌∷◌, ◌++◌, All, Option, Some, None, map, refl, sym, ap, subst}
+use Rattle.std.proofs.Common.{Bool, true, false}
 use Rattle.std.proofs.lemmas.List.{append-nil}
 use Rattle.std.proofs.lemmas.List.Elements.{All-nil, All-cons, All-append}
 use Rattle.pp_declared.proofs.Steps.{all_first, all_rest}
@@ -17,15 +18,13 @@ use Rattle.pp_rules.specs.Shapes.{application}
 use Rattle.pp_rules.specs.Typing.{Types, an_int, a_bool, a_local, a_name, an_application, a_field, a_prefix}
 use Rattle.pp_rules.specs.Typing.{an_operation, a_choice, a_match, a_val, an_assert, Applies, applies, TypesArgs}
 use Rattle.pp_rules.specs.Typing.{no_arg, one_arg, TypesCases, no_case, one_case, one_guarded}
+use Rattle.pp_operators.specs.Classes.{is_division}
 use Rattle.pp_tree.specs.declared.operator.BinaryOp.{BinaryOp}
-use Rattle.pp_tree.specs.declared.operator.BinaryOp.TheVariants.{Add, Sub, Mul, Div, Rem, Equal, Differ, Less, AtMost}
-use Rattle.pp_tree.specs.declared.operator.BinaryOp.TheVariants.{More, AtLeast, AndAlso, OrElse, And, Or, Xor, Shl, Shr}
-use Rattle.pp_tree.specs.declared.operator.BinaryOp.TheVariants.{Ushr}
 use Rattle.pp_tree.specs.Plain.{Tree, int, bool, name, apply, field, unary, binary, choice, matching, val_in, assert_in}
 use Rattle.pp_tree.specs.Plain.{Trees, no_trees, more_trees, TypeTrees, CaseTrees, no_cases, plain_case, guarded_case}
 use Rattle.pp_tree.specs.Plain.{DefTree, PostTree, UnitTree}
 use Rattle.pp_typed.specs.Apart.{AreApart, Below, InSource, IsApart, Mark, a_call, a_match, an_assertion, case_marks}
-use Rattle.pp_typed.specs.Apart.{def_marks, expr_marks, kind_marks, marks, operator_mark, post_marks}
+use Rattle.pp_typed.specs.Apart.{def_marks, division_mark, expr_marks, kind_marks, marks, operator_mark, post_marks}
 use Rattle.pp_typed.specs.Stand.{joined}
 use Rattle.pp_typed.specs.declared.declared.Declared.{Declared}
 use Rattle.pp_typed.specs.declared.declared.Signature.{Signature}
@@ -165,26 +164,12 @@ module _ (n : ℕ) where
   abbrev Here : Mark → Type 0
   Here m = m.1.0 ≡ n
 
+  division_here : (b : Bool) (at : ℕ) → All Here (division_mark b (n, at))
+  division_here true at = All-cons Here _ [] refl (All-nil Here)
+  division_here false at = All-nil Here
+
   operator_here : (op : BinaryOp) (at : ℕ) → All Here (operator_mark op (n, at))
-  operator_here Add at = All-nil Here
-  operator_here Sub at = All-nil Here
-  operator_here Mul at = All-nil Here
-  operator_here Div at = All-cons Here _ [] refl (All-nil Here)
-  operator_here Rem at = All-cons Here _ [] refl (All-nil Here)
-  operator_here Equal at = All-nil Here
-  operator_here Differ at = All-nil Here
-  operator_here Less at = All-nil Here
-  operator_here AtMost at = All-nil Here
-  operator_here More at = All-nil Here
-  operator_here AtLeast at = All-nil Here
-  operator_here AndAlso at = All-nil Here
-  operator_here OrElse at = All-nil Here
-  operator_here And at = All-nil Here
-  operator_here Or at = All-nil Here
-  operator_here Xor at = All-nil Here
-  operator_here Shl at = All-nil Here
-  operator_here Shr at = All-nil Here
-  operator_here Ushr at = All-nil Here
+  operator_here op at = division_here (is_division op) at
 
   mutual
     sites_here : (e : Tree) → All Here (sites n e)

@@ -9,17 +9,17 @@ use Rattle.pp_generic.specs.Found.{learn, none_found}
 use Rattle.pp_names.specs.Places.{Word}
 use Rattle.pp_rules.specs.declared.callee.Callee.{Callee}
 use Rattle.pp_rules.specs.Elab.{arm, typed}
-use Rattle.pp_rules.specs.Operators.{gives, is_equality, right_expected}
+use Rattle.pp_operators.specs.Classes.{is_equality, class_of}
+use Rattle.pp_rules.specs.Operators.{class_gives, gives, right_expected}
 use Rattle.pp_rules.specs.Scope.{Env, Scope}
 use Rattle.pp_rules.specs.Shapes.{application, field_of, own_params}
 use Rattle.pp_rules.specs.Typing.{Starts, starts_expected, starts_written, Wants, wants_nothing, wants_written, Types}
 use Rattle.pp_rules.specs.Typing.{an_int, a_bool, a_local, a_name, an_application, a_field, a_prefix, an_operation}
 use Rattle.pp_rules.specs.Typing.{a_choice, a_match, a_val, an_assert, Applies, applies, TypesArgs, no_arg, one_arg}
 use Rattle.pp_rules.specs.Typing.{TypesCases, no_case, one_case, one_guarded}
+use Rattle.pp_operators.specs.declared.class.OperatorClass.{OperatorClass}
+use Rattle.pp_operators.specs.declared.class.OperatorClass.TheVariants as class
 use Rattle.pp_tree.specs.declared.operator.BinaryOp.{BinaryOp}
-use Rattle.pp_tree.specs.declared.operator.BinaryOp.TheVariants.{Add, Sub, Mul, Div, Rem, Equal, Differ, Less, AtMost}
-use Rattle.pp_tree.specs.declared.operator.BinaryOp.TheVariants.{More, AtLeast, AndAlso, OrElse, And, Or, Xor, Shl, Shr}
-use Rattle.pp_tree.specs.declared.operator.BinaryOp.TheVariants.{Ushr}
 use Rattle.pp_tree.specs.Plain.{Tree, Trees, TypeTree, TypeTrees, CaseTrees}
 use Rattle.pp_typed.specs.InRange.{IsInRange, int_in_range, bool_in_range, AreInRange, none_in_range, more_in_range}
 use Rattle.pp_typed.specs.Put.{put}
@@ -135,26 +135,18 @@ module _ (declared : Declared) (defs : List TypedDef) (type_params : List Word) 
       sorted_construct i c r sorts us refl there declares count range args
       (put_root sorts c.root (own_params r.type_params) ∙ ap (sort.Root c.root) (put_own sorts r.type_params count))
 
+  class_in_range : (c : OperatorClass) (s : GenericSort) → IsInRange roots m s → IsInRange roots m (class_gives c s)
+  class_in_range class.Equality s h = bool_in_range refl
+  class_in_range class.Order s h = bool_in_range refl
+  class_in_range class.Sum s h = h
+  class_in_range class.Product s h = h
+  class_in_range class.Quotient s h = h
+  class_in_range class.Logic s h = h
+  class_in_range class.Bitwise s h = h
+  class_in_range class.Shift s h = h
+
   gives_in_range : (op : BinaryOp) (s : GenericSort) → IsInRange roots m s → IsInRange roots m (gives op s)
-  gives_in_range Add s h = h
-  gives_in_range Sub s h = h
-  gives_in_range Mul s h = h
-  gives_in_range Div s h = h
-  gives_in_range Rem s h = h
-  gives_in_range Equal s h = bool_in_range refl
-  gives_in_range Differ s h = bool_in_range refl
-  gives_in_range Less s h = bool_in_range refl
-  gives_in_range AtMost s h = bool_in_range refl
-  gives_in_range More s h = bool_in_range refl
-  gives_in_range AtLeast s h = bool_in_range refl
-  gives_in_range AndAlso s h = h
-  gives_in_range OrElse s h = h
-  gives_in_range And s h = h
-  gives_in_range Or s h = h
-  gives_in_range Xor s h = h
-  gives_in_range Shl s h = h
-  gives_in_range Shr s h = h
-  gives_in_range Ushr s h = h
+  gives_in_range op s h = class_in_range (class_of op) s h
 
   -- a case of sorted parts
   a_case : (scope : List GenericSort) (s of : GenericSort) (p : TypedPattern) (g : Option TypedExpr) (u : TypedExpr)

@@ -1,10 +1,11 @@
 //! The table of operators.
 
 ghost use Rattle.std.specs.Prelude.{◌≡◌, IfOk};
-ghost use Rattle.pp_rules.specs.Operators.{admits, gives, is_bool, is_equality, is_int, right_expected, unary_sort};
+ghost use Rattle.pp_operators.specs.Classes.{is_equality};
+ghost use Rattle.pp_rules.specs.Operators.{admits, gives, is_bool, is_int, right_expected, unary_sort};
 
 use pp_generic::{Expected, NoMemory, copy, exact};
-use pp_tree::{BinaryOp, UnaryOp};
+use pp_operators::{BinaryOp, OperatorClass, UnaryOp, class_of, is_equality};
 use pp_typed::GenericSort;
 use std::alloc::Global;
 
@@ -34,22 +35,15 @@ pub(crate) fn is_bool(sort: &GenericSort) -> bool
 pub(crate) fn admits(op: BinaryOp, sort: &GenericSort) -> bool
     ensures { result ≡ admits op sort.now }
 {
-    match op {
-        BinaryOp::Add
-        | BinaryOp::Sub
-        | BinaryOp::Mul
-        | BinaryOp::Div
-        | BinaryOp::Rem
-        | BinaryOp::Less
-        | BinaryOp::AtMost
-        | BinaryOp::More
-        | BinaryOp::AtLeast
-        | BinaryOp::Shl
-        | BinaryOp::Shr
-        | BinaryOp::Ushr => is_int(sort),
-        BinaryOp::AndAlso | BinaryOp::OrElse => is_bool(sort),
-        BinaryOp::And | BinaryOp::Or | BinaryOp::Xor => is_int(sort) || is_bool(sort),
-        BinaryOp::Equal | BinaryOp::Differ => true,
+    match class_of(op) {
+        OperatorClass::Sum
+        | OperatorClass::Product
+        | OperatorClass::Quotient
+        | OperatorClass::Order
+        | OperatorClass::Shift => is_int(sort),
+        OperatorClass::Logic => is_bool(sort),
+        OperatorClass::Bitwise => is_int(sort) || is_bool(sort),
+        OperatorClass::Equality => true,
     }
 }
 
@@ -61,33 +55,15 @@ pub(crate) fn gives(
 ) -> Result<GenericSort, NoMemory>
     ensures { IfOk result (λ s. s ≡ gives op sort.now) }
 {
-    match op {
-        BinaryOp::Equal
-        | BinaryOp::Differ
-        | BinaryOp::Less
-        | BinaryOp::AtMost
-        | BinaryOp::More
-        | BinaryOp::AtLeast => Ok(GenericSort::Bool),
-        BinaryOp::Add
-        | BinaryOp::Sub
-        | BinaryOp::Mul
-        | BinaryOp::Div
-        | BinaryOp::Rem
-        | BinaryOp::AndAlso
-        | BinaryOp::OrElse
-        | BinaryOp::And
-        | BinaryOp::Or
-        | BinaryOp::Xor
-        | BinaryOp::Shl
-        | BinaryOp::Shr
-        | BinaryOp::Ushr => copy(alloc, sort),
+    match class_of(op) {
+        OperatorClass::Equality | OperatorClass::Order => Ok(GenericSort::Bool),
+        OperatorClass::Sum
+        | OperatorClass::Product
+        | OperatorClass::Quotient
+        | OperatorClass::Logic
+        | OperatorClass::Bitwise
+        | OperatorClass::Shift => copy(alloc, sort),
     }
-}
-
-fn is_equality(op: BinaryOp) -> bool
-    ensures { result ≡ is_equality op }
-{
-    matches!(op, BinaryOp::Equal | BinaryOp::Differ)
 }
 
 /// What is expected of the right operand, where the left has this sort. The only error is want of memory.

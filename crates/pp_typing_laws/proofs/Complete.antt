@@ -16,7 +16,8 @@ use Rattle.pp_rules.specs.Elab.{Bound, Taken, alike, applied, arm, asserted, bod
 use Rattle.pp_rules.specs.Elab.{elab_args, elab_cases, elab_pattern, field_of_ctor, field_placed, field_typed, finished}
 use Rattle.pp_rules.specs.Elab.{guarded_arm, inferred, is_sort, local_at, matched, name_at, named, negated, no_args}
 use Rattle.pp_rules.specs.Elab.{of_sort, operated, plain_arm, selected, started, taken, typed, val_expected, valued}
-use Rattle.pp_rules.specs.Operators.{admits, is_equality, right_expected, unary_sort}
+use Rattle.pp_operators.specs.Classes.{is_equality}
+use Rattle.pp_rules.specs.Operators.{admits, right_expected, unary_sort}
 use Rattle.pp_rules.specs.Scope.{Env, Scope, clashes, place}
 use Rattle.pp_rules.specs.Shapes.{application, applied_by, field_place, field_sort, named_by, only_ctor}
 use Rattle.pp_rules.specs.Typing.{Suits, Starts, starts_expected, starts_written, Wants, wants_nothing, wants_written}

@@ -19,7 +19,8 @@ use Rattle.pp_rules.specs.Elab.{elab_args, elab_cases, elab_pattern, field_of_ct
 use Rattle.pp_rules.specs.Elab.{fitted, guarded_arm, inferred, is_sort, local_at, matched, name_at, named, negated}
 use Rattle.pp_rules.specs.Elab.{no_args, of_sort, operated, plain_arm, selected, started, taken, typed, val_expected}
 use Rattle.pp_rules.specs.Elab.{valued}
-use Rattle.pp_rules.specs.Operators.{admits, gives, is_equality, right_expected, unary_sort}
+use Rattle.pp_operators.specs.Classes.{is_equality}
+use Rattle.pp_rules.specs.Operators.{admits, gives, right_expected, unary_sort}
 use Rattle.pp_rules.specs.Scope.{Env, Scope, clashes, place}
 use Rattle.pp_rules.specs.Shapes.{application, applied_by, field_place, field_sort, named_by, only_ctor}
 use Rattle.pp_rules.specs.Typing.{Suits, Starts, starts_expected, starts_written, Wants, wants_nothing, wants_written}

@@ -20,7 +20,8 @@ use Rattle.pp_rules.specs.Elab.{elab_cases, elab_pattern, elab_patterns, field_o
 use Rattle.pp_rules.specs.Elab.{finished, guarded_arm, inferred, is_sort, leaf, local_at, matched, name_at, named}
 use Rattle.pp_rules.specs.Elab.{negated, no_args, of_sort, operated, pattern_name, plain_arm, selected, started, taken}
 use Rattle.pp_rules.specs.Elab.{typed, val_expected, valued, with_ctor}
-use Rattle.pp_rules.specs.Operators.{admits, gives, is_equality, right_expected, unary_sort}
+use Rattle.pp_operators.specs.Classes.{is_equality}
+use Rattle.pp_rules.specs.Operators.{admits, gives, right_expected, unary_sort}
 use Rattle.pp_rules.specs.Scope.{Env, Scope, clashes, place}
 use Rattle.pp_rules.specs.Shapes.{applied_by, field_place, field_sort, named_by, only_ctor}
 use Rattle.pp_rules.specs.Typing.{Types, an_int, a_bool, a_local, a_name, an_application, a_field, a_prefix}

@@ -13,7 +13,8 @@ use Rattle.pp_typed.specs.Put.{put}
 use Rattle.pp_names.specs.Find.{find_ctor}
 use Rattle.pp_rules.specs.declared.callee.Callee.{Callee}
 use Rattle.pp_rules.specs.Elab.{count, count_patterns, name_at, pattern_name}
-use Rattle.pp_rules.specs.Operators.{admits, gives, is_equality, right_expected, unary_sort}
+use Rattle.pp_operators.specs.Classes.{is_equality}
+use Rattle.pp_rules.specs.Operators.{admits, gives, right_expected, unary_sort}
 use Rattle.pp_rules.specs.Scope.{Env, Scope, clashes, place}
 use Rattle.pp_rules.specs.Shapes.{applied_by, field_place, field_sort, named_by, only_ctor}
 use Rattle.pp_rules.specs.Typing.{Binds, Starts, Types, TypesArgs, TypesPattern, Wants}

@@ -5,7 +5,7 @@ use Rattle.std.specs.Option.{option_map}
 use Rattle.std.proofs.lemmas.List.{append-nil}
 use Rattle.pp_instances.proofs.Parts.{map_push}
 use Rattle.pp_instances.specs.declared.member.Instance.{Instance}
-use Rattle.pp_prog.specs.declared.expr.BinaryOp.TheVariants.{AndAlso}
+use Rattle.pp_tree.specs.declared.operator.BinaryOp.TheVariants.{AndAlso}
 use Rattle.pp_prog.specs.declared.expr.Expr.{Expr}
 use Rattle.pp_prog.specs.declared.expr.Function.{Function}
 use Rattle.pp_prog.specs.declared.expr.Param.{Param}
@@ -16,8 +16,7 @@ use Rattle.pp_translation.specs.Bare.{bare, bare_function, bare_post}
 use Rattle.pp_translation.specs.Defs.{TranslatesDef, TranslatesDefs, TranslatesPost, no_defs, more_defs, none_more}
 use Rattle.pp_translation.specs.Defs.{no_post, one_post}
 use Rattle.pp_translation.specs.Exprs.{expr_at, unnumbered}
-use Rattle.pp_translation.specs.Functions.{as_one, function_if, function_of, functions_of, param_at, place_at}
-use Rattle.pp_translation.specs.Functions.{post_at}
+use Rattle.pp_translation.specs.Functions.{as_one, function_if, function_of, functions_of, param_at, place_at, post_at}
 use Rattle.pp_translation.specs.Numbers.{sort_at}
 use Rattle.pp_translation.specs.Setting.{Setting}
 use Rattle.pp_translation.specs.declared.frame.CheckAt.{CheckAt}

@@ -3,20 +3,20 @@ use Rattle.std.proofs.Common.{◌≡◌, ℕ, ℤ, Bool, List, [], ◌∷◌, �
 use Rattle.std.specs.Prelude.{Option, Some, None}
 use Rattle.std.specs.Option.{option_map}
 use Rattle.pp_instances.proofs.Parts.{map_push}
-use Rattle.pp_prog.specs.declared.expr.BinaryOp.{BinaryOp}
+use Rattle.pp_tree.specs.declared.operator.BinaryOp.{BinaryOp}
 use Rattle.pp_prog.specs.declared.expr.Case.{Case}
 use Rattle.pp_prog.specs.declared.expr.Expr.{Expr}
 use Rattle.pp_prog.specs.declared.expr.Expr.TheFolds.{fold-Case, fold-roll-Expr, fold-roll-Case}
 use Rattle.pp_prog.specs.declared.expr.Expr.TheOpen as layer
 use Rattle.pp_prog.specs.declared.expr.Expr.TheVariants as prog
 use Rattle.pp_prog.specs.declared.expr.Pattern.{Pattern}
-use Rattle.pp_prog.specs.declared.expr.UnaryOp.{UnaryOp}
+use Rattle.pp_tree.specs.declared.operator.UnaryOp.{UnaryOp}
 use Rattle.pp_prog.specs.declared.id.CheckId.{CheckId}
 use Rattle.pp_prog.specs.declared.id.CtorId.{CtorId}
 use Rattle.pp_prog.specs.declared.id.FunctionId.{FunctionId}
 use Rattle.pp_translation.specs.Bare.{bare, bare_case, bare_step}
-use Rattle.pp_translation.specs.Exprs.{CaseAt, Translated, binary_op, case_for, case_step, expr_at, expr_of, expr_step}
-use Rattle.pp_translation.specs.Exprs.{kind_step, translated, unary_op, unnumbered}
+use Rattle.pp_translation.specs.Exprs.{CaseAt, Translated, case_for, case_step, expr_at, expr_of, expr_step, kind_step}
+use Rattle.pp_translation.specs.Exprs.{translated, unnumbered}
 use Rattle.pp_translation.specs.Numbered.{Translates, TranslateAll, TranslateGuard, TranslateCase, TranslateCases}
 use Rattle.pp_translation.specs.Numbered.{of_int, of_bool, of_local, of_call, of_construct, of_field, of_unary}
 use Rattle.pp_translation.specs.Numbered.{of_binary, of_if, of_match, of_val, of_assert, no_exprs, one_more, no_guard}
@@ -26,8 +26,6 @@ use Rattle.pp_translation.specs.Patterns.{pattern_at}
 use Rattle.pp_translation.specs.Setting.{Setting}
 use Rattle.pp_translation.specs.declared.frame.CheckAt.{CheckAt}
 use Rattle.pp_translation.specs.declared.frame.Frame.{Frame}
-use Rattle.pp_tree.specs.declared.operator.BinaryOp.{BinaryOp as TreeBinary}
-use Rattle.pp_tree.specs.declared.operator.UnaryOp.{UnaryOp as TreeUnary}
 use Rattle.pp_typed.specs.Put.{put}
 use Rattle.pp_typed.specs.declared.expr.TypedCase.{TypedCase}
 use Rattle.pp_typed.specs.declared.expr.TypedExpr.{TypedExpr}
@@ -158,14 +156,14 @@ module _ (typed : Typed) (set : Setting) (own : Frame) where
       (case_step typed set.roots set.functions own.args) (expr_step typed set.roots set.functions own.args)
       (kind_layer.Field e j)
 
-  at_unary : (op : TreeUnary) (a : TypedExpr) → in_kind (kind.Unary op a) ≡ prog.Unary (unary_op op) (At a)
+  at_unary : (op : UnaryOp) (a : TypedExpr) → in_kind (kind.Unary op a) ≡ prog.Unary op (At a)
   at_unary op a = ap in_kind (sym (kind.rolls-Unary op a))
       ∙ fold-roll-TypedKind Expr CaseAt Translated (kind_step typed set.roots set.functions own.args)
       (case_step typed set.roots set.functions own.args) (expr_step typed set.roots set.functions own.args)
       (kind_layer.Unary op a)
 
-  at_binary : (op : TreeBinary) (a : TypedExpr) (b : TypedExpr)
-      → in_kind (kind.Binary op a b) ≡ prog.Binary (binary_op op) (At a) (At b) None
+  at_binary : (op : BinaryOp) (a : TypedExpr) (b : TypedExpr)
+      → in_kind (kind.Binary op a b) ≡ prog.Binary op (At a) (At b) None
   at_binary op a b = ap in_kind (sym (kind.rolls-Binary op a b))
       ∙ fold-roll-TypedKind Expr CaseAt Translated (kind_step typed set.roots set.functions own.args)
       (case_step typed set.roots set.functions own.args) (expr_step typed set.roots set.functions own.args)
@@ -240,11 +238,11 @@ module _ (typed : Typed) (set : Setting) (own : Frame) where
         bare_field x j ∙ ap (λ z. prog.Field z j) (bare_expr t)
         ∙ sym (by_kind e (kind.Field base j) _ is (at_field base j))
     bare_expr {e} (of_unary {a = a} {x = x} op is t) =
-        bare_unary (unary_op op) x ∙ ap (prog.Unary (unary_op op)) (bare_expr t)
+        bare_unary op x ∙ ap (prog.Unary op) (bare_expr t)
         ∙ sym (by_kind e (kind.Unary op a) _ is (at_unary op a))
     bare_expr {e} (of_binary {a = a} {b = b} {x = x} {y = y} op is ta tb) =
-        bare_binary (binary_op op) x y _ ∙ ap (λ z. prog.Binary (binary_op op) z (bare y) None) (bare_expr ta)
-        ∙ ap (λ z. prog.Binary (binary_op op) (At a) z None) (bare_expr tb)
+        bare_binary op x y _ ∙ ap (λ z. prog.Binary op z (bare y) None) (bare_expr ta)
+        ∙ ap (λ z. prog.Binary op (At a) z None) (bare_expr tb)
         ∙ sym (by_kind e (kind.Binary op a b) _ is (at_binary op a b))
     bare_expr {e} (of_if {c = c} {a = a} {b = b} {x = x} {y = y} {z = z} is tc ta tb) =
         bare_if x y z ∙ ap (λ i. prog.If i (bare y) (bare z)) (bare_expr tc)

@@ -13,7 +13,7 @@ use Rattle.pp_prog.proofs.Called.{joined_push}
 use Rattle.pp_prog.specs.Calls.{OneGroup, joined}
 use Rattle.pp_prog.specs.ExprSorts.{sort_of}
 use Rattle.pp_prog.specs.Listing.{CaseSites, Site, Sites, division, assertion, precondition, measure, matching, at_sort}
-use Rattle.pp_prog.specs.Listing.{case_sites, operator_site, site_step, sites, sites_of_cases, unguarded}
+use Rattle.pp_prog.specs.Listing.{case_sites, division_site, operator_site, site_step, sites, sites_of_cases, unguarded}
 use Rattle.pp_prog.specs.Listing.{unless_guarded, with_bound}
 use Rattle.pp_prog.specs.PatternSorts.{bound_sorts}
 use Rattle.pp_prog.specs.Valid.{Carries, Covers, has_measure, has_precondition}
@@ -26,24 +26,21 @@ use Rattle.pp_prog.specs.declared.expr.Expr.TheViews.{out-roll-Case}
 use Rattle.pp_prog.specs.declared.expr.Function.{Function}
 use Rattle.pp_prog.specs.declared.expr.Pattern.{Pattern}
 use Rattle.pp_prog.specs.declared.sort.Sort.{Sort}
-use Rattle.pp_translation.specs.Exprs.{binary_op}
+use Rattle.pp_operators.specs.Classes.{is_division}
 use Rattle.pp_translation.specs.Numbered.{Translates, TranslateAll, TranslateGuard, TranslateCase, TranslateCases}
 use Rattle.pp_translation.specs.Numbered.{after_pre, callee, check_at, descends, has_pre}
-use Rattle.pp_translation.specs.Numbered.{has_measure as has_typed_measure, is_division, more_if, number_if}
-use Rattle.pp_translation.specs.Numbered.{same_number, unguarded_at, unguarded_case, unless_guarded as typed_unless}
-use Rattle.pp_translation.specs.Numbered.{of_int, of_bool, of_local, of_call, of_construct, of_field, of_unary}
-use Rattle.pp_translation.specs.Numbered.{of_binary, of_if, of_match, of_val, of_assert, no_exprs, one_more, no_guard}
-use Rattle.pp_translation.specs.Numbered.{one_guard, one_case, no_cases, more_cases}
+use Rattle.pp_translation.specs.Numbered.{has_measure as has_typed_measure, more_if, number_if, same_number}
+use Rattle.pp_translation.specs.Numbered.{unguarded_at, unguarded_case, unless_guarded as typed_unless, of_int, of_bool}
+use Rattle.pp_translation.specs.Numbered.{of_local, of_call, of_construct, of_field, of_unary, of_binary, of_if}
+use Rattle.pp_translation.specs.Numbered.{of_match, of_val, of_assert, no_exprs, one_more, no_guard, one_guard}
+use Rattle.pp_translation.specs.Numbered.{one_case, no_cases, more_cases}
 use Rattle.pp_translation.specs.Numbers.{function_number, sort_at}
 use Rattle.pp_translation.specs.Patterns.{pattern_at}
-use Rattle.pp_translation.specs.Places.{operator_offset, site_offsets}
+use Rattle.pp_translation.specs.Places.{division_offset, operator_offset, site_offsets}
 use Rattle.pp_translation.specs.Setting.{Setting}
 use Rattle.pp_translation.specs.declared.frame.CheckAt.{CheckAt}
 use Rattle.pp_translation.specs.declared.frame.Frame.{Frame}
 use Rattle.pp_tree.specs.declared.operator.BinaryOp.{BinaryOp}
-use Rattle.pp_tree.specs.declared.operator.BinaryOp.TheVariants.{Add, Sub, Mul, Div, Rem, Equal, Differ, Less, AtMost}
-use Rattle.pp_tree.specs.declared.operator.BinaryOp.TheVariants.{More, AtLeast, AndAlso, OrElse, And, Or, Xor, Shl, Shr}
-use Rattle.pp_tree.specs.declared.operator.BinaryOp.TheVariants.{Ushr}
 use Rattle.pp_typed.specs.Put.{put}
 use Rattle.pp_typed.specs.Sorted.{IsSorted, AreSorted, IsSortedGuard, AreSortedCases, one_guard as guarded}
 use Rattle.pp_typed.specs.Stand.{Offset}
@@ -116,30 +113,17 @@ module _ (typed : Typed) (set : Setting) (ms : List Member) (fs : List Function)
   same : (s t : List Site) (o p : List Offset) (old new : List CheckAt) → t ≡ s → p ≡ o → L s o old new → L t p old new
   same s t o p old new e q h = lists_same set.types fs own.number s t o p old new e q h
 
+  quotient : (e : TypedExpr) (b : Bool) (cs : List CheckAt)
+      → L (division_site b (number_if b cs) ∷ []) (division_offset b (e.source, e.at)) cs
+      (more_if b (check_at typed set own check.Division e) cs)
+  quotient e true cs = one_if set.types fs own.number (division (number_if true cs)) check.Division true
+      (check_at typed set own check.Division e) cs refl refl refl refl refl refl
+  quotient e false cs = plain_site set.types fs own.number cs
+
   operator : (e : TypedExpr) (op : BinaryOp) (cs : List CheckAt)
-      → L (operator_site (binary_op op) (number_if (is_division op) cs) ∷ []) (operator_offset op (e.source, e.at)) cs
+      → L (operator_site op (number_if (is_division op) cs) ∷ []) (operator_offset op (e.source, e.at)) cs
       (more_if (is_division op) (check_at typed set own check.Division e) cs)
-  operator e Div cs = one_if set.types fs own.number (division (number_if true cs)) check.Division true
-      (check_at typed set own check.Division e) cs refl refl refl refl refl refl
-  operator e Rem cs = one_if set.types fs own.number (division (number_if true cs)) check.Division true
-      (check_at typed set own check.Division e) cs refl refl refl refl refl refl
-  operator e Add cs = plain_site set.types fs own.number cs
-  operator e Sub cs = plain_site set.types fs own.number cs
-  operator e Mul cs = plain_site set.types fs own.number cs
-  operator e Equal cs = plain_site set.types fs own.number cs
-  operator e Differ cs = plain_site set.types fs own.number cs
-  operator e Less cs = plain_site set.types fs own.number cs
-  operator e AtMost cs = plain_site set.types fs own.number cs
-  operator e More cs = plain_site set.types fs own.number cs
-  operator e AtLeast cs = plain_site set.types fs own.number cs
-  operator e AndAlso cs = plain_site set.types fs own.number cs
-  operator e OrElse cs = plain_site set.types fs own.number cs
-  operator e And cs = plain_site set.types fs own.number cs
-  operator e Or cs = plain_site set.types fs own.number cs
-  operator e Xor cs = plain_site set.types fs own.number cs
-  operator e Shl cs = plain_site set.types fs own.number cs
-  operator e Shr cs = plain_site set.types fs own.number cs
-  operator e Ushr cs = plain_site set.types fs own.number cs
+  operator e op cs = quotient e (is_division op) cs
 
   -- the two sites of a call
   call_sites : (e : TypedExpr) (f : ℕ) (d : TypedDef) (sorts : List GenericSort) (cs : List CheckAt) (h : Function)
@@ -304,7 +288,7 @@ module _ (typed : Typed) (set : Setting) (ms : List Member) (fs : List Function)
         let f = exprs.at_form typed set ms fs known own params own_types e (kind.Binary op a b) _ h is
         (kind.outs-Binary op a b) in
         let inside = in_binary ms own.args e a b op is w in
-        same _ _ _ _ old new (sites_binary set.types fs (map G scope) (binary_op op) x y _) (offsets_binary e op a b is)
+        same _ _ _ _ old new (sites_binary set.types fs (map G scope) op x y _) (offsets_binary e op a b is)
         (two (At scope x ++ At scope y) _ (site_offsets a ++ site_offsets b) _ old last new
         (two (At scope x) (At scope y) (site_offsets a) (site_offsets b) old mid last
         (lists_expr ta f.left (in_left ms own.args (mentions a) (mentions b) inside))

@@ -28,7 +28,6 @@ use Rattle.pp_prog.specs.declared.sort.Sort.TheVariants as of_prog
 use Rattle.pp_prog.specs.declared.types.Ctor.{Ctor}
 use Rattle.pp_prog.specs.declared.types.Datatype.{Datatype}
 use Rattle.pp_prog.specs.declared.types.TypeTable.{TypeTable}
-use Rattle.pp_translation.specs.Exprs.{binary_op, unary_op}
 use Rattle.pp_translation.specs.Numbered.{Translates, TranslateAll, TranslateGuard, TranslateCase, TranslateCases}
 use Rattle.pp_translation.specs.Numbered.{of_int, of_bool, of_local, of_call, of_construct, of_field, of_unary}
 use Rattle.pp_translation.specs.Numbered.{of_binary, of_if, of_match, of_val, of_assert, no_exprs, one_more, no_guard}
@@ -283,17 +282,17 @@ module _ (typed : Typed) (set : Setting) (ms : List Member) (fs : List Function)
         there f.s (contains_at f.k.fields j f.s f.declared))) ∙ ap G (sym f.result)))
     sorted_expr {e} {scope = scope} (of_unary {a = a} {x = x} op is t) h w =
         let f = at_form e (kind.Unary op a) _ h is (kind.outs-Unary op a) in
-        sort_of_unary set.types fs (map G scope) (unary_op op) x
-        ∙ ap (unary_sort (unary_op op)) (sorted_expr t f.0 (in_unary ms own.args e a op is w))
+        sort_of_unary set.types fs (map G scope) op x
+        ∙ ap (unary_sort op) (sorted_expr t f.0 (in_unary ms own.args e a op is w))
         ∙ unary_right G int bool op a.of e.of f.1 f.2
     sorted_expr {e} {scope = scope} (of_binary {a = a} {b = b} {x = x} {y = y} op is ta tb) h w =
         let f = at_form e (kind.Binary op a b) _ h is (kind.outs-Binary op a b) in
         let inside = in_binary ms own.args e a b op is w in
         let left = sorted_expr ta f.left (in_left ms own.args (mentions a) (mentions b) inside) in
         let right = sorted_expr tb f.right (in_right ms own.args (mentions a) (mentions b) inside) ∙ ap some f.same in
-        sort_of_binary set.types fs (map G scope) (binary_op op) x y _
-        ∙ ap (λ z. binary_sort (binary_op op) z (Has y scope)) left
-        ∙ ap (λ z. binary_sort (binary_op op) (some a.of) z) right ∙ binary_right G int bool op a.of e.of f.operates
+        sort_of_binary set.types fs (map G scope) op x y _
+        ∙ ap (λ z. binary_sort op z (Has y scope)) left
+        ∙ ap (λ z. binary_sort op (some a.of) z) right ∙ binary_right G int bool op a.of e.of f.operates
     sorted_expr {e} {scope = scope} (of_if {c = c} {a = a} {b = b} {x = x} {y = y} {z = z} is tc ta tb) h w =
         let f = at_form e (kind.If c a b) _ h is (kind.outs-If c a b) in
         let inside = in_if ms own.args e c a b is w in

@@ -1,17 +1,16 @@
 -- The sorts of operands and of results, and of the one sort of both.
 use Rattle.std.proofs.Common.{◌≡◌, ⊎_elim, true, Some, refl, sym, ap, ◌∙◌, eq-eqb}
-use Rattle.pp_prog.specs.ExprSorts.{alike, binary_sort, sort_if, then_sort, unary_sort as prog_unary}
+use Rattle.pp_operators.specs.Classes.{class_of}
+use Rattle.pp_operators.specs.declared.class.OperatorClass.{OperatorClass}
+use Rattle.pp_operators.specs.declared.class.OperatorClass.TheVariants as class
+use Rattle.pp_prog.specs.ExprSorts.{alike, binary_sort, class_sort, sort_if, then_sort, unary_sort as prog_unary}
 use Rattle.pp_prog.specs.Sorts.{same_sort}
 use Rattle.pp_prog.specs.declared.sort.Sort.{Sort}
 use Rattle.pp_prog.specs.declared.sort.Sort.TheVariants as prog
-use Rattle.pp_translation.specs.Exprs.{binary_op, unary_op}
 use Rattle.pp_tree.specs.declared.operator.BinaryOp.{BinaryOp}
-use Rattle.pp_tree.specs.declared.operator.BinaryOp.TheVariants.{Add, Sub, Mul, Div, Rem, Equal, Differ, Less, AtMost}
-use Rattle.pp_tree.specs.declared.operator.BinaryOp.TheVariants.{More, AtLeast, AndAlso, OrElse, And, Or, Xor, Shl, Shr}
-use Rattle.pp_tree.specs.declared.operator.BinaryOp.TheVariants.{Ushr}
 use Rattle.pp_tree.specs.declared.operator.UnaryOp.{UnaryOp}
 use Rattle.pp_tree.specs.declared.operator.UnaryOp.TheVariants.{Neg, Not, Flip}
-use Rattle.pp_typed.specs.Operators.{Operates, IsNumeric, IsOrder, IsLogical, IsBitwise, unary_sort}
+use Rattle.pp_typed.specs.Operators.{ClassOperates, Operates, IsNumeric, IsOrder, IsLogical, IsBitwise, unary_sort}
 use Rattle.pp_typed.specs.declared.sort.GenericSort.{GenericSort}
 use Rattle.pp_typed.specs.declared.sort.GenericSort.TheVariants as sort
 
@@ -26,64 +25,57 @@ alike_self s = ap (λ b. sort_if b s) (same_self s)
 -- where G gives the sorts of the program
 module _ (G : GenericSort → Sort) (int : G sort.Int ≡ prog.Int) (bool : G sort.Bool ≡ prog.Bool) where
   pub unary_right : (op : UnaryOp) (a of : GenericSort) → a ≡ unary_sort op → of ≡ unary_sort op
-      → prog_unary (unary_op op) (Some (G a)) ≡ Some (G of)
-  unary_right Neg a of p q = ap (λ s. prog_unary (unary_op Neg) (Some s)) (ap G p ∙ int) ∙ ap Some (sym (ap G q ∙ int))
+      → prog_unary op (Some (G a)) ≡ Some (G of)
+  unary_right Neg a of p q = ap (λ s. prog_unary Neg (Some s)) (ap G p ∙ int) ∙ ap Some (sym (ap G q ∙ int))
   unary_right Not a of p q =
-      ap (λ s. prog_unary (unary_op Not) (Some s)) (ap G p ∙ bool) ∙ ap Some (sym (ap G q ∙ bool))
+      ap (λ s. prog_unary Not (Some s)) (ap G p ∙ bool) ∙ ap Some (sym (ap G q ∙ bool))
   unary_right Flip a of p q =
-      ap (λ s. prog_unary (unary_op Flip) (Some s)) (ap G p ∙ int) ∙ ap Some (sym (ap G q ∙ int))
+      ap (λ s. prog_unary Flip (Some s)) (ap G p ∙ int) ∙ ap Some (sym (ap G q ∙ int))
 
-  both : (op : BinaryOp) (a of : GenericSort) (s t : Sort) → G a ≡ s → G of ≡ t
-      → binary_sort (binary_op op) (Some s) (Some s) ≡ Some t
-      → binary_sort (binary_op op) (Some (G a)) (Some (G a)) ≡ Some (G of)
-  both op a of s t p q h = ap (λ z. binary_sort (binary_op op) (Some z) (Some z)) p ∙ h ∙ ap Some (sym q)
+  both : (c : OperatorClass) (a of : GenericSort) (s t : Sort) → G a ≡ s → G of ≡ t
+      → class_sort c (Some s) (Some s) ≡ Some t
+      → class_sort c (Some (G a)) (Some (G a)) ≡ Some (G of)
+  both c a of s t p q h = ap (λ z. class_sort c (Some z) (Some z)) p ∙ h ∙ ap Some (sym q)
 
-  equal_right : (op : BinaryOp) (a of : GenericSort) → of ≡ sort.Bool
-      → binary_sort (binary_op op) (Some (G a)) (Some (G a)) ≡ Some prog.Bool
-      → binary_sort (binary_op op) (Some (G a)) (Some (G a)) ≡ Some (G of)
-  equal_right op a of p h = h ∙ ap Some (sym (ap G p ∙ bool))
+  equal_right : (c : OperatorClass) (a of : GenericSort) → of ≡ sort.Bool
+      → class_sort c (Some (G a)) (Some (G a)) ≡ Some prog.Bool
+      → class_sort c (Some (G a)) (Some (G a)) ≡ Some (G of)
+  equal_right c a of p h = h ∙ ap Some (sym (ap G p ∙ bool))
 
-  abbrev numeric : (op : BinaryOp) (a of : GenericSort) → IsNumeric a of
-      → binary_sort (binary_op op) (Some prog.Int) (Some prog.Int) ≡ Some prog.Int
-      → binary_sort (binary_op op) (Some (G a)) (Some (G a)) ≡ Some (G of)
-  numeric op a of h c = both op a of prog.Int prog.Int (ap G h.0 ∙ int) (ap G h.1 ∙ int) c
+  abbrev numeric : (c : OperatorClass) (a of : GenericSort) → IsNumeric a of
+      → class_sort c (Some prog.Int) (Some prog.Int) ≡ Some prog.Int
+      → class_sort c (Some (G a)) (Some (G a)) ≡ Some (G of)
+  numeric c a of h is = both c a of prog.Int prog.Int (ap G h.0 ∙ int) (ap G h.1 ∙ int) is
 
-  abbrev order : (op : BinaryOp) (a of : GenericSort) → IsOrder a of
-      → binary_sort (binary_op op) (Some prog.Int) (Some prog.Int) ≡ Some prog.Bool
-      → binary_sort (binary_op op) (Some (G a)) (Some (G a)) ≡ Some (G of)
-  order op a of h c = both op a of prog.Int prog.Bool (ap G h.0 ∙ int) (ap G h.1 ∙ bool) c
+  abbrev order : (c : OperatorClass) (a of : GenericSort) → IsOrder a of
+      → class_sort c (Some prog.Int) (Some prog.Int) ≡ Some prog.Bool
+      → class_sort c (Some (G a)) (Some (G a)) ≡ Some (G of)
+  order c a of h is = both c a of prog.Int prog.Bool (ap G h.0 ∙ int) (ap G h.1 ∙ bool) is
 
-  abbrev logical : (op : BinaryOp) (a of : GenericSort) → IsLogical a of
-      → binary_sort (binary_op op) (Some prog.Bool) (Some prog.Bool) ≡ Some prog.Bool
-      → binary_sort (binary_op op) (Some (G a)) (Some (G a)) ≡ Some (G of)
-  logical op a of h c = both op a of prog.Bool prog.Bool (ap G h.0 ∙ bool) (ap G h.1 ∙ bool) c
+  abbrev logical : (c : OperatorClass) (a of : GenericSort) → IsLogical a of
+      → class_sort c (Some prog.Bool) (Some prog.Bool) ≡ Some prog.Bool
+      → class_sort c (Some (G a)) (Some (G a)) ≡ Some (G of)
+  logical c a of h is = both c a of prog.Bool prog.Bool (ap G h.0 ∙ bool) (ap G h.1 ∙ bool) is
 
-  abbrev bitwise : (op : BinaryOp) (a of : GenericSort) → IsBitwise a of
-      → binary_sort (binary_op op) (Some prog.Int) (Some prog.Int) ≡ Some prog.Int
-      → binary_sort (binary_op op) (Some prog.Bool) (Some prog.Bool) ≡ Some prog.Bool
-      → binary_sort (binary_op op) (Some (G a)) (Some (G a)) ≡ Some (G of)
-  bitwise op a of h c d =
-      ⊎_elim (λ (n : IsNumeric a of). numeric op a of n c) (λ (l : IsLogical a of). logical op a of l d) h
+  abbrev bitwise : (c : OperatorClass) (a of : GenericSort) → IsBitwise a of
+      → class_sort c (Some prog.Int) (Some prog.Int) ≡ Some prog.Int
+      → class_sort c (Some prog.Bool) (Some prog.Bool) ≡ Some prog.Bool
+      → class_sort c (Some (G a)) (Some (G a)) ≡ Some (G of)
+  bitwise c a of h is also =
+      ⊎_elim (λ (n : IsNumeric a of). numeric c a of n is) (λ (l : IsLogical a of). logical c a of l also) h
+
+  class_right : (c : OperatorClass) (a of : GenericSort) → ClassOperates c a of
+      → class_sort c (Some (G a)) (Some (G a)) ≡ Some (G of)
+  class_right class.Sum a of h = numeric class.Sum a of h refl
+  class_right class.Product a of h = numeric class.Product a of h refl
+  class_right class.Quotient a of h = numeric class.Quotient a of h refl
+  class_right class.Equality a of h =
+      equal_right class.Equality a of h (ap (λ o. then_sort o (λ s. Some prog.Bool)) (alike_self (G a)))
+  class_right class.Order a of h = order class.Order a of h refl
+  class_right class.Logic a of h = logical class.Logic a of h refl
+  class_right class.Bitwise a of h = bitwise class.Bitwise a of h refl refl
+  class_right class.Shift a of h = numeric class.Shift a of h refl
 
   pub binary_right : (op : BinaryOp) (a of : GenericSort) → Operates op a of
-      → binary_sort (binary_op op) (Some (G a)) (Some (G a)) ≡ Some (G of)
-  binary_right Add a of h = numeric Add a of h refl
-  binary_right Sub a of h = numeric Sub a of h refl
-  binary_right Mul a of h = numeric Mul a of h refl
-  binary_right Div a of h = numeric Div a of h refl
-  binary_right Rem a of h = numeric Rem a of h refl
-  binary_right Equal a of h = equal_right Equal a of h (ap (λ o. then_sort o (λ s. Some prog.Bool)) (alike_self (G a)))
-  binary_right Differ a of h =
-      equal_right Differ a of h (ap (λ o. then_sort o (λ s. Some prog.Bool)) (alike_self (G a)))
-  binary_right Less a of h = order Less a of h refl
-  binary_right AtMost a of h = order AtMost a of h refl
-  binary_right More a of h = order More a of h refl
-  binary_right AtLeast a of h = order AtLeast a of h refl
-  binary_right AndAlso a of h = logical AndAlso a of h refl
-  binary_right OrElse a of h = logical OrElse a of h refl
-  binary_right And a of h = bitwise And a of h refl refl
-  binary_right Or a of h = bitwise Or a of h refl refl
-  binary_right Xor a of h = bitwise Xor a of h refl refl
-  binary_right Shl a of h = numeric Shl a of h refl
-  binary_right Shr a of h = numeric Shr a of h refl
-  binary_right Ushr a of h = numeric Ushr a of h refl
+      → binary_sort op (Some (G a)) (Some (G a)) ≡ Some (G of)
+  binary_right op a of h = class_right (class_of op) a of h

@@ -13,10 +13,11 @@ use Rattle.pp_prog.specs.declared.expr.Function.{Function}
 use Rattle.pp_prog.specs.declared.id.CheckId.{CheckId}
 use Rattle.pp_translation.specs.Defs.{StandsAt, TranslatesDef, TranslatesDefs, TranslatesPost, no_defs, more_defs}
 use Rattle.pp_translation.specs.Defs.{none_more, no_post, one_post}
+use Rattle.pp_operators.specs.Classes.{is_division}
 use Rattle.pp_translation.specs.Numbered.{Translates, TranslateAll, TranslateGuard, TranslateCase, TranslateCases}
-use Rattle.pp_translation.specs.Numbered.{after_pre, callee, check_at, descends, has_pre, is_division, more_if, of_int}
-use Rattle.pp_translation.specs.Numbered.{of_bool, of_local, of_call, of_construct, of_field, of_unary, of_binary}
-use Rattle.pp_translation.specs.Numbered.{of_if, of_match, of_val, of_assert, no_exprs, one_more, no_guard, one_guard}
+use Rattle.pp_translation.specs.Numbered.{after_pre, callee, check_at, descends, has_pre, more_if, of_int, of_bool}
+use Rattle.pp_translation.specs.Numbered.{of_local, of_call, of_construct, of_field, of_unary, of_binary, of_if}
+use Rattle.pp_translation.specs.Numbered.{of_match, of_val, of_assert, no_exprs, one_more, no_guard, one_guard}
 use Rattle.pp_translation.specs.Numbered.{one_case, no_cases, more_cases}
 use Rattle.pp_prog.specs.declared.check.CheckKind.TheVariants as check
 use Rattle.pp_translation.specs.Setting.{Setting}

@@ -8,9 +8,8 @@ use Rattle.pp_prog.specs.declared.id.CheckId.{CheckId}
 use Rattle.pp_prog.specs.declared.id.FunctionId.{FunctionId}
 use Rattle.pp_prog.specs.declared.types.Ctor.{Ctor}
 use Rattle.pp_prog.specs.declared.value.Value.{Value}
-use Rattle.pp_prog.specs.Calls.{call_table, calls, function_calls, joined, post_calls, pre_calls}
+use Rattle.pp_prog.specs.Calls.{call_table, calls, contract_calls, function_calls, joined, post_calls, pre_calls}
 use Rattle.pp_checks.specs.Closed.{Nests}
-use Rattle.pp_checks.specs.Rules.{contract_calls}
 use Rattle.pp_checks.proofs.Ruling.{calls_at}
 use Rattle.pp_eval.specs.Invocation.{admits, descends}
 use Rattle.pp_eval.specs.Meaning.{CallMeaning, Frame}

@@ -5,7 +5,7 @@ use Rattle.clap.specs.Words.{Row, all_of, first_of}
 use Rattle.pp_words.specs.Command.{faults_in, has_lone_hyphen, values_in}
 use Rattle.pp_words.specs.Task.{Given, Task, task_of}
 
--- a task, and the paths of the sources
+-- a task, and the paths of the sources that are fetched for it
 pub record Line : Type 0 where
   pub task : Task
   pub files : List (List ℕ)
@@ -23,6 +23,7 @@ given_in rows = record {
   gates = first_of (codes "gates") rows;
   function = first_of (codes "function") rows;
   fuel = first_of (codes "fuel") rows;
+  seed = first_of (codes "seed") rows;
   files = unwrap_or (all_of (codes "file") rows) [];
 }
 

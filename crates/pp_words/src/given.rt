@@ -19,6 +19,7 @@ pub(crate) struct Given<'a> {
     pub gates: Option<&'a str>,
     pub function: Option<&'a str>,
     pub fuel: Option<&'a str>,
+    pub seed: Option<&'a str>,
     pub files: Vec<&'a str>,
 }
 
@@ -45,6 +46,7 @@ pub(crate) fn values<'a>(alloc: Global, matches: &ArgMatches<'a>) -> Result<Give
         gates: matches.get_str("gates"),
         function: matches.get_str("function"),
         fuel: matches.get_str("fuel"),
+        seed: matches.get_str("seed"),
         files,
     })
 }

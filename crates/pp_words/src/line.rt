@@ -32,7 +32,8 @@ impl From<NoMemory> for WordsFault {
     }
 }
 
-/// A line of words: what is asked, and the paths of the sources, 1 to 16, in their order.
+/// A line of words: what is asked, and the paths of the sources that are fetched for it, 1 to 16, in their order. For a
+/// source that is made there are none.
 #[derive(Drop)]
 pub struct Line<'a> {
     /// What is asked.

@@ -7,8 +7,8 @@ ghost use Rattle.pp_words.specs.Number.{number_in};
 
 use pp_limits::Range;
 
-// The number of one to seven digits, where it is in the range.
-fn number(text: &str, low: u32, high: u32) -> Option<u32>
+/// The number of one to seven digits, where it is in the range.
+pub(crate) fn number(text: &str, low: u32, high: u32) -> Option<u32>
     ensures { result ≡ number_in low high text.now }
 {
     let bytes = text.as_bytes();

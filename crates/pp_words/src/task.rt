@@ -3,27 +3,32 @@
 ghost use Rattle.std.specs.Prelude.{◌≡◌};
 ghost use Rattle.std.specs.Option.{option_map};
 ghost use Rattle.pp_words.specs.Task as spec;
-ghost use Rattle.pp_words.specs.Task.{listing, running, verifying};
+ghost use Rattle.pp_words.specs.Task.{listing, making, running, verifying};
 ghost use Rattle.pp_words.specs.Told.{given_told, mode_told, task_told};
 
+use crate::NESTED;
 use crate::given::Given;
-use crate::number::number_of;
-use pp_limits::{DEPTH, FUEL, GATES, LEMMAS, MOST_SOURCES, ROUNDS};
+use crate::number::{number, number_of};
+use pp_limits::{DEPTH, GATES, LEAST_SEED, LEMMAS, MOST_SEED, MOST_SOURCES, ROUNDS};
+
+/// How far functions are verified.
+#[derive(Clone, Copy, Debug, PartialEq, Eq)]
+pub struct Numbers {
+    /// The greatest round, 0 to 12.
+    pub rounds: u32,
+    /// The greatest height of arguments, 1 to 6.
+    pub depth: u32,
+    /// How many lemmas a query may take, 1 to 1,000,000.
+    pub lemmas: u32,
+    /// How many gates a round may be estimated at, 1 to 4,000,000.
+    pub gates: u32,
+}
 
 /// What is asked of the program.
 #[derive(Clone, Copy, Debug, PartialEq, Eq)]
 pub enum Task<'a> {
-    /// Search each check.
-    Verify {
-        /// The greatest round, 0 to 12.
-        rounds: u32,
-        /// The greatest height of arguments, 1 to 6.
-        depth: u32,
-        /// How many lemmas a query may take, 1 to 1,000,000.
-        lemmas: u32,
-        /// How many gates a round may be estimated at, 1 to 4,000,000.
-        gates: u32,
-    },
+    /// Verify each function.
+    Verify(Numbers),
     /// List each check with the estimate of a round.
     List {
         /// The round, 0 to 12.
@@ -38,6 +43,13 @@ pub enum Task<'a> {
         /// How many calls may be nested, 0 to 100.
         fuel: u32,
     },
+    /// Make a source, and verify each function of it.
+    Make {
+        /// What the source is made from, 1 to 200.
+        seed: u32,
+        /// How far its functions are verified.
+        numbers: Numbers,
+    },
 }
 
 // The modes.
@@ -46,6 +58,7 @@ enum Mode {
     Verify,
     List,
     Run,
+    Make,
 }
 
 fn mode_named(name: &str) -> Option<Mode>
@@ -55,7 +68,19 @@ fn mode_named(name: &str) -> Option<Mode>
         "verify" => Some(Mode::Verify),
         "list" => Some(Mode::List),
         "run" => Some(Mode::Run),
+        "make" => Some(Mode::Make),
         _ => None,
+    }
+}
+
+// Whether there are 1 to 16 files where the mode reads them, and else none.
+fn has_files(mode: Mode, given: &Given) -> bool
+    ensures { result ≡ spec.has_files (mode_told mode) (given_told given.now) }
+{
+    let files = given.files.len();
+    match mode {
+        Mode::Make => files == 0,
+        _ => 1 <= files && files <= MOST_SOURCES,
     }
 }
 
@@ -63,24 +88,33 @@ fn mode_named(name: &str) -> Option<Mode>
 fn reads_all(mode: Mode, given: &Given) -> bool
     ensures { result ≡ spec.reads_all (mode_told mode) (given_told given.now) }
 {
+    let round = given.rounds.is_none() && given.depth.is_none();
     let limits = given.lemmas.is_none() && given.gates.is_none();
     let run = given.function.is_none() && given.fuel.is_none();
+    let seed = given.seed.is_none();
     match mode {
-        Mode::Verify => run,
-        Mode::List => limits && run,
-        Mode::Run => given.rounds.is_none() && given.depth.is_none() && limits,
+        Mode::Verify => run && seed,
+        Mode::List => limits && run && seed,
+        Mode::Run => round && limits && seed,
+        Mode::Make => run,
     }
 }
 
-fn verify<'a>(given: &Given<'a>) -> Option<Task<'a>>
-    ensures { option_map task_told result ≡ spec.asked verifying (given_told given.now) }
+fn numbers_in(given: &Given) -> Option<Numbers>
+    ensures { result ≡ spec.numbers_in (given_told given.now) }
 {
-    Some(Task::Verify {
+    Some(Numbers {
         rounds: number_of(ROUNDS, given.rounds)?,
         depth: number_of(DEPTH, given.depth)?,
         lemmas: number_of(LEMMAS, given.lemmas)?,
         gates: number_of(GATES, given.gates)?,
     })
+}
+
+fn verify<'a>(given: &Given<'a>) -> Option<Task<'a>>
+    ensures { option_map task_told result ≡ spec.asked verifying (given_told given.now) }
+{
+    Some(Task::Verify(numbers_in(given)?))
 }
 
 fn list<'a>(given: &Given<'a>) -> Option<Task<'a>>
@@ -97,7 +131,16 @@ fn run<'a>(given: &Given<'a>) -> Option<Task<'a>>
 {
     Some(Task::Run {
         function: given.function?,
-        fuel: number_of(FUEL, given.fuel)?,
+        fuel: number_of(NESTED, given.fuel)?,
+    })
+}
+
+fn make<'a>(given: &Given<'a>) -> Option<Task<'a>>
+    ensures { option_map task_told result ≡ spec.asked making (given_told given.now) }
+{
+    Some(Task::Make {
+        seed: number(given.seed?, LEAST_SEED, MOST_SEED)?,
+        numbers: numbers_in(given)?,
     })
 }
 
@@ -105,13 +148,14 @@ fn run<'a>(given: &Given<'a>) -> Option<Task<'a>>
 fn task_in<'a>(mode: Mode, given: &Given<'a>) -> Option<Task<'a>>
     ensures { option_map task_told result ≡ spec.task_in (mode_told mode) (given_told given.now) }
 {
-    if !reads_all(mode, given) {
+    if !has_files(mode, given) || !reads_all(mode, given) {
         return None;
     }
     match mode {
         Mode::Verify => verify(given),
         Mode::List => list(given),
         Mode::Run => run(given),
+        Mode::Make => make(given),
     }
 }
 
@@ -119,9 +163,6 @@ fn task_in<'a>(mode: Mode, given: &Given<'a>) -> Option<Task<'a>>
 pub(crate) fn asked<'a>(given: &Given<'a>) -> Option<Task<'a>>
     ensures { option_map task_told result ≡ spec.task_of (given_told given.now) }
 {
-    if given.files.is_empty() || given.files.len() > MOST_SOURCES {
-        return None;
-    }
     let mode = match given.mode {
         Some(name) => mode_named(name)?,
         None => Mode::Verify,

@@ -6,16 +6,19 @@ use Rattle.std.specs.List.{concat}
 use Rattle.std.proofs.lemmas.List.Elements.{All-contains, Contains-get_or}
 use Rattle.std.proofs.lemmas.Option.{get_or_from_slice_get, slice_get_within}
 use Rattle.pp_answers.specs.Answers as answer
-use Rattle.pp_answers.specs.Answers.{Answers, IsAccepted}
+use Rattle.pp_answers.specs.Answers.{Answers, IsAccepted, sources_of}
 use Rattle.pp_answers.proofs.Statuses.{is_verdict}
 use Rattle.pp_answers.specs.Claims.{AreLinesOf, Claim}
-use Rattle.pp_answers.specs.Laws.{Agree, IsAlwaysTrue, IsOnVerdicts, IsVerify, OneLineEach, OneStatus, all_valid}
-use Rattle.pp_answers.specs.Laws.{is_verify, some_invalid, some_open, verify_within}
+use Rattle.pp_answers.specs.Laws.{Agree, IsAlwaysTrue, IsOnVerdicts, IsVerify, MadeReadBack, OneLineEach, OneStatus}
+use Rattle.pp_answers.specs.Laws.{all_valid, is_make, is_verify, some_invalid, some_open, verify_within}
 use Rattle.pp_induct.specs.declared.limits.Limits.{Limits}
+use Rattle.pp_modes.proofs.Ranges.{line_fits}
+use Rattle.pp_modes.specs.Answers.{IsInRange}
 use Rattle.pp_modes.specs.Codes.{code_of}
 use Rattle.pp_modes.specs.Responses.{Response, lines_in, report, status_in}
 use Rattle.pp_modes.specs.declared.status.Status.{Status}
 use Rattle.pp_modes.specs.declared.status.Status.TheVariants as status
+use Rattle.pp_modes.specs.Verdicts.{status_for}
 use Rattle.pp_prog.specs.declared.program.Program.{Program}
 use Rattle.pp_text.specs.Limits.{most_bytes}
 use Rattle.pp_words.specs.Line.{Line, line_of}
@@ -27,13 +30,13 @@ use Rattle.pureproof.specs.Ends.{no_files, one_file, out_failed}
 use Rattle.pureproof.specs.Fetched.{AreHeld, IsHeld, Text, no_paths, one_path}
 use Rattle.pureproof.specs.Shown.{Shows, TookAll, both_cut, cut, printed, refusal_cut, refused}
 
-none_some : {A : Type 0} {x : A} → None ≡ Some x → ⊥
+pub none_some : {A : Type 0} {x : A} → None ≡ Some x → ⊥
 none_some h = cc
 
 pub some_same : {A : Type 0} {x y : A} → Some x ≡ Some y → x ≡ y
 some_same h = cc
 
-one_line : (words : List Text) (l m : Line) → line_of words ≡ Some l → line_of words ≡ Some m → l ≡ m
+pub one_line : (words : List Text) (l m : Line) → line_of words ≡ Some l → line_of words ≡ Some m → l ≡ m
 one_line words l m a b = some_same (sym a ∙ b)
 
 -- what is shown ends with its own status, or something failed
@@ -110,16 +113,28 @@ comes one run s e line sources r holds answers =
     (λ q here. one line.task sources q r here answers)
     e.response s e.due e.shows
 
--- ---- mode `verify`
+-- ---- modes `verify` and `make`
 
-verdict_status : OneLineEach → (task : Task) → IsVerify task → (sources : List Text) (q : Response)
-    → Answers task sources q → (p : Program) → IsAccepted sources p → IsOnVerdicts (status_in q)
-verdict_status each task (is_verify limits) sources q answers p is =
+on_counts : (i o d : ℕ) → IsOnVerdicts (status_for i o d)
+on_counts (suc i) o d = some_invalid
+on_counts zero (suc o) d = some_open
+on_counts zero zero (suc d) = some_open
+on_counts zero zero zero = all_valid
+
+verdict_status : OneLineEach → MadeReadBack → (task : Task) → IsVerify task → IsInRange task → (sources : List Text)
+    (q : Response) → Answers task sources q → (p : Program) → IsAccepted (sources_of task sources) p
+    → IsOnVerdicts (status_in q)
+verdict_status each made task (is_verify limits) range sources q answers p is =
     is_verdict p.functions (lines_in q) (status_in q) (each limits sources q answers p is).status
+verdict_status each made task (is_make seed limits) range sources q answers p is =
+    let read = made seed limits sources q range.1 answers p is in
+    subst IsOnVerdicts (sym read.status) (on_counts _ _ _)
 
-pub verifies : OneLineEach → (run : Run) (s : Status) → Ends run s → Verifies run s
-verifies each run s e line sources p holds task is =
-    by_due run line sources holds IsOnVerdicts (λ q answers. verdict_status each line.task task sources q answers p is)
+pub verifies : OneLineEach → MadeReadBack → (run : Run) (s : Status) → Ends run s → Verifies run s
+verifies each made run s e line sources p holds task is =
+    by_due run line sources holds IsOnVerdicts
+    (λ q answers. verdict_status each made line.task task (line_fits run.words line holds.words).range sources q
+    answers p is)
     e.response s e.due e.shows
 
 -- a status on verdicts is 0, 1 or 2
@@ -128,16 +143,17 @@ low s all_valid = omega arith
 low s some_invalid = omega arith
 low s some_open = omega arith
 
-other : (s t : Status) → s ≡ t → IsOnVerdicts s → 3 ≤ code_of t → ⊥
+pub other : (s t : Status) → s ≡ t → IsOnVerdicts s → 3 ≤ code_of t → ⊥
 other s t same is high = let less = low t (subst IsOnVerdicts same is) in absurd (omega (arith, less, high))
 
 -- where it ends so, what is shown has this status, and as far as it has lines it is a report, of which `out` took all
-record IsPrinted (run : Run) (q : Response) (s : Status) : Type 0 where
+pub record IsPrinted (run : Run) (q : Response) (s : Status) : Type 0 where
   pub same : s ≡ status_in q
   pub reports : 0 < length (lines_in q) → q ≡ report s (lines_in q)
   pub all : 0 < length (lines_in q) → TookAll run.out (concat (lines_in q))
 
-is_printed : (run : Run) (q : Response) (s : Status) → Shows run.out run.err q s → IsOnVerdicts s → IsPrinted run q s
+pub is_printed : (run : Run) (q : Response) (s : Status) → Shows run.out run.err q s → IsOnVerdicts s
+    → IsPrinted run q s
 is_printed run q s (printed t lines all still) is = record { same = refl; reports = λ some. refl; all = λ some. all }
 is_printed run q s (cut t lines front all) is = absurd (other status.WriteFault status.WriteFault refl is (omega arith))
 is_printed run q s (both_cut t lines front again) is =
@@ -150,8 +166,8 @@ is_printed run q s (refused t line still all) is = record {
 is_printed run q s (refusal_cut t line still front) is =
     absurd (other status.WriteFault status.WriteFault refl is (omega arith))
 
-is_accepted : (task : Task) (sources : List Text) (q : Response) → Answers task sources q → IsOnVerdicts (status_in q)
-    → (p : Program) × IsAccepted sources p
+pub is_accepted : (task : Task) (sources : List Text) (q : Response) → Answers task sources q
+    → IsOnVerdicts (status_in q) → (p : Program) × IsAccepted (sources_of task sources) p
 is_accepted task sources q (answer.refused a) is = absurd (other status.Refused status.Refused refl is (omega arith))
 is_accepted task sources q (answer.accepted p is_program a) is = (p, is_program)
 

@@ -2,3 +2,4 @@ pub mod Showing
 pub mod Ending
 pub mod Held
 pub mod Reading
+pub mod Made

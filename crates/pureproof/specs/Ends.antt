@@ -1,11 +1,12 @@
 -- How a run of the program ends. Source: own.
-use Rattle.std.specs.Prelude.{◌≡◌, ◌⊎◌, ◌∷◌, ◌++◌, [], List, Option, Some, Contains}
+use Rattle.std.specs.Prelude.{◌≡◌, ◌⊎◌, ◌∷◌, ◌++◌, [], ℕ, List, Option, Some, Contains}
 use Rattle.std.specs.List.{concat}
-use Rattle.pp_answers.specs.Answers.{Answers, IsAccepted}
+use Rattle.pp_answers.specs.Answers.{Answers, IsAccepted, sources_of}
 use Rattle.pp_answers.specs.Claims.{AreLinesOf, Claim, InvalidFails, OpenIsSearched, ValidIsGood}
-use Rattle.pp_answers.specs.Laws.{Agree, EachLine, IsOnVerdicts, IsVerify, verify_within}
-use Rattle.pp_answers.specs.Readings.{IsTextReadBack}
+use Rattle.pp_answers.specs.Laws.{Agree, EachLine, IsOnVerdicts, IsVerify, make_within, verify_within}
+use Rattle.pp_answers.specs.Readings.{IsMadeReadBack, IsTextReadBack}
 use Rattle.pp_induct.specs.declared.limits.Limits.{Limits}
+use Rattle.pp_made.specs.Made.{made_source}
 use Rattle.pp_modes.specs.Responses.{Response, report, status_in}
 use Rattle.pp_modes.specs.declared.status.Status.{Status}
 use Rattle.pp_modes.specs.declared.status.Status.TheVariants as status
@@ -52,16 +53,16 @@ pub data Excuses (run : Run) : Status → Type 0 where
   out_failed : Rose run.out.faults run.out.faults_after → Excuses run status.WriteFault
   err_failed : Rose run.err.faults run.err.faults_after → Excuses run status.WriteFault
 
--- where the files hold sources that have an answer, the program ends with its status; reports of mode `verify` may
--- differ in what stays open
+-- where the files hold sources, none if there are no files, and the task has an answer to them, the program ends with
+-- its status; reports of modes `verify` and `make` may differ in what stays open
 abbrev pub Comes : Run → Status → Type 0
 Comes run s = (line : Line) (sources : List Text) (r : Response) → Holds run line sources → Answers line.task sources r
     → Agree line.task s (status_in r) ⊎ Excuses run s
 
--- where they hold sources that are accepted, mode `verify` ends with a status on verdicts
+-- where the sources of the task are accepted, modes `verify` and `make` end with a status on verdicts
 abbrev pub Verifies : Run → Status → Type 0
 Verifies run s = (line : Line) (sources : List Text) (p : Program) → Holds run line sources → IsVerify line.task
-    → IsAccepted sources p → IsOnVerdicts s ⊎ Excuses run s
+    → IsAccepted (sources_of line.task sources) p → IsOnVerdicts s ⊎ Excuses run s
 
 -- `out` took the lines of an answer to the fetched sources, which are accepted: one for each function, in program
 -- order, and one more behind them. The status is by the lines of the functions, and the claim is true of each of these.
@@ -109,6 +110,21 @@ pub record ReadsBack (run : Run) (line : Line) (limits : Limits) : Type 0 where
 abbrev pub TextIsReadBack : Run → Status → Type 0
 TextIsReadBack run s = (line : Line) (limits : Limits) → line_of run.words ≡ Some line
     → line.task ≡ verify_within limits → IsOnVerdicts s → ReadsBack run line limits
+
+-- Nothing was fetched, `out` took a text, and this says one thing of the program of the source that is made from the
+-- seed: how many functions it has, and how many of them have each verdict; and all this is true.
+pub record ReadsMade (run : Run) (s : Status) (seed : ℕ) (limits : Limits) : Type 0 where
+  pub alone : FetchesNothing run.shelf
+  pub program : Program
+  pub accepted : IsAccepted (made_source seed ∷ []) program
+  pub text : Text
+  pub printed : TookAll run.out text
+  pub says : (p : Program) → IsAccepted (made_source seed ∷ []) p → IsMadeReadBack limits p text s
+
+-- so it is where mode `make` ends with a status on verdicts
+abbrev pub MadeIsReadBack : Run → Status → Type 0
+MadeIsReadBack run s = (line : Line) (seed : ℕ) (limits : Limits) → line_of run.words ≡ Some line
+    → line.task ≡ make_within seed limits → IsOnVerdicts s → ReadsMade run s seed limits
 
 -- the first files of the line were asked for, in order, and nothing else; no fetch failed, or that of the last of them
 pub record FetchesFiles (line : Line) (shelf : Shelf) : Type 0 where

@@ -1,4 +1,5 @@
-//! Checks the contracts in sources of Pure Scala: verifies functions, lists their checks, or runs one.
+//! Checks the contracts in sources of Pure Scala: verifies functions, lists their checks, or runs one. It also makes a
+//! source, and verifies that.
 //!
 //! `pureproof` in `top` is all that the program does, over a shelf of sources and two sinks; `main` gives it the files
 //! and the standard streams. `fetching` fetches the sources, `responding` says what is due, `show` puts it. In

@@ -1,5 +1,5 @@
 //! Whole runs in memory, and what is shown where something outside gives out. What is answered to which sources is
-//! tried by the program `pp_program_cases`, and files by this crate's own run (`args`, `data`).
+//! tried by the program `pp_program_cases`, and files by the script `check_program.sh`.
 
 use super::*;
 use pp_seam::{Bytes, Shelves};
@@ -92,6 +92,14 @@ fn an_answer_refusals_and_faults(rt: HostRuntime) -> Result<(), Fail> {
             gives_out: GivesOut::Refusal,
             status: Status::WriteFault,
             out: "",
+            err: "",
+        },
+        Row {
+            words: &["--mode", "make", "--seed", "1"],
+            source: CALLS,
+            gives_out: GivesOut::Fetch(1),
+            status: Status::AllValid,
+            out: "made 2 functions\n2 valid, 0 invalid, 0 open, 0 depending\n",
             err: "",
         },
         Row {

@@ -2,18 +2,14 @@
 
 ghost use Rattle.std.specs.Prelude.{◌≡◌, List, ℕ};
 ghost use Rattle.pp_words.specs.Told.{texts};
-ghost use Rattle.pureproof.specs.Ends.{Comes, Ends, Fetched, InvalidFail, OpenAreSearched, TextIsReadBack};
-ghost use Rattle.pureproof.specs.Ends.{ValidLinesAreTrue, Verifies, the_run};
+ghost use Rattle.pureproof.specs.Ends.{Comes, Ends, Fetched, InvalidFail, MadeIsReadBack, OpenAreSearched};
+ghost use Rattle.pureproof.specs.Ends.{TextIsReadBack, ValidLinesAreTrue, Verifies, the_run};
 ghost use Rattle.pureproof.specs.Fetched.{told};
 ghost use Rattle.pureproof.specs.Shown.{took};
 
 use crate::Status;
 use crate::responding::due;
 use crate::show::{put_refusal, put_response};
-use pp_answers::{
-    invalid_means_failed, one_line_each, one_status, open_means_searched, text_read_back,
-    valid_means_good,
-};
 use pp_print::memory_line;
 use pp_seam::{Shelf, Sink};
 use std::alloc::Global;
@@ -37,9 +33,9 @@ fn carry_out<'a, S: Shelf, K: Sink, E: Sink>(
     }
 }
 
-/// Does all that the program does: it reads the words, fetches the sources that they name, and puts a report on `out`,
-/// or one line on `err` that says why there is none. The words don't include the program's name. The status says how it
-/// ended; with `ReadFault`, `WriteFault` and `Memory` something outside gave out.
+/// Does all that the program does: it reads the words, fetches the sources that they name, or makes one, and puts a
+/// report on `out`, or one line on `err` that says why there is none. The words don't include the program's name. The
+/// status says how it ended; with `ReadFault`, `WriteFault` and `Memory` something outside gave out.
 pub fn pureproof<'a, S: Shelf, K: Sink, E: Sink>(
     alloc: Global,
     words: &'a [&'a str],
@@ -51,15 +47,15 @@ pub fn pureproof<'a, S: Shelf, K: Sink, E: Sink>(
     ensures ends { Ends (the_run (texts words.entry.now) (told S.held S.asked S.failed S.seen shelf.old shelf.new)
         (took K.taken K.faults out.old out.new) (took E.taken E.faults err.old err.new)) result }
 
-    // each answer that is due comes, in mode `verify` some report, unless something outside gives out
+    // each answer that is due comes, in modes `verify` and `make` some report, unless something outside gives out
     ensures comes { Comes (the_run (texts words.entry.now) (told S.held S.asked S.failed S.seen shelf.old shelf.new)
         (took K.taken K.faults out.old out.new) (took E.taken E.faults err.old err.new)) result }
     ensures reports { Verifies (the_run (texts words.entry.now)
         (told S.held S.asked S.failed S.seen shelf.old shelf.new) (took K.taken K.faults out.old out.new)
         (took E.taken E.faults err.old err.new)) result }
 
-    // each function gets one printed line, which says `valid` only where every call that meets the precondition
-    // evaluates, with some fuel, to a value that meets the postcondition
+    // in mode `verify` each function gets one printed line, which says `valid` only where every call that meets the
+    // precondition evaluates, with some fuel, to a value that meets the postcondition
     ensures valid { ValidLinesAreTrue (the_run (texts words.entry.now)
         (told S.held S.asked S.failed S.seen shelf.old shelf.new) (took K.taken K.faults out.old out.new)
         (took E.taken E.faults err.old err.new)) result }
@@ -73,9 +69,15 @@ pub fn pureproof<'a, S: Shelf, K: Sink, E: Sink>(
         (told S.held S.asked S.failed S.seen shelf.old shelf.new) (took K.taken K.faults out.old out.new)
         (took E.taken E.faults err.old err.new)) result }
 
-    // the printed text tells all this: it is read back as one verdict of each function, with one check, one list of
-    // arguments, one round and one reason
+    // the printed text tells all this: in mode `verify` it is read back as one verdict of each function, with one check,
+    // one list of arguments, one round and one reason
     ensures read_back { TextIsReadBack (the_run (texts words.entry.now)
+        (told S.held S.asked S.failed S.seen shelf.old shelf.new) (took K.taken K.faults out.old out.new)
+        (took E.taken E.faults err.old err.new)) result }
+
+    // in mode `make` nothing is fetched, and the printed text is read back as how many functions the made source has,
+    // and how many of them have each verdict; these verdicts are true
+    ensures made { MadeIsReadBack (the_run (texts words.entry.now)
         (told S.held S.asked S.failed S.seen shelf.old shelf.new) (took K.taken K.faults out.old out.new)
         (took E.taken E.faults err.old err.new)) result }
 
@@ -83,11 +85,5 @@ pub fn pureproof<'a, S: Shelf, K: Sink, E: Sink>(
     ensures fetched { Fetched (texts words.entry.now) (told S.held S.asked S.failed S.seen shelf.old shelf.new) }
     ensures kept { (p : List ℕ) → S.held shelf.new p ≡ S.held shelf.old p }
 {
-    one_status();
-    one_line_each();
-    valid_means_good();
-    invalid_means_failed();
-    open_means_searched();
-    text_read_back();
     carry_out(alloc, words, shelf, out, err)
 }

@@ -1,5 +1,5 @@
 use Rattle.std.proofs.Common.{◌∙◌, [], ◌∷◌, ◌++◌, ap, arith}
-use Rattle.pp_eval.proofs.Width.{cases_of_match, most_case}
+use Rattle.pp_prog.proofs.ExprSizes.{cases_of_match, most_case}
 use Rattle.pp_compile.specs.Sites.{site_of}
 use Rattle.pp_compile.proofs.Arms.{assert_arm, binary_arm, call_arm, construct_arm, field_arm, if_arm, match_arm}
 use Rattle.pp_compile.proofs.Arms.{unary_arm, val_arm}

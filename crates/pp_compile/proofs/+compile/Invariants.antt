@@ -1,7 +1,8 @@
 use Rattle.std.proofs.Common.{◌≡◌, ◌+◌, ◌*◌, drop, length, map, max}
 use Rattle.pp_prog.specs.declared.expr.Case.{size-Case}
 use Rattle.pp_prog.specs.declared.expr.Expr.{size-Expr}
-use Rattle.pp_eval.proofs.Width.{function_size, most_case, most_size, option_size}
+use Rattle.pp_prog.proofs.ExprSizes.{most_case, most_size, option_size}
+use Rattle.pp_eval.proofs.Width.{function_size}
 use Rattle.pp_steps.specs.Compile.{all, all_from, compile}
 use Rattle.pp_compile.specs.Sites.{site_of}
 use Rattle.pp_compile.proofs.Ahead.{IsAheadAll}

@@ -10,6 +10,7 @@ use Rattle.pp_estimate.specs.Counted.{MemoOf, Sound, counted, framed}
 use Rattle.pp_estimate.specs.Events.{called, work}
 use Rattle.pp_estimate.specs.Frames.{calls_from, frame, frame_at, inner_calls}
 use Rattle.pp_estimate.specs.Place.{place_arm, place_called, place_calls, place_visit}
+use Rattle.pp_operators.specs.Gates.{unary_gates}
 use Rattle.pp_estimate.specs.Visits.{at_shape, bound, compared, in_env, look_at, node, pattern_events}
 use Rattle.pp_estimate.proofs.Calling.{added_frame, added_true, called_counts, called_shape, contract_falls}
 use Rattle.pp_estimate.proofs.Calling.{found_frame, frame_falls, frame_found, frame_within, sound_more, sound_rows}
@@ -18,7 +19,8 @@ use Rattle.pp_estimate.proofs.Parts.{case_shape, moved, moved_shape, runs_length
 use Rattle.pp_estimate.proofs.Parts.{visited_assert, visited_binary, visited_call, visited_case, visited_cases}
 use Rattle.pp_estimate.proofs.Parts.{visited_construct, visited_field, visited_if, visited_match, visited_unary}
 use Rattle.pp_estimate.proofs.Parts.{visited_val}
-use Rattle.pp_estimate.proofs.Width.{case_deeper, level}
+use Rattle.pp_prog.proofs.ExprSizes.{case_deeper}
+use Rattle.pp_estimate.proofs.Width.{level}
 use Rattle.pp_estimate.proofs.+visit.Goals as goal
 use Rattle.pp_estimate.proofs.+visit.Goals.{frames::call-then-place+in_ok-measure+in_ok-compare}
 use Rattle.pp_estimate.proofs.+visit.Goals.{frames::call-else-place, frames::frame_of-in-None}
@@ -30,7 +32,7 @@ pub visit::visit-returns-in_ok-visit-in-Unary-clause-counted :
     goal.visit::visit-returns-in_ok-visit-in-Unary-clause-counted
 visit::visit-returns-in_ok-visit-in-Unary-clause-counted t c =
     visited_unary c.args.place.types.now (place_calls c.args.place) c.args.old.now c.args.env.now _ _ _ _ _ _ _ _
-    c.in-Unary.is c.get.ensures c.in_ok-visit-in-Unary.ensures.counted c.unary_extra.ensures
+    c.in-Unary.is c.get.ensures c.in_ok-visit-in-Unary.ensures.counted c.unary_gates.ensures
     c.add_node-in-Unary.ensures
 
 pub visit::visit-returns-in_ok-extra-in-Binary-clause-counted :

@@ -4,7 +4,8 @@ use Rattle.pp_prog.specs.declared.expr.Expr.{size-Expr}
 use Rattle.pp_estimate.specs.Counted.{counted}
 use Rattle.pp_estimate.specs.Place.{IsSound, place_arm, place_visit}
 use Rattle.pp_estimate.specs.Visits.{all_events, arms, shape_of, visits}
-use Rattle.pp_estimate.proofs.Width.{function_size, level, most_case, most_size, option_size, width}
+use Rattle.pp_prog.proofs.ExprSizes.{most_case, most_size, option_size}
+use Rattle.pp_estimate.proofs.Width.{function_size, level, width}
 use Rattle.pp_estimate.proofs.+visit.Given as goal
 
 abbrev pub decreases-visit::visit : goal.decreases-visit::visit

@@ -1,8 +1,9 @@
 use Rattle.std.proofs.Common.{◌≡◌, ◌∙◌, Err, arith, rules, sym, ap}
 use Rattle.pp_eval.specs.Callees.{call_meaning}
 use Rattle.pp_eval.specs.Meaning.{arm, meaning}
-use Rattle.pp_eval.proofs.Width.{args_of_call, args_of_construct, call_falls, case_deeper, cases_of_match, item_case}
-use Rattle.pp_eval.proofs.Width.{item_size, most_case, most_size}
+use Rattle.pp_prog.proofs.ExprSizes.{args_of_call, args_of_construct, case_deeper, cases_of_match, item_case, item_size}
+use Rattle.pp_prog.proofs.ExprSizes.{most_case, most_size}
+use Rattle.pp_eval.proofs.Width.{call_falls}
 use Rattle.pp_eval.proofs.Steps.{call_at, case_passed, case_stop, case_taken, tells_along, values_stop, values_turn}
 use Rattle.pp_eval.proofs.+eval.Goals as goal
 

@@ -3,7 +3,8 @@ use Rattle.pp_prog.specs.declared.expr.Case.{size-Case}
 use Rattle.pp_prog.specs.declared.expr.Expr.{size-Expr}
 use Rattle.pp_eval.specs.Callees.{call_meaning}
 use Rattle.pp_eval.specs.Meaning.{all, all_from, arm, first_case, meaning}
-use Rattle.pp_eval.proofs.Width.{function_size, most_case, most_size, option_size, width}
+use Rattle.pp_prog.proofs.ExprSizes.{most_case, most_size, option_size}
+use Rattle.pp_eval.proofs.Width.{function_size, width}
 use Rattle.pp_eval.proofs.+eval.Given as goal
 
 abbrev pub decreases-invocation::call : goal.decreases-invocation::call

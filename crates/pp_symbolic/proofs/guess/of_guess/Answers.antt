@@ -2,7 +2,7 @@ use Rattle.std.proofs.Common.{List, ◌≡◌, subst}
 use Rattle.pp_prog.specs.declared.expr.Function.{Function}
 use Rattle.pp_steps.specs.Guesses.{guess_steps}
 use Rattle.pp_compile.specs.Guessed.{guess_of}
-use Rattle.pp_symbolic.proofs.GuessFrame.{GuessLaws, can_guess, guess_moves, guess_size, is_guess_frame}
+use Rattle.pp_symbolic.proofs.GuessFrame.{can_guess, guess_moves, guess_size, is_guess_frame}
 use Rattle.pp_symbolic.proofs.Whole.{if_ok, on_ok}
 use Rattle.pp_symbolic.proofs.guess.of_guess.Goals as goal
 
@@ -14,17 +14,10 @@ evaluate_guess-requires-clause-can g c =
     let is : guess ≡ guess_steps p.functions f c.args.check c.args.round =
     subst (λ (fs : List Function). guess ≡ guess_steps fs f c.args.check c.args.round) c.as_slice.ensures
     c.in_ok-guess.ensures in
-    let laws : GuessLaws = record {
-      read = c.guesses_read.ensures;
-      sorted = c.guesses_are_sorted.ensures;
-      fit = c.guesses_fit.ensures;
-      sums = c.sums_rounds.ensures;
-      deep = c.grows_with_depth.ensures;
-    } in
     rw c.types.ensures (rw c.as_slice-2.ensures
     (can_guess g.D.Domain.sense g.met.D.Domain.lawful c.requires.inexact p c.args.plan.now c.requires.plan
     c.args.check f
-    c.owner-f.ensures c.args.round c.args.depth c.requires.depth.0 c.requires.size laws c.args.domain.now
+    c.owner-f.ensures c.args.round c.args.depth c.requires.depth.0 c.requires.size c.args.domain.now
     c.args.circuit.now c.requires.fresh c.requires.empty guess is))
 
 pub returns-clause-moves : goal.returns-clause-moves
@@ -35,16 +28,9 @@ returns-clause-moves g c =
     let is : guess ≡ guess_steps p.functions f c.args.check c.args.round =
     subst (λ (fs : List Function). guess ≡ guess_steps fs f c.args.check c.args.round) c.as_slice.ensures
     c.in_ok-guess.ensures in
-    let laws : GuessLaws = record {
-      read = c.guesses_read.ensures;
-      sorted = c.guesses_are_sorted.ensures;
-      fit = c.guesses_fit.ensures;
-      sums = c.sums_rounds.ensures;
-      deep = c.grows_with_depth.ensures;
-    } in
     guess_moves g.D.Domain.sense g.met.D.Domain.lawful c.requires.inexact p c.args.plan.now c.requires.plan
     c.args.check f
-    c.owner-f.ensures c.args.round c.args.depth c.requires.depth.0 c.requires.size laws c.args.domain.now
+    c.owner-f.ensures c.args.round c.args.depth c.requires.depth.0 c.requires.size c.args.domain.now
     c.args.circuit.now c.requires.fresh c.requires.empty guess is c.evaluate_guess.new.domain
     c.evaluate_guess.new.circuit
     (rw (← c.types.ensures) (rw (← c.as_slice-2.ensures) c.evaluate_guess.ensures.moves))
@@ -57,17 +43,10 @@ returns-clause-size g c =
     let is : guess ≡ guess_steps p.functions f c.args.check c.args.round =
     subst (λ (fs : List Function). guess ≡ guess_steps fs f c.args.check c.args.round) c.as_slice.ensures
     c.in_ok-guess.ensures in
-    let laws : GuessLaws = record {
-      read = c.guesses_read.ensures;
-      sorted = c.guesses_are_sorted.ensures;
-      fit = c.guesses_fit.ensures;
-      sums = c.sums_rounds.ensures;
-      deep = c.grows_with_depth.ensures;
-    } in
     on_ok c.evaluate_guess.result
     (guess_size g.D.Domain.sense g.met.D.Domain.lawful c.requires.inexact p c.args.plan.now c.requires.plan
     c.args.check f
-    c.owner-f.ensures c.args.round c.args.depth c.requires.depth.0 c.requires.size laws c.args.domain.now
+    c.owner-f.ensures c.args.round c.args.depth c.requires.depth.0 c.requires.size c.args.domain.now
     c.args.circuit.now c.requires.fresh c.requires.empty guess is c.evaluate_guess.new.domain
     c.evaluate_guess.new.circuit
     (rw (← c.types.ensures) (rw (← c.as_slice-2.ensures) c.evaluate_guess.ensures.moves)))
@@ -80,17 +59,10 @@ returns-clause-guess g c =
     let is : guess ≡ guess_steps p.functions f c.args.check c.args.round =
     subst (λ (fs : List Function). guess ≡ guess_steps fs f c.args.check c.args.round) c.as_slice.ensures
     c.in_ok-guess.ensures in
-    let laws : GuessLaws = record {
-      read = c.guesses_read.ensures;
-      sorted = c.guesses_are_sorted.ensures;
-      fit = c.guesses_fit.ensures;
-      sums = c.sums_rounds.ensures;
-      deep = c.grows_with_depth.ensures;
-    } in
     if_ok c.evaluate_guess.result c.evaluate_guess.ensures.guessed
     (λ frame evaluated.
     is_guess_frame g.D.Domain.sense g.met.D.Domain.lawful c.requires.inexact p c.args.plan.now c.requires.plan
     c.args.check f
-    c.owner-f.ensures c.args.round c.args.depth c.requires.depth.0 c.requires.size laws c.args.domain.now
+    c.owner-f.ensures c.args.round c.args.depth c.requires.depth.0 c.requires.size c.args.domain.now
     c.args.circuit.now c.requires.fresh c.requires.empty guess is _ _ frame
     (rw (← c.types.ensures) (rw (← c.as_slice-2.ensures) evaluated)))

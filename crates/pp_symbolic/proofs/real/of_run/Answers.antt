@@ -8,20 +8,12 @@ use Rattle.pp_compile.specs.Written.{IsRunOf}
 use Rattle.pp_simplify.specs.Folded.{all_folded}
 use Rattle.pp_simplify.specs.Pruned.{IsPruned}
 use Rattle.pp_steps.specs.Frames.{run_steps}
-use Rattle.pp_symbolic.proofs.Whole.{StepLaws, can_new, can_run, frame_run, if_ok, moves_run}
+use Rattle.pp_symbolic.proofs.Whole.{can_new, can_run, frame_run, if_ok, moves_run}
 use Rattle.pp_symbolic.proofs.Whole.{name_in, on_ok, size_run}
 use Rattle.pp_symbolic.proofs.real.of_run.Goals as goal
 
 pub simplify-requires-clause-reads : goal.simplify-requires-clause-reads
 simplify-requires-clause-reads g c =
-    let laws : StepLaws = record {
-      tell = c.tell_runs.ensures;
-      exist = c.runs_exist.ensures;
-      read = c.runs_read.ensures;
-      ask = c.runs_ask.ensures;
-      sorted = c.runs_are_sorted.ensures;
-      fit = c.runs_fit_estimates.ensures;
-    } in
     let p = c.args.program.now in
     let f = c.owner-f.result.now in
     let run = c.in_ok-run.run' in
@@ -30,20 +22,12 @@ simplify-requires-clause-reads g c =
     c.in_ok-run.ensures in
     let few : length run.steps < 2 ^ 32 =
     (let n = c.len.ensures in let t = c.if-len.false in grind (arith, nat_tests)) in
-    let can = can_run g.D.Domain.sense g.met.D.Domain.lawful laws p c.args.plan.now c.requires.plan c.args.check f
+    let can = can_run g.D.Domain.sense g.met.D.Domain.lawful p c.args.plan.now c.requires.plan c.args.check f
     c.owner-f.ensures c.args.round c.args.depth c.requires.depth.0 c.requires.size run is few
     c.args.domain.now c.args.circuit.now c.requires.fresh c.requires.empty in can.reads
 
 pub simplify-requires-clause-asked : goal.simplify-requires-clause-asked
 simplify-requires-clause-asked g c =
-    let laws : StepLaws = record {
-      tell = c.tell_runs.ensures;
-      exist = c.runs_exist.ensures;
-      read = c.runs_read.ensures;
-      ask = c.runs_ask.ensures;
-      sorted = c.runs_are_sorted.ensures;
-      fit = c.runs_fit_estimates.ensures;
-    } in
     let p = c.args.program.now in
     let f = c.owner-f.result.now in
     let run = c.in_ok-run.run' in
@@ -52,20 +36,12 @@ simplify-requires-clause-asked g c =
     c.in_ok-run.ensures in
     let few : length run.steps < 2 ^ 32 =
     (let n = c.len.ensures in let t = c.if-len.false in grind (arith, nat_tests)) in
-    let can = can_run g.D.Domain.sense g.met.D.Domain.lawful laws p c.args.plan.now c.requires.plan c.args.check f
+    let can = can_run g.D.Domain.sense g.met.D.Domain.lawful p c.args.plan.now c.requires.plan c.args.check f
     c.owner-f.ensures c.args.round c.args.depth c.requires.depth.0 c.requires.size run is few
     c.args.domain.now c.args.circuit.now c.requires.fresh c.requires.empty in can.stands
 
 pub evaluate-requires-clause-can : goal.evaluate-requires-clause-can
 evaluate-requires-clause-can g c =
-    let laws : StepLaws = record {
-      tell = c.tell_runs.ensures;
-      exist = c.runs_exist.ensures;
-      read = c.runs_read.ensures;
-      ask = c.runs_ask.ensures;
-      sorted = c.runs_are_sorted.ensures;
-      fit = c.runs_fit_estimates.ensures;
-    } in
     let p = c.args.program.now in
     let f = c.owner-f.result.now in
     let run = c.in_ok-run.run' in
@@ -80,7 +56,7 @@ evaluate-requires-clause-can g c =
     let is_next : next ≡ name_in run.steps run.fails = c.in_ok-fails.ensures.asked in
     let pruned : IsPruned (length (param_sorts f.params)) next (all_folded run.steps).steps c.simplify.new.steps =
     subst (λ n. IsPruned n next (all_folded run.steps).steps c.simplify.new.steps) many c.in_ok-fails.ensures.pruned in
-    let can = can_new g.D.Domain.sense g.met.D.Domain.lawful laws p c.args.plan.now c.requires.plan c.args.check f
+    let can = can_new g.D.Domain.sense g.met.D.Domain.lawful p c.args.plan.now c.requires.plan c.args.check f
     c.owner-f.ensures c.args.round c.args.depth c.requires.depth.0 c.requires.size run is few
     c.args.domain.now c.args.circuit.now c.requires.fresh c.requires.empty c.simplify.new.steps next is_next pruned in
     rw c.types.ensures (rw c.as_slice-2.ensures (rw c.as_slice-3.ensures
@@ -88,14 +64,6 @@ evaluate-requires-clause-can g c =
 
 pub returns-clause-moves : goal.returns-clause-moves
 returns-clause-moves g c =
-    let laws : StepLaws = record {
-      tell = c.tell_runs.ensures;
-      exist = c.runs_exist.ensures;
-      read = c.runs_read.ensures;
-      ask = c.runs_ask.ensures;
-      sorted = c.runs_are_sorted.ensures;
-      fit = c.runs_fit_estimates.ensures;
-    } in
     let p = c.args.program.now in
     let f = c.owner-f.result.now in
     let run = c.in_ok-run.run' in
@@ -110,21 +78,13 @@ returns-clause-moves g c =
     let is_next : next ≡ name_in run.steps run.fails = c.in_ok-fails.ensures.asked in
     let pruned : IsPruned (length (param_sorts f.params)) next (all_folded run.steps).steps c.simplify.new.steps =
     subst (λ n. IsPruned n next (all_folded run.steps).steps c.simplify.new.steps) many c.in_ok-fails.ensures.pruned in
-    moves_run g.D.Domain.sense g.met.D.Domain.lawful laws p c.args.plan.now c.requires.plan c.args.check f
+    moves_run g.D.Domain.sense g.met.D.Domain.lawful p c.args.plan.now c.requires.plan c.args.check f
     c.owner-f.ensures c.args.round c.args.depth c.requires.depth.0 c.requires.size run is few
     c.args.domain.now c.args.circuit.now c.requires.fresh c.requires.empty c.simplify.new.steps next is_next pruned _ _
     (rw (← c.types.ensures) (rw (← c.as_slice-2.ensures) (rw (← c.as_slice-3.ensures) c.evaluate.ensures.moves)))
 
 pub returns-clause-size : goal.returns-clause-size
 returns-clause-size g c =
-    let laws : StepLaws = record {
-      tell = c.tell_runs.ensures;
-      exist = c.runs_exist.ensures;
-      read = c.runs_read.ensures;
-      ask = c.runs_ask.ensures;
-      sorted = c.runs_are_sorted.ensures;
-      fit = c.runs_fit_estimates.ensures;
-    } in
     let p = c.args.program.now in
     let f = c.owner-f.result.now in
     let run = c.in_ok-run.run' in
@@ -140,7 +100,7 @@ returns-clause-size g c =
     let pruned : IsPruned (length (param_sorts f.params)) next (all_folded run.steps).steps c.simplify.new.steps =
     subst (λ n. IsPruned n next (all_folded run.steps).steps c.simplify.new.steps) many c.in_ok-fails.ensures.pruned in
     on_ok c.evaluate.result
-    (size_run g.D.Domain.sense g.met.D.Domain.lawful laws p c.args.plan.now c.requires.plan c.args.check f
+    (size_run g.D.Domain.sense g.met.D.Domain.lawful p c.args.plan.now c.requires.plan c.args.check f
     c.owner-f.ensures c.args.round c.args.depth c.requires.depth.0 c.requires.size run is few
     c.args.domain.now c.args.circuit.now c.requires.fresh c.requires.empty c.simplify.new.steps next is_next pruned
     c.evaluate.new.domain
@@ -149,14 +109,6 @@ returns-clause-size g c =
 
 pub returns-clause-frame : goal.returns-clause-frame
 returns-clause-frame g c =
-    let laws : StepLaws = record {
-      tell = c.tell_runs.ensures;
-      exist = c.runs_exist.ensures;
-      read = c.runs_read.ensures;
-      ask = c.runs_ask.ensures;
-      sorted = c.runs_are_sorted.ensures;
-      fit = c.runs_fit_estimates.ensures;
-    } in
     let p = c.args.program.now in
     let f = c.owner-f.result.now in
     let run = c.in_ok-run.run' in
@@ -173,7 +125,7 @@ returns-clause-frame g c =
     subst (λ n. IsPruned n next (all_folded run.steps).steps c.simplify.new.steps) many c.in_ok-fails.ensures.pruned in
     if_ok c.evaluate.result c.evaluate.ensures.evaluated
     (λ frame evaluates.
-    frame_run g.D.Domain.sense g.met.D.Domain.lawful laws p c.args.plan.now c.requires.plan c.args.check f
+    frame_run g.D.Domain.sense g.met.D.Domain.lawful p c.args.plan.now c.requires.plan c.args.check f
     c.owner-f.ensures c.args.round c.args.depth c.requires.depth.0 c.requires.size run is few
     c.args.domain.now c.args.circuit.now c.requires.fresh c.requires.empty c.simplify.new.steps next is_next pruned
     _ _ frame

@@ -42,17 +42,17 @@ expr-returns-in_ok-new-in-Field t c =
 
 pub expr-returns-in_ok-new-in-Unary : goal.expr-returns-in_ok-new-in-Unary
 expr-returns-in_ok-new-in-Unary t c =
-    is_unary c.args.typed.now (setting c.args.target.now) c.args.own.now c.args.e.now _ _ _ _ _ _ c.in-Unary.op _
+    is_unary c.args.typed.now (setting c.args.target.now) c.args.own.now c.args.e.now _ _ _ _ _ _ c.in-Unary.op
     c.in-Unary.is c.get-in-Unary.ensures
-    c.in_ok-a-in-Unary.ensures c.unary_op.ensures c.in_ok-new-in-Unary.ensures
+    c.in_ok-a-in-Unary.ensures c.in_ok-new-in-Unary.ensures
 
 pub expr-returns-in_ok-new-in-Binary-2 : goal.expr-returns-in_ok-new-in-Binary-2
 expr-returns-in_ok-new-in-Binary-2 t c =
     is_binary c.args.typed.now (setting c.args.target.now) c.args.own.now c.args.e.now _ _ _ _ _ _ _ _ _ _ _ _
-    c.in-Binary.op _ _ _ c.in-Binary.is
+    c.in-Binary.op _ _ c.in-Binary.is
     c.get-in-Binary.ensures c.get-in-Binary-2.ensures c.in_ok-a-in-Binary.ensures c.in_ok-b-in-Binary.ensures
     c.is_division.ensures
-    c.in_ok-check-in-Binary.ensures.number c.in_ok-check-in-Binary.ensures.listed c.binary_op-op.ensures
+    c.in_ok-check-in-Binary.ensures.number c.in_ok-check-in-Binary.ensures.listed
     c.in_ok-new-in-Binary.ensures c.in_ok-new-in-Binary-2.ensures
 
 pub expr-returns-in_ok-new-in-If-3 : goal.expr-returns-in_ok-new-in-If-3
