@@ -129,6 +129,33 @@ done
 run --mode list --seed 3 or.scala
 check 'a seed in mode list' 4 '' 'words refused'
 
+# a run of 100,000 calls that are nested, and a result of as many levels, with a stack of 8 MB
+ulimit -S -s 8192
+cat > levels.scala <<'SCALA'
+object Levels {
+  sealed abstract class L
+  case class Cons(head: Int, tail: L) extends L
+  case class Nil() extends L
+  def upTo(n: Int): L = {
+    require(0 <= n)
+    decreases(n)
+    if (n == 0) Nil() else Cons(n, upTo(n - 1))
+  }
+  def printed(): L = upTo(99998)
+}
+SCALA
+run --mode run --function printed --fuel 99998 levels.scala
+check 'one call too deep' 2 'printed needs more than 99998 nested calls' ''
+run --mode run --function printed --fuel 100000 levels.scala
+check 'a result of 100,000 levels' 0 "$(
+    printf 'printed = '
+    seq 99998 -1 1 | sed 's/.*/Cons(&, /' | tr -d '\n'
+    printf 'Nil()'
+    printf ')%.0s' $(seq 99998)
+)" ''
+run --mode run --function printed --fuel 100001 levels.scala
+check 'more fuel than there is' 4 '' 'words refused'
+
 : > out
 if [ -w /dev/full ]; then
     "$root/pureproof" or.scala > /dev/full 2> err

@@ -26,7 +26,9 @@ function reverseOnto<A>(l: List<A>, done: List<A>): List<A>
   decreases l
 {
   match l
-  case Cons(h, t) => reverseOnto(t, Cons(h, done))
+  case Cons(h, t) =>
+    assert length(Cons(h, done)) == 1 + length(done);
+    reverseOnto(t, Cons(h, done))
   case Nil => done
 }
 

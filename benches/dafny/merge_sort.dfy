@@ -8,24 +8,8 @@ const Least: Word := -0x8000_0000
 
 datatype List = Cons(head: Word, tail: List) | Nil
 
-// What is to be merged: halves of halves, down to single numbers. The next one goes to the left where it is even.
-datatype Halves = Both(left: Halves, right: Halves, even: bool) | One(value: Word)
-
-function put(x: Word, h: Halves): Halves
-  decreases h
-{
-  match h
-  case Both(l, r, even) => if even then Both(put(x, l), r, false) else Both(l, put(x, r), true)
-  case One(y) => Both(One(x), One(y), true)
-}
-
-function halves(x: Word, l: List): Halves
-  decreases l
-{
-  match l
-  case Cons(y, t) => put(x, halves(y, t))
-  case Nil => One(x)
-}
+// Lists that are still to be merged: of one number, of two, of four and so on. A gap stands where there is none.
+datatype Runs = Run(first: List, rest: Runs) | Gap(rest: Runs) | End
 
 // Goes down in either list.
 function merge(a: List, b: List): List
@@ -38,22 +22,40 @@ function merge(a: List, b: List): List
   case Nil => b
 }
 
-function merged(h: Halves): List
-  decreases h
+// One run more: two of one length become one of the next, as when one is added to a binary number.
+function add(l: List, runs: Runs): Runs
+  decreases runs
 {
-  match h
-  case Both(l, r, _) => merge(merged(l), merged(r))
-  case One(x) => Cons(x, Nil)
+  match runs
+  case Run(m, rest) => Gap(add(merge(l, m), rest))
+  case Gap(rest) => Run(l, rest)
+  case End => Run(l, End)
+}
+
+// Each number is a run of its own.
+function runs(l: List): Runs
+  decreases l
+{
+  match l
+  case Cons(x, t) => add(Cons(x, Nil), runs(t))
+  case Nil => End
+}
+
+function merged(runs: Runs): List
+  decreases runs
+{
+  match runs
+  case Run(l, rest) => merge(l, merged(rest))
+  case Gap(rest) => merged(rest)
+  case End => Nil
 }
 
 function sort(l: List): List
   ensures isSorted(sort(l), Least)
 {
-  match l
-  case Cons(x, t) =>
-    mergedIsSorted(halves(x, t));
-    merged(halves(x, t))
-  case Nil => l
+  runsAreSorted(l);
+  mergedIsSorted(runs(l));
+  merged(runs(l))
 }
 
 // The list is in order, and no element is less than low.
@@ -63,6 +65,15 @@ predicate isSorted(l: List, low: Word)
   match l
   case Cons(h, t) => low <= h && isSorted(t, h)
   case Nil => true
+}
+
+predicate areSorted(runs: Runs)
+  decreases runs
+{
+  match runs
+  case Run(l, rest) => isSorted(l, Least) && areSorted(rest)
+  case Gap(rest) => areSorted(rest)
+  case End => true
 }
 
 lemma mergeIsSorted(a: List, b: List, low: Word)
@@ -79,16 +90,47 @@ lemma mergeIsSorted(a: List, b: List, low: Word)
   case Nil =>
 }
 
-lemma mergedIsSorted(h: Halves)
-  ensures isSorted(merged(h), Least)
-  decreases h
+lemma oneIsSorted(x: Word)
+  ensures isSorted(Cons(x, Nil), Least)
 {
-  match h
-  case Both(l, r, _) =>
-    mergedIsSorted(l);
-    mergedIsSorted(r);
-    mergeIsSorted(merged(l), merged(r), Least);
-  case One(_) =>
+}
+
+lemma addIsSorted(l: List, runs: Runs)
+  requires isSorted(l, Least) && areSorted(runs)
+  ensures areSorted(add(l, runs))
+  decreases runs
+{
+  match runs
+  case Run(m, rest) =>
+    mergeIsSorted(l, m, Least);
+    addIsSorted(merge(l, m), rest);
+  case Gap(_) =>
+  case End =>
+}
+
+lemma runsAreSorted(l: List)
+  ensures areSorted(runs(l))
+  decreases l
+{
+  match l
+  case Cons(x, t) =>
+    oneIsSorted(x);
+    runsAreSorted(t);
+    addIsSorted(Cons(x, Nil), runs(t));
+  case Nil =>
+}
+
+lemma mergedIsSorted(runs: Runs)
+  requires areSorted(runs)
+  ensures isSorted(merged(runs), Least)
+  decreases runs
+{
+  match runs
+  case Run(l, rest) =>
+    mergedIsSorted(rest);
+    mergeIsSorted(l, merged(rest), Least);
+  case Gap(rest) => mergedIsSorted(rest);
+  case End =>
 }
 
 // Counting v on from n.
@@ -105,12 +147,18 @@ function count(l: List, v: Word, n: int): int
   case Nil => n
 }
 
-function countIn(h: Halves, v: Word, n: int): int
-  decreases h
+function countIn(runs: Runs, v: Word, n: int): int
+  decreases runs
 {
-  match h
-  case Both(l, r, _) => countIn(l, v, countIn(r, v, n))
-  case One(x) => one(x, v, n)
+  match runs
+  case Run(l, rest) => count(l, v, countIn(rest, v, n))
+  case Gap(rest) => countIn(rest, v, n)
+  case End => n
+}
+
+lemma onesSwap(x: Word, y: Word, v: Word, n: int)
+  ensures one(y, v, one(x, v, n)) == one(x, v, one(y, v, n))
+{
 }
 
 // One more to begin with is one more in the end.
@@ -119,19 +167,10 @@ lemma countsOn(l: List, x: Word, v: Word, n: int)
   decreases l
 {
   match l
-  case Cons(_, t) => countsOn(t, x, v, n);
+  case Cons(y, t) =>
+    countsOn(t, x, v, n);
+    onesSwap(x, y, v, count(t, v, n));
   case Nil =>
-}
-
-lemma countsOnIn(h: Halves, x: Word, v: Word, n: int)
-  ensures countIn(h, v, one(x, v, n)) == one(x, v, countIn(h, v, n))
-  decreases h
-{
-  match h
-  case Both(l, r, _) =>
-    countsOnIn(r, x, v, n);
-    countsOnIn(l, x, v, countIn(r, v, n));
-  case One(_) =>
 }
 
 lemma mergeCounts(a: List, b: List, v: Word, n: int)
@@ -153,50 +192,50 @@ lemma mergeCounts(a: List, b: List, v: Word, n: int)
   case Nil =>
 }
 
-lemma putCounts(x: Word, h: Halves, v: Word, n: int)
-  ensures countIn(put(x, h), v, n) == one(x, v, countIn(h, v, n))
-  decreases h
+lemma oneCounts(x: Word, v: Word, n: int)
+  ensures count(Cons(x, Nil), v, n) == one(x, v, n)
 {
-  match h
-  case Both(l, r, even) =>
-    if even {
-      putCounts(x, l, v, countIn(r, v, n));
-    } else {
-      putCounts(x, r, v, n);
-      countsOnIn(l, x, v, countIn(r, v, n));
-    }
-  case One(_) =>
 }
 
-lemma halvesCount(x: Word, l: List, v: Word, n: int)
-  ensures countIn(halves(x, l), v, n) == one(x, v, count(l, v, n))
+lemma addCounts(l: List, runs: Runs, v: Word, n: int)
+  ensures countIn(add(l, runs), v, n) == count(l, v, countIn(runs, v, n))
+  decreases runs
+{
+  match runs
+  case Run(m, rest) =>
+    addCounts(merge(l, m), rest, v, n);
+    mergeCounts(l, m, v, countIn(rest, v, n));
+  case Gap(_) =>
+  case End =>
+}
+
+lemma runsCount(l: List, v: Word, n: int)
+  ensures countIn(runs(l), v, n) == count(l, v, n)
   decreases l
 {
   match l
-  case Cons(y, t) =>
-    halvesCount(y, t, v, n);
-    putCounts(x, halves(y, t), v, n);
+  case Cons(x, t) =>
+    runsCount(t, v, n);
+    addCounts(Cons(x, Nil), runs(t), v, n);
+    oneCounts(x, v, count(t, v, n));
   case Nil =>
 }
 
-lemma mergedCounts(h: Halves, v: Word, n: int)
-  ensures count(merged(h), v, n) == countIn(h, v, n)
-  decreases h
+lemma mergedCounts(runs: Runs, v: Word, n: int)
+  ensures count(merged(runs), v, n) == countIn(runs, v, n)
+  decreases runs
 {
-  match h
-  case Both(l, r, _) =>
-    mergedCounts(r, v, n);
-    mergedCounts(l, v, countIn(r, v, n));
-    mergeCounts(merged(l), merged(r), v, n);
-  case One(_) =>
+  match runs
+  case Run(l, rest) =>
+    mergedCounts(rest, v, n);
+    mergeCounts(l, merged(rest), v, n);
+  case Gap(rest) => mergedCounts(rest, v, n);
+  case End =>
 }
 
 lemma sameCount(l: List, v: Word)
   ensures count(sort(l), v, 0) == count(l, v, 0)
 {
-  match l
-  case Cons(x, t) =>
-    halvesCount(x, t, v, 0);
-    mergedCounts(halves(x, t), v, 0);
-  case Nil =>
+  runsCount(l, v, 0);
+  mergedCounts(runs(l), v, 0);
 }

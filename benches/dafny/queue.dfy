@@ -41,13 +41,21 @@ function turned(q: Queue): Queue
   case Nil => Queue(reverseOnto(q.back, Nil), Nil)
 }
 
+// What stands in front stays in front.
+lemma appendsBehind(h: int, a: List, b: List)
+  ensures append(Cons(h, a), b) == Cons(h, append(a, b))
+{
+}
+
 // Appending to what was reversed onto a list is the same as reversing onto more.
 lemma reversesOn(l: List, done: List, more: List)
   ensures append(reverseOnto(l, done), more) == reverseOnto(l, append(done, more))
   decreases l
 {
   match l
-  case Cons(h, t) => reversesOn(t, Cons(h, done), more);
+  case Cons(h, t) =>
+    reversesOn(t, Cons(h, done), more);
+    appendsBehind(h, done, more);
   case Nil =>
 }
 
@@ -69,13 +77,18 @@ lemma hasUnit(a: List)
   case Nil =>
 }
 
+// The last of the back is the last of all.
+lemma backEnds(l: List, x: int)
+  ensures reverseOnto(Cons(x, l), Nil) == append(reverseOnto(l, Nil), Cons(x, Nil))
+{
+  reversesOn(l, Nil, Cons(x, Nil));
+}
+
 lemma putComesLast(q: Queue, x: int)
   ensures elements(put(q, x)) == append(elements(q), Cons(x, Nil))
 {
-  var last := Cons(x, Nil);
-  reversesOn(q.back, Nil, last);
-  isAssociative(q.front, reverseOnto(q.back, Nil), last);
-  reversesOn(q.back, last, Nil);
+  backEnds(q.back, x);
+  isAssociative(q.front, reverseOnto(q.back, Nil), Cons(x, Nil));
 }
 
 lemma turnedIsTheSame(q: Queue)

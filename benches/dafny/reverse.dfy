@@ -19,14 +19,25 @@ function reverse<A>(l: List<A>): List<A>
   case Nil => l
 }
 
+// What stands in front stays in front.
+lemma snocBehind<A>(x: A, l: List<A>, y: A)
+  ensures snoc(Cons(x, l), y) == Cons(x, snoc(l, y))
+{
+}
+
+lemma oneReversed<A>(x: A)
+  ensures reverse(Cons(x, Nil)) == Cons(x, Nil)
+{
+}
+
 // What stands at the end comes first.
 lemma snocReversed<A>(l: List<A>, x: A)
   ensures reverse(snoc(l, x)) == Cons(x, reverse(l))
   decreases l
 {
   match l
-  case Cons(_, t) => snocReversed(t, x);
-  case Nil =>
+  case Cons(h, t) => snocReversed(t, x); snocBehind(x, reverse(t), h);
+  case Nil => oneReversed(x);
 }
 
 lemma reversedTwice<A>(l: List<A>)

@@ -29,7 +29,9 @@ object Length {
   def reverseOnto[A](l: List[A], done: List[A]): List[A] = {
     decreases(l)
     l match {
-      case Cons(h, t) => reverseOnto(t, Cons(h, done))
+      case Cons(h, t) =>
+        assert(length(Cons(h, done)) == 1 + length(done))
+        reverseOnto(t, Cons(h, done))
       case Nil() => done
     }
   } ensuring (res => length(res) == length(l) + length(done))

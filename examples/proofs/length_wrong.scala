@@ -1,6 +1,6 @@
 // Not proved: an element is lost on the way.
 // pureproof examples/proofs/length_wrong.scala
-// 2 valid, 2 invalid, 0 open, 0 depending
+// 2 valid, 1 invalid, 0 open, 1 depending
 import stainless.lang._
 
 object Length {
@@ -29,7 +29,9 @@ object Length {
   def reverseOnto[A](l: List[A], done: List[A]): List[A] = {
     decreases(l)
     l match {
-      case Cons(h, t) => reverseOnto(t, done)
+      case Cons(h, t) =>
+        assert(length(Cons(h, done)) == 1 + length(done))
+        reverseOnto(t, done)
       case Nil() => done
     }
   } ensuring (res => length(res) == length(l) + length(done))

@@ -1,6 +1,6 @@
 // Proved: merge sort gives a sorted list that has each number as often as the list.
 // pureproof examples/proofs/merge_sort.scala
-// 18 valid, 0 invalid, 0 open, 0 depending
+// 23 valid, 0 invalid, 0 open, 0 depending
 import stainless.lang._
 
 object MergeSort {
@@ -8,26 +8,11 @@ object MergeSort {
   case class Cons(head: Int, tail: List) extends List
   case class Nil() extends List
 
-  // What is to be merged: halves of halves, down to single numbers. The next one goes to the left where it is even.
-  sealed abstract class Halves
-  case class Both(left: Halves, right: Halves, even: Boolean) extends Halves
-  case class One(value: Int) extends Halves
-
-  def put(x: Int, h: Halves): Halves = {
-    decreases(h)
-    h match {
-      case Both(l, r, even) => if (even) Both(put(x, l), r, false) else Both(l, put(x, r), true)
-      case One(y) => Both(One(x), One(y), true)
-    }
-  }
-
-  def halves(x: Int, l: List): Halves = {
-    decreases(l)
-    l match {
-      case Cons(y, t) => put(x, halves(y, t))
-      case Nil() => One(x)
-    }
-  }
+  // Lists that are still to be merged: of one number, of two, of four and so on. A gap stands where there is none.
+  sealed abstract class Runs
+  case class Run(first: List, rest: Runs) extends Runs
+  case class Gap(rest: Runs) extends Runs
+  case class End() extends Runs
 
   // Goes down in either list.
   def merge(a: List, b: List): List = {
@@ -41,21 +26,37 @@ object MergeSort {
     }
   }
 
-  def merged(h: Halves): List = {
-    decreases(h)
-    h match {
-      case Both(l, r, _) => merge(merged(l), merged(r))
-      case One(x) => Cons(x, Nil())
+  // One run more: two of one length become one of the next, as when one is added to a binary number.
+  def add(l: List, runs: Runs): Runs = {
+    decreases(runs)
+    runs match {
+      case Run(m, rest) => Gap(add(merge(l, m), rest))
+      case Gap(rest) => Run(l, rest)
+      case End() => Run(l, End())
+    }
+  }
+
+  // Each number is a run of its own.
+  def runs(l: List): Runs = {
+    decreases(l)
+    l match {
+      case Cons(x, t) => add(Cons(x, Nil()), runs(t))
+      case Nil() => End()
+    }
+  }
+
+  def merged(runs: Runs): List = {
+    decreases(runs)
+    runs match {
+      case Run(l, rest) => merge(l, merged(rest))
+      case Gap(rest) => merged(rest)
+      case End() => Nil()
     }
   }
 
   def sort(l: List): List = {
-    l match {
-      case Cons(x, t) =>
-        assert(mergedIsSorted(halves(x, t)))
-        merged(halves(x, t))
-      case Nil() => l
-    }
+    assert(runsAreSorted(l) && mergedIsSorted(runs(l)))
+    merged(runs(l))
   } ensuring (res => isSorted(res, Int.MinValue))
 
   // The list is in order, and no element is less than low.
@@ -64,6 +65,15 @@ object MergeSort {
     l match {
       case Cons(h, t) => low <= h && isSorted(t, h)
       case Nil() => true
+    }
+  }
+
+  def areSorted(runs: Runs): Boolean = {
+    decreases(runs)
+    runs match {
+      case Run(l, rest) => isSorted(l, Int.MinValue) && areSorted(rest)
+      case Gap(rest) => areSorted(rest)
+      case End() => true
     }
   }
 
@@ -81,14 +91,39 @@ object MergeSort {
     rest && isSorted(merge(a, b), low)
   }.holds
 
-  def mergedIsSorted(h: Halves): Boolean = {
-    decreases(h)
-    val rest = h match {
-      case Both(l, r, _) =>
-        mergedIsSorted(l) && mergedIsSorted(r) && mergeIsSorted(merged(l), merged(r), Int.MinValue)
-      case One(x) => isSorted(Nil(), x)
+  def oneIsSorted(x: Int): Boolean = {
+    isSorted(Cons(x, Nil()), Int.MinValue)
+  }.holds
+
+  def addIsSorted(l: List, runs: Runs): Boolean = {
+    require(isSorted(l, Int.MinValue) && areSorted(runs))
+    decreases(runs)
+    val rest = runs match {
+      case Run(m, rest) => mergeIsSorted(l, m, Int.MinValue) && addIsSorted(merge(l, m), rest)
+      case Gap(_) => true
+      case End() => true
     }
-    rest && isSorted(merged(h), Int.MinValue)
+    rest && areSorted(add(l, runs))
+  }.holds
+
+  def runsAreSorted(l: List): Boolean = {
+    decreases(l)
+    val rest = l match {
+      case Cons(x, t) => oneIsSorted(x) && runsAreSorted(t) && addIsSorted(Cons(x, Nil()), runs(t))
+      case Nil() => true
+    }
+    rest && areSorted(runs(l))
+  }.holds
+
+  def mergedIsSorted(runs: Runs): Boolean = {
+    require(areSorted(runs))
+    decreases(runs)
+    val rest = runs match {
+      case Run(l, rest) => mergedIsSorted(rest) && mergeIsSorted(l, merged(rest), Int.MinValue)
+      case Gap(rest) => mergedIsSorted(rest)
+      case End() => true
+    }
+    rest && isSorted(merged(runs), Int.MinValue)
   }.holds
 
   // Counting v on from n.
@@ -102,33 +137,27 @@ object MergeSort {
     }
   }
 
-  def countIn(h: Halves, v: Int, n: Int): Int = {
-    decreases(h)
-    h match {
-      case Both(l, r, _) => countIn(l, v, countIn(r, v, n))
-      case One(x) => one(x, v, n)
+  def countIn(runs: Runs, v: Int, n: Int): Int = {
+    decreases(runs)
+    runs match {
+      case Run(l, rest) => count(l, v, countIn(rest, v, n))
+      case Gap(rest) => countIn(rest, v, n)
+      case End() => n
     }
   }
+
+  def onesSwap(x: Int, y: Int, v: Int, n: Int): Boolean = {
+    one(y, v, one(x, v, n)) == one(x, v, one(y, v, n))
+  }.holds
 
   // One more to begin with is one more in the end.
   def countsOn(l: List, x: Int, v: Int, n: Int): Boolean = {
     decreases(l)
     val rest = l match {
-      case Cons(y, t) =>
-        val k = count(t, v, n)
-        countsOn(t, x, v, n) && one(y, v, one(x, v, k)) == one(x, v, one(y, v, k))
+      case Cons(y, t) => countsOn(t, x, v, n) && onesSwap(x, y, v, count(t, v, n))
       case Nil() => true
     }
     rest && count(l, v, one(x, v, n)) == one(x, v, count(l, v, n))
-  }.holds
-
-  def countsOnIn(h: Halves, x: Int, v: Int, n: Int): Boolean = {
-    decreases(h)
-    val rest = h match {
-      case Both(l, r, _) => countsOnIn(r, x, v, n) && countsOnIn(l, x, v, countIn(r, v, n))
-      case One(y) => one(y, v, one(x, v, n)) == one(x, v, one(y, v, n))
-    }
-    rest && countIn(h, v, one(x, v, n)) == one(x, v, countIn(h, v, n))
   }.holds
 
   def mergeCounts(a: List, b: List, v: Int, n: Int): Boolean = {
@@ -138,48 +167,48 @@ object MergeSort {
         case Cons(y, t) =>
           if (x <= y) mergeCounts(s, b, v, n)
           else mergeCounts(a, t, v, n) && countsOn(a, y, v, count(t, v, n))
-        case Nil() => count(Nil(), v, n) == n
+        case Nil() => true
       }
       case Nil() => true
     }
-    rest && count(merge(a, b), v, n) == count(a, v, count(b, v, n))
+    rest && count(a, v, count(b, v, n)) == count(merge(a, b), v, n)
   }.holds
 
-  def putCounts(x: Int, h: Halves, v: Int, n: Int): Boolean = {
-    decreases(h)
-    val rest = h match {
-      case Both(l, r, even) =>
-        val k = countIn(r, v, n)
-        if (even) putCounts(x, l, v, k) else putCounts(x, r, v, n) && countsOnIn(l, x, v, k)
-      case One(_) => countIn(One(x), v, countIn(h, v, n)) == one(x, v, countIn(h, v, n))
+  def oneCounts(x: Int, v: Int, n: Int): Boolean = {
+    count(Cons(x, Nil()), v, n) == one(x, v, n)
+  }.holds
+
+  def addCounts(l: List, runs: Runs, v: Int, n: Int): Boolean = {
+    decreases(runs)
+    val rest = runs match {
+      case Run(m, rest) => addCounts(merge(l, m), rest, v, n) && mergeCounts(l, m, v, countIn(rest, v, n))
+      case Gap(_) => true
+      case End() => true
     }
-    rest && countIn(put(x, h), v, n) == one(x, v, countIn(h, v, n))
+    rest && countIn(add(l, runs), v, n) == count(l, v, countIn(runs, v, n))
   }.holds
 
-  def halvesCount(x: Int, l: List, v: Int, n: Int): Boolean = {
+  def runsCount(l: List, v: Int, n: Int): Boolean = {
     decreases(l)
     val rest = l match {
-      case Cons(y, t) => halvesCount(y, t, v, n) && putCounts(x, halves(y, t), v, n)
+      case Cons(x, t) =>
+        runsCount(t, v, n) && addCounts(Cons(x, Nil()), runs(t), v, n) && oneCounts(x, v, count(t, v, n))
       case Nil() => true
     }
-    rest && countIn(halves(x, l), v, n) == one(x, v, count(l, v, n))
+    rest && countIn(runs(l), v, n) == count(l, v, n)
   }.holds
 
-  def mergedCounts(h: Halves, v: Int, n: Int): Boolean = {
-    decreases(h)
-    val rest = h match {
-      case Both(l, r, _) =>
-        mergedCounts(r, v, n) && mergedCounts(l, v, countIn(r, v, n)) && mergeCounts(merged(l), merged(r), v, n)
-      case One(_) => count(Nil(), v, n) == n
+  def mergedCounts(runs: Runs, v: Int, n: Int): Boolean = {
+    decreases(runs)
+    val rest = runs match {
+      case Run(l, rest) => mergedCounts(rest, v, n) && mergeCounts(l, merged(rest), v, n)
+      case Gap(rest) => mergedCounts(rest, v, n)
+      case End() => true
     }
-    rest && count(merged(h), v, n) == countIn(h, v, n)
+    rest && count(merged(runs), v, n) == countIn(runs, v, n)
   }.holds
 
   def sameCount(l: List, v: Int): Boolean = {
-    val rest = l match {
-      case Cons(x, t) => halvesCount(x, t, v, 0) && mergedCounts(halves(x, t), v, 0)
-      case Nil() => true
-    }
-    rest && count(sort(l), v, 0) == count(l, v, 0)
+    runsCount(l, v, 0) && mergedCounts(runs(l), v, 0) && count(sort(l), v, 0) == count(l, v, 0)
   }.holds
 }

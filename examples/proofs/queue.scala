@@ -1,6 +1,6 @@
 // Proved: what is put into a queue of two lists comes last, and turning it keeps its elements.
 // pureproof examples/proofs/queue.scala
-// 10 valid, 0 invalid, 0 open, 0 depending
+// 12 valid, 0 invalid, 0 open, 0 depending
 import stainless.lang._
 
 object Queue {
@@ -38,12 +38,16 @@ object Queue {
     case Nil() => Queue(reverseOnto(q.back, Nil()), Nil())
   }
 
+  // What stands in front stays in front.
+  def appendsBehind(h: Int, a: List, b: List): Boolean = {
+    append(Cons(h, a), b) == Cons(h, append(a, b))
+  }.holds
+
   // Appending to what was reversed onto a list is the same as reversing onto more.
   def reversesOn(l: List, done: List, more: List): Boolean = {
     decreases(l)
     val rest = l match {
-      case Cons(h, t) =>
-        reversesOn(t, Cons(h, done), more) && append(Cons(h, done), more) == Cons(h, append(done, more))
+      case Cons(h, t) => reversesOn(t, Cons(h, done), more) && appendsBehind(h, done, more)
       case Nil() => true
     }
     rest && append(reverseOnto(l, done), more) == reverseOnto(l, append(done, more))
@@ -67,14 +71,21 @@ object Queue {
     rest && append(a, Nil()) == a
   }.holds
 
+  // The last of the back is the last of all.
+  def backEnds(l: List, x: Int): Boolean = {
+    val last = Cons(x, Nil())
+    reversesOn(l, Nil(), last) && append(Nil(), last) == last &&
+      reverseOnto(Cons(x, l), Nil()) == append(reverseOnto(l, Nil()), last)
+  }.holds
+
   def putComesLast(q: Queue, x: Int): Boolean = {
     val last = Cons(x, Nil())
-    reversesOn(q.back, Nil(), last) && isAssociative(q.front, reverseOnto(q.back, Nil()), last) &&
-      append(Nil(), last) == last && reverseOnto(Cons(x, q.back), Nil()) == reverseOnto(q.back, last) &&
+    backEnds(q.back, x) && isAssociative(q.front, reverseOnto(q.back, Nil()), last) &&
       elements(put(q, x)) == append(elements(q), last)
   }.holds
 
   def turnedIsTheSame(q: Queue): Boolean = {
-    hasUnit(reverseOnto(q.back, Nil())) && elements(turned(q)) == elements(q)
+    val l = reverseOnto(q.back, Nil())
+    hasUnit(l) && elements(turned(q)) == elements(q)
   }.holds
 }

@@ -1,6 +1,6 @@
 // Proved: reversing a list twice gives the list.
 // pureproof examples/proofs/reverse.scala
-// 4 valid, 0 invalid, 0 open, 0 depending
+// 6 valid, 0 invalid, 0 open, 0 depending
 import stainless.lang._
 
 object Reverse {
@@ -25,12 +25,21 @@ object Reverse {
     }
   }
 
+  // What stands in front stays in front.
+  def snocBehind[A](x: A, l: List[A], y: A): Boolean = {
+    snoc(Cons(x, l), y) == Cons(x, snoc(l, y))
+  }.holds
+
+  def oneReversed[A](x: A): Boolean = {
+    reverse(Cons(x, Nil[A]())) == Cons(x, Nil[A]())
+  }.holds
+
   // What stands at the end comes first.
   def snocReversed[A](l: List[A], x: A): Boolean = {
     decreases(l)
     val rest = l match {
-      case Cons(_, t) => snocReversed(t, x)
-      case Nil() => true
+      case Cons(h, t) => snocReversed(t, x) && snocBehind(x, reverse(t), h)
+      case Nil() => oneReversed(x)
     }
     rest && reverse(snoc(l, x)) == Cons(x, reverse(l))
   }.holds

@@ -1,6 +1,6 @@
-// Not proved: the elements stay where they were.
+// Not proved: what is put at the end is put in front.
 // pureproof examples/proofs/reverse_wrong.scala
-// 2 valid, 1 invalid, 0 open, 1 depending
+// 3 valid, 1 invalid, 0 open, 2 depending
 import stainless.lang._
 
 object Reverse {
@@ -12,7 +12,7 @@ object Reverse {
   def snoc[A](l: List[A], x: A): List[A] = {
     decreases(l)
     l match {
-      case Cons(h, t) => Cons(h, snoc(t, x))
+      case Cons(h, t) => Cons(x, l)
       case Nil() => Cons(x, Nil[A]())
     }
   }
@@ -20,17 +20,26 @@ object Reverse {
   def reverse[A](l: List[A]): List[A] = {
     decreases(l)
     l match {
-      case Cons(h, t) => Cons(h, reverse(t))
+      case Cons(h, t) => snoc(reverse(t), h)
       case Nil() => l
     }
   }
+
+  // What stands in front stays in front.
+  def snocBehind[A](x: A, l: List[A], y: A): Boolean = {
+    snoc(Cons(x, l), y) == Cons(x, snoc(l, y))
+  }.holds
+
+  def oneReversed[A](x: A): Boolean = {
+    reverse(Cons(x, Nil[A]())) == Cons(x, Nil[A]())
+  }.holds
 
   // What stands at the end comes first.
   def snocReversed[A](l: List[A], x: A): Boolean = {
     decreases(l)
     val rest = l match {
-      case Cons(_, t) => snocReversed(t, x)
-      case Nil() => true
+      case Cons(h, t) => snocReversed(t, x) && snocBehind(x, reverse(t), h)
+      case Nil() => oneReversed(x)
     }
     rest && reverse(snoc(l, x)) == Cons(x, reverse(l))
   }.holds

@@ -3,7 +3,7 @@ use Rattle.std.proofs.Common.{◌≡◌, ◌<◌, ◌+◌, ℕ, zero, suc, Bool,
 use Rattle.std.proofs.Common.{◌∙◌, sym, arith}
 use Rattle.std.specs.Prelude.{Some, slice_get}
 use Rattle.std.proofs.lemmas.List.Sums.{sum_by-cons}
-use Rattle.std.proofs.lemmas.Option.{slice_get_within}
+use Rattle.std.proofs.lemmas.Option.{same_Some, slice_get_within}
 
 module _ {A : Type 0} (test : A → Bool) where
   -- one that passes the test
@@ -35,11 +35,8 @@ module _ {A : Type 0} (test : A → Bool) where
   pub none_counted : (xs : List A) → count_by test xs ≡ 0 → (i : ℕ) (x : A) → slice_get xs i ≡ Some x → test x ≡ false
   none_counted [] none i x at = absurd (omega (arith, slice_get_within [] i x at))
   none_counted (y ∷ xs) none zero x at =
-      let same : y ≡ x = some_same at in by (test y) refl same
+      let same : y ≡ x = same_Some _ _ at in by (test y) refl same
     where
-      some_same : {a b : A} → Some a ≡ Some b → a ≡ b
-      some_same h = cc
-
       by : (b : Bool) → test y ≡ b → y ≡ x → test x ≡ false
       by false fails same = ap test (sym same) ∙ fails
       by true passes same =

@@ -2,7 +2,7 @@
 use Rattle.std.proofs.Common.{◌≡◌, ◌<◌, ◌+◌, ℕ, zero, suc, List, [], ◌∷◌, ◌++◌, codes}
 use Rattle.std.proofs.Common.{length, refl, sym, ap, ◌∙◌, subst, arith}
 use Rattle.std.specs.Prelude.{Option, Some, slice_get}
-use Rattle.std.proofs.lemmas.Option.{slice_get_within}
+use Rattle.std.proofs.lemmas.Option.{same_Some, slice_get_within}
 use Rattle.pp_answers.specs.Claims.{Says}
 use Rattle.pp_induct.specs.Reports.{AreEnds, IsInvalidIn, IsSearched, IsWhy}
 use Rattle.pp_induct.specs.Verdicts.{EndedSo, IsInvalidEnd, IsOpenEnd, IsVerdict}
@@ -24,9 +24,6 @@ use Rattle.pp_prog.specs.declared.id.FunctionId.{FunctionId}
 use Rattle.pp_prog.specs.declared.program.Program.{Program}
 use Rattle.pp_prog.specs.declared.value.Value.{Value}
 use Rattle.pp_sound.specs.Sound.{IsCheckOf}
-
-some_same : {A : Type 0} {x y : A} → Some x ≡ Some y → x ≡ y
-some_same h = cc
 
 pub within : {A : Type 0} (xs : List A) (n : ℕ) → n < length xs → (x : A) × (slice_get xs n ≡ Some x)
 within [] n lt = absurd (omega (arith, lt))
@@ -147,8 +144,8 @@ line_at p ends rest n i [] vs f v at also = absurd (omega (arith, slice_get_with
 line_at p ends rest n i (g ∷ fs) [] f v at also = absurd (omega (arith, slice_get_within [] i v also))
 line_at p ends rest n zero (g ∷ fs) (w ∷ vs) f v at also =
     let same : n ≡ n + 0 = omega arith in
-    ap (λ z. Some (verdict_text p ends n z w)) (some_same at)
-    ∙ ap (λ z. Some (verdict_text p ends n f z)) (some_same also) ∙ ap (λ k. Some (verdict_text p ends k f v)) same
+    ap (λ z. Some (verdict_text p ends n z w)) (same_Some _ _ at)
+    ∙ ap (λ z. Some (verdict_text p ends n f z)) (same_Some _ _ also) ∙ ap (λ k. Some (verdict_text p ends k f v)) same
 line_at p ends rest n (suc i) (g ∷ fs) (w ∷ vs) f v at also =
     let same : suc n + i ≡ n + suc i = omega arith in
     line_at p ends rest (suc n) i fs vs f v at also ∙ ap (λ k. Some (verdict_text p ends k f v)) same
@@ -189,4 +186,4 @@ module _ (p : Program) (limits : Limits) (r : Response) (a : AnswersVerify p lim
   -- the line that stands there is the one that is told
   pub same_line : (i : ℕ) (f : Function) (t : IsTold i f) (line : List ℕ) → slice_get (lines_in r) i ≡ Some line
       → t.line ≡ line
-  same_line i f t line there = some_same (sym t.there ∙ there)
+  same_line i f t line there = same_Some _ _ (sym t.there ∙ there)

@@ -3,7 +3,7 @@ use Rattle.std.proofs.Common.{◌≡◌, ◌+◌, ℕ, zero, suc, true, false, L
 use Rattle.std.proofs.Common.{length, refl, sym, ap, ◌∙◌, inl, inr, subst, arith}
 use Rattle.std.specs.Prelude.{Option, None, Some, slice_get}
 use Rattle.std.proofs.lemmas.List.{length-append}
-use Rattle.std.proofs.lemmas.Option.{slice_get_within}
+use Rattle.std.proofs.lemmas.Option.{same_Some, slice_get_within}
 use Rattle.pp_answers.proofs.Counts.{none_counted, some_counted}
 use Rattle.pp_answers.proofs.Lines.{IsOpen, Tells, same_line, says_depends}
 use Rattle.pp_answers.proofs.Lines.{says_invalid, says_open, says_valid, told, within}
@@ -124,7 +124,7 @@ module _ (p : Program) (limits : Limits) (r : Response) (a : AnswersVerify p lim
       let are = a.holds.verdicts in
       let f = within p.functions i (omega (arith, are.size, slice_get_within a.found.verdicts i v here)) in
       let t = told p limits r a i f.0 f.1 in
-      let same : t.verdict ≡ v = some_same (sym t.here ∙ here) in (
+      let same : t.verdict ≡ v = same_Some _ _ (sym t.here ∙ here) in (
         f.0,
         f.1,
         λ words says. record {
@@ -135,9 +135,6 @@ module _ (p : Program) (limits : Limits) (r : Response) (a : AnswersVerify p lim
           says = says t.line (subst (Tells p limits i f.0 t.line) same t.tells);
         },
       )
-    where
-      some_same : {A : Type 0} {x y : A} → Some x ≡ Some y → x ≡ y
-      some_same h = cc
 
   of_invalid : (i : ℕ) (v : Verdict) → slice_get a.found.verdicts i ≡ Some v → is_invalid v ≡ true
       → Line (codes ": invalid, ") i

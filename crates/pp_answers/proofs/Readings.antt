@@ -2,6 +2,7 @@
 use Rattle.std.proofs.Common.{◌≡◌, ◌∙◌, ◌^◌, ◌<◌, ℕ, List, refl, sym, ap, subst, inl, inr, arith}
 use Rattle.std.specs.Prelude.{Option, None, Some, nat_eq, slice_get}
 use Rattle.std.proofs.lemmas.List.Sums.{count_by-le-length}
+use Rattle.std.proofs.lemmas.Option.{same_Some}
 use Rattle.pp_answers.proofs.Alike.{check_there, counterexample_there, good_there, none_there}
 use Rattle.pp_answers.proofs.Claimed.{of_verify}
 use Rattle.pp_answers.proofs.Excluded.{excluded}
@@ -41,9 +42,6 @@ use Rattle.pp_prog.specs.declared.program.Program.{Program}
 use Rattle.pp_prog.specs.declared.types.TypeTable.{TypeTable}
 use Rattle.pp_sound.specs.Sound.{IsCalled}
 
-some_same : {A : Type 0} {x y : A} → Some x ≡ Some y → x ≡ y
-some_same h = cc
-
 -- ---- what a line tells is its content
 
 module _ (p : Program) (limits : Limits) (i : ℕ) (f : Function) (line : List ℕ) where
@@ -66,7 +64,7 @@ module _ (p : Program) (limits : Limits) (i : ℕ) (f : Function) (line : List �
   sorted : slice_get p.functions i ≡ Some f → (args : _) (g : Function) → IsCalled p i g args
       → AreArguments p.types.ctors (Some f) args
   sorted at args g called =
-      subst (λ h. AreArguments p.types.ctors (Some h) args) (some_same (sym called.function ∙ at)) called.arguments
+      subst (λ h. AreArguments p.types.ctors (Some h) args) (same_Some _ _ (sym called.function ∙ at)) called.arguments
 
   pub printed : AreLimits limits → slice_get p.functions i ≡ Some f → (v : Verdict) (t : Tells p limits i f line v)
       → Prints p i f line (content_of v t)

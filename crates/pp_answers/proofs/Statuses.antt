@@ -2,7 +2,7 @@
 use Rattle.std.proofs.Common.{◌≡◌, ◌⊎◌, ℕ, List, [], ◌∷◌, refl, sym, ap, ◌∙◌, ⊎_elim, inl, inr, subst, arith}
 use Rattle.std.specs.Prelude.{Some, slice_get}
 use Rattle.std.proofs.lemmas.Bool.{cases_lt}
-use Rattle.std.proofs.lemmas.Option.{slice_get_within}
+use Rattle.std.proofs.lemmas.Option.{same_Some, slice_get_within}
 use Rattle.pp_answers.proofs.Alike.{counterexample_there, same_run}
 use Rattle.pp_answers.proofs.Excluded.{excluded}
 use Rattle.pp_answers.proofs.Lines.{as_verify}
@@ -38,9 +38,6 @@ use Rattle.pp_sound.proofs.Laws.{fail_listed_checks}
 use Rattle.pp_sound.specs.Counterexample.{IsCounterexample}
 use Rattle.pp_sound.specs.Sound.{IsCalled}
 use Rattle.pp_words.specs.Task.{Task, run}
-
-some_same : {A : Type 0} {x y : A} → Some x ≡ Some y → x ≡ y
-some_same h = cc
 
 -- ---- runs
 
@@ -124,7 +121,7 @@ module _ (p : Program) (f : Function) (args : List Value) where
 good_never_fails : (p : Program) (i : ℕ) (c : CheckId) (n d : ℕ) (args : List Value) → IsCounterexample p i c n d args
     → (f : Function) → slice_get p.functions i ≡ Some f → IsGood p.types.ctors p.functions f → ⊥
 good_never_fails p i c n d args h f at good =
-    let same : f ≡ h.function = some_same (sym at ∙ h.called.function) in
+    let same : f ≡ h.function = same_Some _ _ (sym at ∙ h.called.function) in
     let end = subst (IsGood p.types.ctors p.functions) same good args h.called.arguments in
     elim end.1 [
       | inl out ↦ outside_fails (sym out

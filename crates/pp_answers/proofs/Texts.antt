@@ -120,10 +120,7 @@ module _ (p : Program) (limits : Limits) where
   one_more_true n f fs c cs one rest zero g d at here =
       let same : n ≡ n + 0 = omega arith in
       subst (λ k. Means limits p k g d) same
-      (subst (Means limits p n g) (some_same here) (subst (λ h. Means limits p n h c) (some_same at) one))
-    where
-      some_same : {A : Type 0} {x y : A} → Some x ≡ Some y → x ≡ y
-      some_same h = cc
+      (subst (Means limits p n g) (same_Some _ _ here) (subst (λ h. Means limits p n h c) (same_Some _ _ at) one))
   one_more_true n f fs c cs one rest (suc k) g d at here =
       let same : suc n + k ≡ n + suc k = omega arith in
       subst (λ m. Means limits p m g d) same (rest k g d at here)

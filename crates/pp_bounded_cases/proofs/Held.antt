@@ -1,8 +1,6 @@
 -- Symbols stay those of the domain from call to call, and each call has its room.
 use Rattle.std.proofs.Common.{◌≡◌, ℕ, ◌+◌, List, [], ◌∷◌, ◌++◌, All, length, take, refl, sym, ap, ◌∙◌, subst}
 use Rattle.std.proofs.Common.{slice_get, inl, inr, Some}
-use Rattle.std.proofs.lemmas.List.{take_more}
-use Rattle.std.proofs.lemmas.Option.{get_or_from_slice_get, slice_get_within}
 use Rattle.pp_prog.specs.declared.sort.Sort.{Sort}
 use Rattle.pp_prog.specs.declared.sort.Sort.TheVariants as sort
 use Rattle.pp_prog.specs.declared.types.TypeTable.{TypeTable}
@@ -21,11 +19,7 @@ use Rattle.pp_named_trees.specs.declared.arena.NamedTrees.{NamedTrees}
 use Rattle.pp_named_trees.specs.Arena.{IsKept}
 use Rattle.pp_named_trees.specs.Meaning.{named_sense}
 use Rattle.pp_bounded_cases.specs.Registers.{AreHeld, IsHeld, IsRegister, MayBe}
-
-taken_next : {X : Type 0} (xs : List X) (i : ℕ) (x : X) → slice_get xs i ≡ Some x
-    → take (i + 1) xs ≡ take i xs ++ x ∷ []
-taken_next xs i x at =
-    take_more xs i x (slice_get_within xs i x at) ∙ ap (λ z. take i xs ++ z ∷ []) (get_or_from_slice_get xs i x x at)
+use Rattle.pp_list.proofs.Lists.{taken_next}
 
 -- ---- what a register holds
 

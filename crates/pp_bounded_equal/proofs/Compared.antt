@@ -3,6 +3,7 @@ use Rattle.std.proofs.Common.{◌≡◌, ℕ, zero, suc, ◌+◌, ◌-◌, ◌*�
 use Rattle.std.proofs.Common.{length, map, take, Option, Some, None, refl, sym, ap, ◌∙◌, subst, arith, slice_get, inl}
 use Rattle.std.proofs.Common.{inr}
 use Rattle.std.proofs.lemmas.Bool.{and_from, and_parts, cases_lt}
+use Rattle.std.proofs.lemmas.List.{map_push}
 use Rattle.std.proofs.lemmas.Option.{same_Some}
 use Rattle.pp_prog.specs.declared.sort.Sort.{Sort}
 use Rattle.pp_prog.specs.declared.sort.Sort.TheVariants as sort
@@ -32,7 +33,7 @@ use Rattle.pp_bounded_trees.specs.Values.{all_values, symbol_value, values_of}
 use Rattle.pp_bounded_merge.proofs.Adding.{bits_grow}
 use Rattle.pp_bounded_trees.proofs.Candidates.{bits_of_ctors, ctor_in_block, take_whole, total_taken, bits_of_bool}
 use Rattle.pp_bounded_trees.proofs.Candidates.{bits_of_int}
-use Rattle.pp_bounded_trees.proofs.Kept.{last_of_all, map_push}
+use Rattle.pp_bounded_trees.proofs.Kept.{last_of_all}
 use Rattle.pp_bounded_merge.proofs.MergedCtors.{FoundCtor, found_ctor}
 
 -- ---- the gates

@@ -37,7 +37,7 @@ use Rattle.pp_bounded_trees.specs.Possible.{total}
 use Rattle.pp_bounded_trees.specs.Meaning.{BoundedFits}
 use Rattle.pp_bounded_merge.specs.Merge.{AreAlternatives, OneSide}
 use Rattle.pp_bounded_trees.specs.Values.{field_values, symbol_value, value_among, values_of}
-use Rattle.pp_bounded_merge.proofs.Adding.{total_grow}
+use Rattle.pp_bounded_merge.proofs.Adding.{plus_grow, total_grow}
 use Rattle.pp_bounded_trees.proofs.Alternatives.{own_of, true_once}
 use Rattle.pp_bounded_trees.proofs.Candidates.{ctor_in_block, in_block_ctor, take_whole, total_append, total_sum}
 use Rattle.pp_bounded_trees.proofs.Candidates.{total_taken}
@@ -47,20 +47,12 @@ use Rattle.pp_bounded_merge.proofs.MergedCtors.{found_ctor}
 use Rattle.pp_bounded_merge.proofs.MergedTree.{Side, node_alternatives, side_one, side_order}
 use Rattle.pp_bounded_equal.proofs.Searching.{below_under, under_below}
 use Rattle.pp_bounded_merge.proofs.Sides.{side_high}
+use Rattle.pp_list.proofs.Numbers.{less_one, none_below}
 
 -- ---- the gates
 
-less_one : (h k : ℕ) → suc h ≤ suc k → h ≤ k
-less_one h k le = omega arith
-
 same_or_less : (n : ℕ) → n ≤ n
 same_or_less n = omega arith
-
-none_below : (n : ℕ) → 0 ≤ n
-none_below n = omega arith
-
-plus_grow : (c a b m n : ℕ) → a ≡ m → b ≡ n → m ≤ n → c + a ≤ c + b
-plus_grow c a b m n e f le = omega arith
 
 pub nodes_grow : (types : TypeTable) (h k : ℕ) (s : Sort) → h ≤ k → nodes types h s ≤ nodes types k s
 nodes_grow types zero zero s le = same_or_less (nodes types zero s)

@@ -2,7 +2,8 @@
 use Rattle.std.proofs.Common.{◌≡◌, ℕ, zero, suc, ◌&&◌, ◌||◌, ◌⊎◌, Bool, true, false, List, [], ◌∷◌, ◌++◌, length, map}
 use Rattle.std.proofs.Common.{Option, Some, Contains, refl, sym, ap, ◌∙◌, subst, slice_get, inl, inr}
 use Rattle.std.proofs.lemmas.Option.{get_or_from_slice_get, same_Some, slice_get-get_or, slice_get_within}
-use Rattle.std.proofs.lemmas.Bool.{and_from, and_parts}
+use Rattle.std.proofs.lemmas.Bool.{and_from, and_parts, or_left, or_right}
+use Rattle.std.proofs.lemmas.List.{map_push}
 use Rattle.pp_prog.specs.declared.id.CtorId.{CtorId}
 use Rattle.pp_prog.specs.declared.id.DataId.{DataId}
 use Rattle.pp_prog.specs.declared.types.Ctor.{Ctor}
@@ -29,7 +30,7 @@ use Rattle.pp_bounded_trees.specs.Meaning.{BoundedFits}
 use Rattle.pp_bounded_trees.specs.Values.{all_values, symbol_value, value_at, values_of}
 use Rattle.pp_bounded_trees.proofs.Alternatives.{own_of}
 use Rattle.pp_bounded_trees.proofs.Fields.{all_first}
-use Rattle.pp_bounded_trees.proofs.Kept.{last_of_all, map_push}
+use Rattle.pp_bounded_trees.proofs.Kept.{last_of_all}
 use Rattle.pp_bounded_trees.proofs.Locality.{node_value}
 use Rattle.pp_prog.proofs.Values.{same_ctor}
 
@@ -222,14 +223,6 @@ or_false false y e = e
 or_cases : (x y : Bool) → (x || y) ≡ true → (x ≡ true) ⊎ (y ≡ true)
 or_cases true y e = inl refl
 or_cases false y e = inr e
-
-or_left : (x y : Bool) → x ≡ true → (x || y) ≡ true
-or_left true y e = refl
-or_left false y e = cc
-
-or_right : (x y : Bool) → y ≡ true → (x || y) ≡ true
-or_right true y e = refl
-or_right false y e = e
 
 false_both : (x y : Bool) → x ≡ false → (x && y) ≡ false
 false_both true y e = cc

@@ -18,6 +18,7 @@ use Rattle.pp_bounded_merge.specs.Merge.{Adds}
 use Rattle.pp_bounded_trees.proofs.Candidates.{total_sum}
 use Rattle.pp_bounded_trees.proofs.Lawful.{bounded_lawful}
 use Rattle.pp_bounded_trees.proofs.Pushed.{Moves_pushed}
+use Rattle.pp_list.proofs.Numbers.{less_one, none_below}
 
 pub Steady_more : (c d e : Trees) (fs gs hs : List Gate) → Steady bounded_sense c fs d gs
     → Steady bounded_sense d gs e hs → Steady bounded_sense c fs e hs
@@ -73,16 +74,11 @@ pub total_grow : {X : Type 0} (f g : X → ℕ) (xs : List X) → ((x : X) → f
 total_grow f g [] le = omega arith
 total_grow f g (x ∷ xs) le = let one = le x in let rest = total_grow f g xs le in omega arith
 
-less_one : (h k : ℕ) → suc h ≤ suc k → h ≤ k
-less_one h k le = omega arith
-
 same : (n : ℕ) → n ≤ n
 same n = omega arith
 
-none_below : (n : ℕ) → 0 ≤ n
-none_below n = omega arith
-
-plus_grow : (c a b m n : ℕ) → a ≡ m → b ≡ n → m ≤ n → c + a ≤ c + b
+-- a sum of two grows with its second part
+pub plus_grow : (c a b m n : ℕ) → a ≡ m → b ≡ n → m ≤ n → c + a ≤ c + b
 plus_grow c a b m n e f le = omega arith
 
 pub bits_grow : (types : TypeTable) (h k : ℕ) (s : Sort) → h ≤ k → bits types h s ≤ bits types k s

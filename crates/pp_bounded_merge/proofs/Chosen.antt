@@ -1,6 +1,7 @@
 -- Symbols that are chosen, and lists of them.
 use Rattle.std.proofs.Common.{◌≡◌, ℕ, zero, suc, ◌+◌, ◌≤◌, max, Bool, true, false, if◌then◌else◌, List, [], ◌∷◌, ◌++◌}
 use Rattle.std.proofs.Common.{length, map, take, Option, Some, refl, sym, ap, ◌∙◌, subst, arith, slice_get, inl, inr}
+use Rattle.std.proofs.lemmas.List.{map_push}
 use Rattle.std.proofs.lemmas.Option.{same_Some}
 use Rattle.pp_prog.specs.declared.sort.Sort.{Sort}
 use Rattle.pp_prog.specs.declared.sort.Sort.TheVariants as sort
@@ -10,7 +11,6 @@ use Rattle.pp_prog.specs.Sizes.{bits}
 use Rattle.pp_clause.specs.Literal.{Literal, lit_value}
 use Rattle.pp_gate.specs.declared.gate.Gate.{Gate}
 use Rattle.pp_gate.specs.Circuit.{Gives}
-use Rattle.pp_gate.specs.Laws.{AgreeUpTo}
 use Rattle.pp_gate.proofs.Agreement.{Gives_old}
 use Rattle.pp_gate.proofs.Places.{at_left, at_next, at_push}
 use Rattle.pp_domain.specs.declared.symbol.Symbol.{Symbol}
@@ -18,6 +18,7 @@ use Rattle.pp_domain.specs.declared.symbol.Symbol.TheVariants as symbol
 use Rattle.pp_domain.specs.Moves.{Moves}
 use Rattle.pp_domain.specs.Symbols.{AreSymbols, IsSymbol}
 use Rattle.pp_domain.proofs.Symbols.{AreSymbols_later}
+use Rattle.pp_domain.proofs.Composition.{agree_self}
 use Rattle.pp_bounded_trees.specs.declared.arena.Trees.{Trees}
 use Rattle.pp_bounded_trees.specs.declared.arena.BoundedTree.{BoundedTree}
 use Rattle.pp_bounded_trees.specs.declared.arena.Node.{Node}
@@ -29,10 +30,7 @@ use Rattle.pp_bounded_trees.specs.Values.{all_values, field_values, symbol_value
 use Rattle.pp_bounded_merge.proofs.Adding.{bits_grow}
 use Rattle.pp_bounded_trees.proofs.Candidates.{bits_of_bool, bits_of_int}
 use Rattle.pp_bounded_trees.proofs.Kept.{AreSymbols_push, all_push, field_values_before, field_values_later}
-use Rattle.pp_bounded_trees.proofs.Kept.{last_of_all, map_push}
-
-agree_self : (n : ℕ) (a : ℕ → Bool) → AgreeUpTo n a a
-agree_self n a = record { agree = λ x low high. refl }
+use Rattle.pp_bounded_trees.proofs.Kept.{last_of_all}
 
 -- the symbol at a place has the sort there
 pub record SymbolAt (d : Trees) (gs : List Gate) (ss : List Sort) (i : ℕ) (x : Symbol BoundedTree) : Type 0 where

@@ -1,6 +1,6 @@
 -- Constructors that are chosen from two sides: one, and one after another.
 use Rattle.std.proofs.Common.{◌≡◌, ℕ, zero, suc, ◌+◌, ◌≤◌, Bool, true, false, if◌then◌else◌, List, [], ◌∷◌, ◌++◌}
-use Rattle.std.proofs.Common.{length, Option, Some, None, refl, sym, ap, ◌∙◌, subst, arith, slice_get, inl, inr}
+use Rattle.std.proofs.Common.{length, Option, Some, None, sym, ap, ◌∙◌, subst, arith, slice_get, inl, inr}
 use Rattle.std.proofs.lemmas.Bool.{cases_lt}
 use Rattle.std.proofs.lemmas.Option.{same_Some, slice_get_within}
 use Rattle.pp_prog.specs.declared.id.CtorId.{CtorId}
@@ -12,7 +12,6 @@ use Rattle.pp_prog.specs.declared.types.TypeTable.{TypeTable}
 use Rattle.pp_clause.specs.Literal.{Literal, lit_value}
 use Rattle.pp_gate.specs.declared.gate.Gate.{Gate}
 use Rattle.pp_gate.specs.Circuit.{Gives, IsOf}
-use Rattle.pp_gate.specs.Laws.{AgreeUpTo}
 use Rattle.pp_gate.proofs.Agreement.{Gives_old}
 use Rattle.pp_gate.proofs.Growing.{IsOf_more}
 use Rattle.pp_gate.proofs.Places.{at_left, at_next, at_push}
@@ -21,6 +20,7 @@ use Rattle.pp_domain.specs.declared.symbol.Symbol.TheVariants as symbol
 use Rattle.pp_domain.specs.Moves.{Moves}
 use Rattle.pp_domain.specs.Symbols.{AreSymbols}
 use Rattle.pp_domain.proofs.Symbols.{AreSymbols_later}
+use Rattle.pp_domain.proofs.Composition.{agree_self}
 use Rattle.pp_bounded_trees.specs.declared.arena.Alternative.{Alternative}
 use Rattle.pp_bounded_trees.specs.declared.arena.Trees.{Trees}
 use Rattle.pp_bounded_trees.specs.declared.arena.BoundedTree.{BoundedTree}
@@ -32,9 +32,6 @@ use Rattle.pp_bounded_merge.specs.Merge.{AreAlternatives, AreLow, IsMerged, IsMe
 use Rattle.pp_bounded_trees.proofs.Found.{found_some}
 use Rattle.pp_bounded_trees.proofs.Kept.{field_values_before, field_values_later}
 use Rattle.pp_bounded_trees.proofs.Reading.{field_is}
-
-agree_self : (n : ℕ) (a : ℕ → Bool) → AgreeUpTo n a a
-agree_self n a = record { agree = λ x low high. refl }
 
 -- fields of a node are symbols of the domain, and lower than it
 pub fields_are_symbols : (d : Trees) (gs : List Gate) (k h : ℕ) (ss : List Sort) (xs : List (Symbol BoundedTree))

@@ -16,14 +16,12 @@ use Rattle.pp_prog.specs.Values.{greatest}
 use Rattle.pp_clause.specs.Literal.{Literal, lit_value}
 use Rattle.pp_gate.specs.declared.gate.Gate.{Gate}
 use Rattle.pp_gate.specs.Circuit.{Gives}
-use Rattle.pp_gate.specs.Laws.{AgreeUpTo}
 use Rattle.pp_gate.proofs.Agreement.{Gives_old}
 use Rattle.pp_gate.proofs.Places.{at_next}
-use Rattle.pp_bits.specs.Number.{bit, lit_bit}
 use Rattle.pp_domain.specs.declared.symbol.Symbol.{Symbol}
 use Rattle.pp_domain.specs.declared.symbol.Symbol.TheVariants as symbol
 use Rattle.pp_domain.specs.Moves.{Moves}
-use Rattle.pp_domain.proofs.Composition.{Moves_more}
+use Rattle.pp_domain.proofs.Composition.{Moves_more, agree_self}
 use Rattle.pp_bounded_trees.specs.declared.arena.Alternative.{Alternative}
 use Rattle.pp_bounded_trees.specs.declared.arena.Trees.{Trees}
 use Rattle.pp_bounded_trees.specs.declared.arena.BoundedTree.{BoundedTree}
@@ -34,7 +32,7 @@ use Rattle.pp_bounded_trees.specs.Meaning.{BoundedFits, bounded_sense}
 use Rattle.pp_bounded_merge.specs.Merge.{Adds, AreAlternatives, IsChosen, MergedBefore, is_true}
 use Rattle.pp_bounded_trees.specs.Values.{built, symbol_value, value_among, value_at, values_of}
 use Rattle.pp_bounded_merge.proofs.Adding.{Adds_pushed}
-use Rattle.pp_bounded_trees.proofs.Alternatives.{among_own, own_of, true_once, true_one}
+use Rattle.pp_bounded_trees.proofs.Alternatives.{among_own, false_bit, own_of, true_bit, true_once, true_one}
 use Rattle.pp_bounded_trees.proofs.Blank.{pushed_fits}
 use Rattle.pp_bounded_trees.proofs.Candidates.{in_block_ctor}
 use Rattle.pp_bounded_trees.proofs.Found.{found_has, found_some}
@@ -43,15 +41,6 @@ use Rattle.pp_bounded_trees.proofs.Known.{fields_fit, heights_same}
 use Rattle.pp_bounded_trees.proofs.Locality.{node_value}
 use Rattle.pp_prog.proofs.Values.{ctor_same}
 use Rattle.pp_bounded_merge.proofs.MergedCtors.{fields_are_symbols, merged_lit}
-
-agree_self : (n : ℕ) (a : ℕ → Bool) → AgreeUpTo n a a
-agree_self n a = record { agree = λ x low high. refl }
-
-true_bit : (a : ℕ → Bool) (l : Literal) → lit_value a l ≡ true → lit_bit a l ≡ 1
-true_bit a l e = ap bit e
-
-false_bit : (a : ℕ → Bool) (l : Literal) → lit_value a l ≡ false → lit_bit a l ≡ 0
-false_bit a l e = ap bit e
 
 -- where no literal is true, and where one alone is
 none_true : (a : ℕ → Bool) (zs : List Alternative)

@@ -5,7 +5,7 @@ use Rattle.std.proofs.Common.{◌∙◌, subst, arith, slice_get, inl, inr}
 use Rattle.std.proofs.lemmas.Bool.{cases_lt, ne_eqb}
 use Rattle.std.proofs.lemmas.List.{take_all}
 use Rattle.std.specs.Prelude.{◌↔◌}
-use Rattle.std.proofs.lemmas.Option.{slice_get_within}
+use Rattle.std.proofs.lemmas.Option.{same_Some, slice_get_within}
 use Rattle.pp_prog.specs.declared.id.DataId.{DataId}
 use Rattle.pp_prog.specs.declared.sort.Sort.{Sort}
 use Rattle.pp_prog.specs.declared.sort.Sort.TheVariants as sort
@@ -103,9 +103,6 @@ merged_grow types xs ys first n (suc m) le = elim (cases_lt m n) [
   | inl above ↦ (let e : n ≡ suc m = omega arith in let f = ap (merged_bits types xs ys first) e in omega arith)
   | inr within ↦ (let r = merged_grow types xs ys first n m within in omega arith)
 ]
-
-some_same : {X : Type 0} (x y : X) → Some x ≡ Some y → x ≡ y
-some_same x y e = cc
 
 -- a side that has a constructor
 pub record FirstOf (xs : List Alternative) : Type 0 where
@@ -284,11 +281,8 @@ pair_at d gs xs ys i x y s here there =
       sort = p.sort;
       at = p.at;
       first = p.is;
-      second = subst (λ r. IsSymbol bounded_sense d gs r y) (some_same q.sort p.sort (sym q.at ∙ p.at)) q.is;
+      second = subst (λ r. IsSymbol bounded_sense d gs r y) (same_Some q.sort p.sort (sym q.at ∙ p.at)) q.is;
     }
-  where
-    some_same : (r s : Sort) → Some r ≡ Some s → r ≡ s
-    some_same r s e = cc
 
 pub right_within : (d : Trees) (gs : List Gate) (xs ys : List (Symbol BoundedTree)) (i : ℕ) → AreOfSorts d gs xs ys
     → i < length xs → i < length ys

@@ -3,6 +3,7 @@ use Rattle.std.proofs.Common.{◌≡◌, ℕ, zero, suc, Bool, true, false, List
 use Rattle.std.proofs.Common.{refl}
 use Rattle.std.proofs.Common.{sym, ap, ◌∙◌, subst, arith, inl, inr}
 use Rattle.std.proofs.lemmas.Bool.{and_parts}
+use Rattle.std.proofs.lemmas.Option.{same_Some}
 use Rattle.pp_prog.specs.declared.id.CtorId.{CtorId}
 use Rattle.pp_prog.specs.declared.id.DataId.{DataId}
 use Rattle.pp_prog.specs.declared.sort.Sort.{Sort}
@@ -30,9 +31,6 @@ use Rattle.pp_bounded_trees.specs.Readable.{IsReadable}
 use Rattle.pp_bounded_trees.proofs.Known.{symbol_is}
 use Rattle.pp_bounded_samples.specs.Kept.{Goes, IsPlaceIn, Kept, Looked}
 use Rattle.pp_bounded_samples.proofs.Keeping.{goes}
-
-some_same : {X : Type 0} (x y : X) → Some x ≡ Some y → x ≡ y
-some_same x y e = cc
 
 -- a constructor of the datatype has a field at each place below their number
 pub field_sort : (types : TypeTable) (c : CtorId) (of : DataId) (place : ℕ) → IsCtorOf types c of
@@ -80,7 +78,7 @@ field_there types n of c place s v sorted has field =
     let tree = tree_value types.ctors of v sorted in
     let same : tree.ctor ≡ c = same_ctor tree.ctor c tree.fields has.0 (sym tree.is ∙ has.1) in
     let entry : tree.entry ≡ field.0 =
-    some_same tree.entry field.0
+    same_Some tree.entry field.0
     (sym tree.at ∙ ap (λ (k : CtorId). slice_get types.ctors k.0) same ∙ field.1) in
     let there = value_there types tree.fields tree.entry.fields place s tree.sorts
     (ap (λ (k : Ctor). slice_get k.fields place) entry ∙ field.2) in

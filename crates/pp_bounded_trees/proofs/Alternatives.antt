@@ -12,10 +12,11 @@ use Rattle.pp_bounded_trees.specs.Alternatives.{IsOwn}
 use Rattle.pp_bounded_trees.specs.Arena.{true_among}
 use Rattle.pp_bounded_trees.specs.Values.{built, field_values, value_among}
 
-true_bit : (a : ℕ → Bool) (l : Literal) → lit_value a l ≡ true → lit_bit a l ≡ 1
+-- a literal counts one where it is true, and none where it is false
+pub true_bit : (a : ℕ → Bool) (l : Literal) → lit_value a l ≡ true → lit_bit a l ≡ 1
 true_bit a l e = ap bit e
 
-false_bit : (a : ℕ → Bool) (l : Literal) → lit_value a l ≡ false → lit_bit a l ≡ 0
+pub false_bit : (a : ℕ → Bool) (l : Literal) → lit_value a l ≡ false → lit_bit a l ≡ 0
 false_bit a l e = ap bit e
 
 -- where a literal is true, the number of true ones isn't 0

@@ -129,10 +129,6 @@ all_push (p ∷ os) o vs v all is =
     ∙ ap (prepended f.first) (all_push os o f.rest v f.rest_is is)
     ∙ ap (λ (us : List Value). Some (us ++ v ∷ [])) (sym f.whole)
 
-pub map_push : {X Y : Type 0} (f : X → Y) (xs : List X) (x : X) → map f (xs ++ x ∷ []) ≡ map f xs ++ f x ∷ []
-map_push f [] x = refl
-map_push f (y ∷ xs) x = ap (λ zs. f y ∷ zs) (map_push f xs x)
-
 pub AreSymbols_push : (d : Trees) (gs : List Gate) (ss : List Sort) (s : Sort) (xs : List (Symbol BoundedTree))
     (x : Symbol BoundedTree) → AreSymbols bounded_sense d gs ss xs → IsSymbol bounded_sense d gs s x
     → AreSymbols bounded_sense d gs (ss ++ s ∷ []) (xs ++ x ∷ [])

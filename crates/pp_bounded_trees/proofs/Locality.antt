@@ -1,21 +1,16 @@
 -- Later nodes leave the values of the earlier ones, and a node's value is that of its constructors.
 use Rattle.std.proofs.Common.{◌≡◌, ℕ, zero, suc, ◌+◌, ◌<◌, Bool, List, [], ◌∷◌, ◌++◌, length, Option, Some, refl, sym}
 use Rattle.std.proofs.Common.{ap, ◌∙◌, subst, arith, slice_get, length-append}
+use Rattle.std.proofs.lemmas.Option.{same_Some}
 use Rattle.pp_prog.specs.declared.types.TypeTable.{TypeTable}
 use Rattle.pp_prog.specs.declared.value.Value.{Value}
 use Rattle.pp_gate.specs.declared.gate.Gate.{Gate}
-use Rattle.pp_gate.specs.Laws.{AgreeUpTo}
 use Rattle.pp_bounded_trees.specs.declared.arena.Node.{Node}
 use Rattle.pp_bounded_trees.specs.Agreement.{SameBelow, among_agree}
 use Rattle.pp_bounded_trees.specs.Arena.{ArenaFits, NodeFits}
 use Rattle.pp_bounded_trees.proofs.Values.{value_at_left, value_at_next}
 use Rattle.pp_bounded_trees.specs.Values.{value_at, value_among, values_after, values_of}
-
-some_same : (x y : Node) → Some x ≡ Some y → x ≡ y
-some_same x y e = cc
-
-agree_self : (n : ℕ) (a : ℕ → Bool) → AgreeUpTo n a a
-agree_self n a = record { agree = λ x low high. refl }
+use Rattle.pp_domain.proofs.Composition.{agree_self}
 
 -- later nodes leave the values of the earlier ones
 pub values_keep : (a : ℕ → Bool) (rest : List Node) (done : List (Option Value)) (k : ℕ) → k < length done
@@ -33,7 +28,7 @@ node_value_after : (a : ℕ → Bool) (gs : List Gate) (types : TypeTable) (node
     → value_at (values_after a done rest) (length done + j) ≡ value_among a (values_after a done rest) x.alternatives
 node_value_after a gs types nodes [] done j x at fits = cc
 node_value_after a gs types nodes (y ∷ rest) done zero x at fits =
-    let same : y ≡ x = some_same y x at in
+    let same : y ≡ x = same_Some y x at in
     let more = done ++ value_among a done y.alternatives ∷ [] in
     let all = values_after a more rest in
     let longer = length-append done (value_among a done y.alternatives ∷ []) in

@@ -1,6 +1,7 @@
 -- What is read of a tree: its own constructor, and the values of the fields.
 use Rattle.std.proofs.Common.{◌≡◌, ℕ, zero, suc, ◌+◌, ◌<◌, ◌≤◌, Bool, true, List, [], ◌∷◌, ◌++◌, length, map, take}
 use Rattle.std.proofs.Common.{get_or, Option, Some, None, refl, sym, ap, ◌∙◌, subst, arith, slice_get}
+use Rattle.std.proofs.lemmas.List.{map_push}
 use Rattle.std.proofs.lemmas.Option.{same_Some}
 use Rattle.pp_prog.specs.declared.sort.Sort.{Sort}
 use Rattle.pp_prog.specs.declared.sort.Sort.TheVariants as sort
@@ -25,7 +26,7 @@ use Rattle.pp_bounded_trees.specs.Values.{values_of}
 use Rattle.pp_bounded_trees.proofs.Alternatives.{among_own, own_of}
 use Rattle.pp_bounded_trees.proofs.Candidates.{take_next}
 use Rattle.pp_bounded_trees.proofs.Fields.{all_first}
-use Rattle.pp_bounded_trees.proofs.Kept.{all_push, map_push}
+use Rattle.pp_bounded_trees.proofs.Kept.{all_push}
 use Rattle.pp_bounded_trees.proofs.Locality.{node_value}
 use Rattle.pp_bounded_trees.proofs.Looks.{one_true}
 

@@ -1,6 +1,7 @@
 -- Symbols that can have any values up to a height: more of them, later, and from earlier.
 use Rattle.std.proofs.Common.{◌≡◌, ℕ, ◌≤◌, Bool, List, [], ◌∷◌, ◌++◌, length, map, Some, refl, sym, ap, ◌∙◌, subst}
 use Rattle.std.proofs.Common.{arith, slice_get, inl, inr}
+use Rattle.std.proofs.lemmas.List.{map_push}
 use Rattle.pp_prog.specs.declared.sort.Sort.{Sort}
 use Rattle.pp_prog.specs.declared.types.TypeTable.{TypeTable}
 use Rattle.pp_prog.specs.declared.value.Value.{Value}
@@ -8,7 +9,6 @@ use Rattle.pp_prog.specs.Sizes.{height_at}
 use Rattle.pp_gate.specs.declared.gate.Gate.{Gate}
 use Rattle.pp_gate.specs.Circuit.{IsCircuit}
 use Rattle.pp_gate.specs.Growth.{Grows}
-use Rattle.pp_gate.specs.Laws.{AgreeUpTo}
 use Rattle.pp_gate.proofs.Agreement.{Gives_old, agree_along}
 use Rattle.pp_gate.proofs.Extension.{growth_extends}
 use Rattle.pp_gate.proofs.Growing.{length-Grows}
@@ -16,6 +16,7 @@ use Rattle.pp_gate.proofs.Places.{at_push}
 use Rattle.pp_domain.specs.declared.symbol.Symbol.{Symbol}
 use Rattle.pp_domain.specs.Moves.{Moves}
 use Rattle.pp_domain.proofs.Symbols.{AreSymbols_later}
+use Rattle.pp_domain.proofs.Composition.{agree_self}
 use Rattle.pp_bounded_trees.specs.declared.arena.Trees.{Trees}
 use Rattle.pp_bounded_trees.specs.declared.arena.BoundedTree.{BoundedTree}
 use Rattle.pp_bounded_trees.specs.Arena.{height_of}
@@ -23,10 +24,7 @@ use Rattle.pp_bounded_unknown.specs.Full.{AreFull, IsFull}
 use Rattle.pp_bounded_trees.specs.Possible.{AreValuesUpTo, IsValueUpTo}
 use Rattle.pp_bounded_trees.specs.Meaning.{bounded_sense}
 use Rattle.pp_bounded_trees.specs.Values.{all_values, field_values, symbol_value, values_of}
-use Rattle.pp_bounded_trees.proofs.Kept.{AreSymbols_push, all_push, field_values_later, map_push}
-
-agree_self : (n : ℕ) (a : ℕ → Bool) → AgreeUpTo n a a
-agree_self n a = record { agree = λ x low high. refl }
+use Rattle.pp_bounded_trees.proofs.Kept.{AreSymbols_push, all_push, field_values_later}
 
 -- values of one more sort
 pub record LastValue (types : TypeTable) (h : ℕ) (ss : List Sort) (s : Sort) (us : List Value) : Type 0 where

@@ -14,13 +14,13 @@ use Rattle.pp_clause.specs.Literal.{Literal, lit_value}
 use Rattle.pp_gate.specs.declared.gate.Gate.{Gate}
 use Rattle.pp_gate.specs.Circuit.{Gives}
 use Rattle.pp_gate.specs.Growth.{Grows}
-use Rattle.pp_gate.specs.Laws.{AgreeUpTo}
 use Rattle.pp_gate.proofs.Agreement.{Gives_old, agree_along, lit_agree}
 use Rattle.pp_gate.proofs.Growing.{IsOf_more, length-Grows}
 use Rattle.pp_gate.proofs.Places.{at_next, at_some}
 use Rattle.pp_bits.specs.Number.{lit_bit}
 use Rattle.pp_domain.specs.declared.symbol.Symbol.TheVariants as symbol
 use Rattle.pp_domain.specs.Moves.{Moves}
+use Rattle.pp_domain.proofs.Composition.{agree_self}
 use Rattle.pp_bounded_trees.specs.declared.arena.Alternative.{Alternative}
 use Rattle.pp_bounded_trees.specs.declared.arena.Trees.{Trees}
 use Rattle.pp_bounded_trees.specs.declared.arena.BoundedTree.{BoundedTree}
@@ -39,9 +39,6 @@ use Rattle.pp_bounded_trees.proofs.Known.{fields_fit, heights_same}
 use Rattle.pp_bounded_trees.proofs.Locality.{node_value}
 use Rattle.pp_bounded_trees.proofs.Pushed.{Moves_pushed}
 use Rattle.pp_bounded_trees.proofs.Sorted.{fields_up_to, tree_up_to}
-
-agree_self : (n : ℕ) (a : ℕ → Bool) → AgreeUpTo n a a
-agree_self n a = record { agree = λ x low high. refl }
 
 -- as many alternatives are true as literals
 true_same : (a : ℕ → Bool) (ys : List Alternative) (ls : List Literal) → length ys ≡ length ls

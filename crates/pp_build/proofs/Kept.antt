@@ -1,12 +1,11 @@
 -- Registers, and what is known by them, over calls and with one register more.
-use Rattle.std.proofs.Common.{◌≡◌, ℕ, ◌<◌, Bool, List, [], ◌∷◌, ◌++◌, length, Some, slice_get, refl, sym, ap, ◌∙◌}
+use Rattle.std.proofs.Common.{◌≡◌, ℕ, ◌<◌, Bool, List, [], ◌∷◌, ◌++◌, length, Some, slice_get, sym, ap, ◌∙◌}
 use Rattle.std.proofs.Common.{subst, arith, ◌⊎◌, inl, inr}
 use Rattle.pp_prog.specs.declared.sort.Sort.{Sort}
 use Rattle.pp_prog.specs.declared.sort.Sort.TheVariants as sort
 use Rattle.pp_prog.specs.declared.types.TypeTable.{TypeTable}
 use Rattle.pp_prog.specs.declared.value.Value.{Value}
 use Rattle.pp_gate.specs.declared.gate.Gate.{Gate}
-use Rattle.pp_gate.specs.Laws.{AgreeUpTo}
 use Rattle.pp_gate.proofs.Places.{at_left, at_push}
 use Rattle.pp_domain.specs.declared.symbol.Symbol.{Symbol}
 use Rattle.pp_domain.specs.declared.symbol.Symbol.TheVariants as symbol
@@ -15,13 +14,11 @@ use Rattle.pp_domain.specs.Naming.{Naming}
 use Rattle.pp_domain.specs.Sense.{Sense}
 use Rattle.pp_domain.specs.Symbols.{IsSymbol, SymbolStands, symbol_height}
 use Rattle.pp_domain.proofs.Symbols.{IsSymbol_later, SymbolStands_later, symbol_height_later}
+use Rattle.pp_domain.proofs.Composition.{agree_self}
 use Rattle.pp_steps.specs.Gates.{Heights}
 use Rattle.pp_steps.specs.Meaning.{Values}
 use Rattle.pp_steps.specs.Sorted.{Sorts}
 use Rattle.pp_build.specs.Registers.{AreRegisters, IsKnown}
-
-pub agree_self : (n : ℕ) (a : ℕ → Bool) → AgreeUpTo n a a
-agree_self n a = record { agree = λ x low high. refl }
 
 module _ {D T : Type 0} (m : Sense D T) (types : TypeTable) where
   -- a symbol stood before for what it stands for later

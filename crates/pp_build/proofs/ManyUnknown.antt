@@ -25,13 +25,12 @@ use Rattle.pp_domain.specs.Moves.{Moves}
 use Rattle.pp_domain.specs.Naming.{Naming, Names}
 use Rattle.pp_domain.specs.Sense.{Sense}
 use Rattle.pp_domain.specs.Symbols.{AreSymbols, IsSymbol, SymbolStands, SymbolsStand, symbol_height}
-use Rattle.pp_domain.proofs.Composition.{Extended_none, Moves_more, Moves_none}
+use Rattle.pp_domain.proofs.Composition.{Extended_none, Moves_more, Moves_none, agree_self}
 use Rattle.pp_domain.proofs.Symbols.{AreSymbols_later, SymbolsStand_later, symbol_height_later}
 use Rattle.pp_build.specs.StepGates.{opened_gates}
 use Rattle.pp_prog.proofs.ValueSorts.{have_more, have_one}
 use Rattle.pp_domain.specs.AnySort.{IsUnknownSymbol, IsUpTo}
 use Rattle.pp_build.specs.Unknown.{AreUnknown, AreUpTo}
-use Rattle.pp_build.proofs.Kept.{agree_self}
 
 -- ---- values
 

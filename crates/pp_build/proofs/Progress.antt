@@ -19,7 +19,7 @@ use Rattle.pp_domain.specs.Symbols.{SymbolStands}
 use Rattle.pp_domain.proofs.Symbols.{SymbolStands_later}
 use Rattle.pp_gate.proofs.Places.{at_push}
 use Rattle.pp_build.proofs.Told.{all_compared}
-use Rattle.pp_domain.proofs.Composition.{Extended_more, Extended_none, Moves_more, Moves_none, Moves_weaker}
+use Rattle.pp_domain.proofs.Composition.{Extended_more, Extended_none, Moves_more, Moves_none, Moves_weaker, agree_self}
 use Rattle.pp_steps.specs.declared.step.Step.{Step}
 use Rattle.pp_steps.specs.Gates.{Heights}
 use Rattle.pp_prog.specs.declared.id.DataId.{DataId}
@@ -34,7 +34,7 @@ use Rattle.pp_build.specs.Performed.{CanPerform, IsPerformed, Leaves, Performs}
 use Rattle.pp_build.specs.Registers.{AreExpanded, AreRegisters, IsKnown}
 use Rattle.pp_build.proofs.Expanded.{both_expanded, expanded_later, none_expanded}
 use Rattle.pp_build.specs.Words.{AreWords, KeepsDomain}
-use Rattle.pp_build.proofs.Kept.{agree_self, AreRegisters_later, AreRegisters_push, IsKnown_earlier, IsKnown_later}
+use Rattle.pp_build.proofs.Kept.{AreRegisters_later, AreRegisters_push, IsKnown_earlier, IsKnown_later}
 use Rattle.pp_build.proofs.StepLists.{all_tell, at_dropped, dropped_at, high_at, reads_at, sorted_at}
 use Rattle.pp_build.proofs.StepLists.{tells_map}
 

@@ -9,8 +9,7 @@ use Rattle.std.specs.Int.{w32}
 use Rattle.pp_tree.specs.declared.operator.UnaryOp.TheVariants.{Neg, Flip}
 use Rattle.pp_prog.specs.declared.value.Value.{Value}
 use Rattle.pp_prog.specs.declared.value.Value.TheVariants as value
-use Rattle.pp_prog.specs.declared.value.Value.TheVariants.{outs-Int, outs-Bool}
-use Rattle.pp_prog.specs.declared.value.Value.TheViews.{out-Value}
+use Rattle.pp_prog.specs.declared.value.Value.TheVariants.{outs-Bool}
 use Rattle.pp_clause.specs.Literal.{Literal, lit_value, opposite}
 use Rattle.pp_gate.specs.declared.gate.Gate.{Gate}
 use Rattle.pp_gate.specs.Circuit.{Gives, StandsFor}
@@ -23,9 +22,7 @@ use Rattle.pp_eval.specs.Operators.{unary}
 use Rattle.pp_eval.specs.Part.{Part}
 use Rattle.pp_build_operators.specs.Plain.{IsNumberOf}
 use Rattle.pp_build_operators.proofs.Values.{flip_int, neg_int, not_negative}
-
-pub int_same : (x y : ℤ) → value.Int x ≡ value.Int y → x ≡ y
-int_same x y e = let o = sym (outs-Int x) ∙ ap out-Value e ∙ outs-Int y in cc
+use Rattle.pp_domain.proofs.AnySort.{int_same}
 
 ok_same : (v w : Value) (p : Part Value) → p ≡ Ok v → p ≡ Ok w → v ≡ w
 ok_same v w p one other = let o : Ok v ≡ Ok w = sym one ∙ other in cc

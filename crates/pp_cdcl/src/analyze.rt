@@ -57,7 +57,8 @@ pub fn refute(
     search: &mut Search,
     number: u32,
 ) -> Result<Log, NoMemory>
-    requires logged { Logged problem.clauses.now problem.assumptions.now problem.lemmas search.old.watch search.old.log }
+    requires logged { Logged problem.clauses.now problem.assumptions.now problem.lemmas search.old.watch
+        search.old.log }
     requires sized { search.old.analysis ≡ search.old.watch.vars + 1 }
     requires assumed { AreAssumed problem.assumptions.now search.old.watch.steps (length search.old.watch.steps) }
     requires conflict { IsFalse search.old.watch.clauses (lits search.old.watch.steps) number }

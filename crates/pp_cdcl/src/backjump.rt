@@ -41,7 +41,8 @@ pub fn learn(
 /// Keeps the first `to` steps of the trail.
 fn backjump(search: &mut Search, to: usize) -> Result<(), NoMemory>
     requires { to ≤ length search.old.watch.steps }
-    ensures watch { OnOk result (search.new.watch ≡ record search.old.watch { steps = take to search.old.watch.steps }) }
+    ensures watch { OnOk result
+        (search.new.watch ≡ record search.old.watch { steps = take to search.old.watch.steps }) }
     ensures log { search.new.log ≡ search.old.log }
     ensures base { OnOk result (search.new.base ≡ cut_base search.old.base to) }
     ensures analysis { search.new.analysis ≡ search.old.analysis }

@@ -82,7 +82,8 @@ fn contradict(
     place: usize,
 ) -> Result<Log, NoMemory>
     requires apart { ¬ HasBoth problem.assumptions.now }
-    requires logged { Logged problem.clauses.now problem.assumptions.now problem.lemmas search.old.watch search.old.log }
+    requires logged { Logged problem.clauses.now problem.assumptions.now problem.lemmas search.old.watch
+        search.old.log }
     requires sized { search.old.analysis ≡ search.old.watch.vars + 1 }
     requires assumed { AreAssumed problem.assumptions.now search.old.watch.steps (length search.old.watch.steps) }
     requires missing { IsMissing problem.assumptions.now (lits search.old.watch.steps) lit }

@@ -33,7 +33,8 @@ pub fn solve(
 
     // an assignment makes all clauses and all assumptions true
     ensures sat_clauses { IfOk result (λ a. IfSat a (λ s. clauses_value (assigned s) clauses.now ≡ true)) }
-    ensures sat_assumptions { IfOk result (λ a. IfSat a (λ s. list_all (lit_value (assigned s)) assumptions.now ≡ true)) }
+    ensures sat_assumptions { IfOk result
+        (λ a. IfSat a (λ s. list_all (lit_value (assigned s)) assumptions.now ≡ true)) }
 
     // a log of few lemmas refutes
     ensures unsat_few { IfOk result (λ a. IfUnsat a (λ log. length log ≤ lemmas)) }

@@ -4,6 +4,7 @@ use Rattle.std.proofs.Common.{Option, Some, None, slice_get, refl, sym, ap, ◌�
 use Rattle.std.proofs.Common.{append_assoc}
 use Rattle.std.proofs.Math.Bridge.{le_prop}
 use Rattle.std.proofs.Math.Logic.{∥∥₁_elim}
+use Rattle.std.proofs.lemmas.Bool.{and_parts, ltb-true}
 use Rattle.std.specs.List.{list_all}
 use Rattle.std.specs.Option.{option_map}
 use Rattle.std.proofs.lemmas.List.{append-nil, length-map}
@@ -18,20 +19,17 @@ use Rattle.pp_prog.specs.Sizes.{IsUpTo}
 use Rattle.pp_prog.specs.Sorts.{param_sorts}
 use Rattle.pp_prog.specs.Table.{is_sort}
 use Rattle.pp_prog.specs.Valid.{is_in_range}
-use Rattle.pp_prog.proofs.Sure.{is_valid}
+use Rattle.pp_prog.proofs.Sure.{is_valid, ⊥_prop}
 use Rattle.pp_checks.specs.Closed.{AreUpTo, IsNesting, IsTallest}
 use Rattle.pp_checks.specs.Plan.{AreOf, IsTallestOf}
 use Rattle.pp_checks.specs.Tables.{field_table, greater, height_in, one_higher, tallest_in, tallest_params}
-use Rattle.pp_checks.proofs.Tallest.{at_head, both, either_in, fields_size, high, left_in, low, lt_true, none_low}
+use Rattle.pp_checks.proofs.Tallest.{at_head, either_in, fields_size, high, left_in, low, none_low}
 use Rattle.pp_checks.proofs.Tallest.{right_in, word_height}
 
 -- the greatest height of a value of one sort, or none
 abbrev IsHigh : List Ctor → Sort → Option ℕ → Type 0
 IsHigh ctors s None = (h : ℕ) → IsUpTo ctors s h → ⊥
 IsHigh ctors s (Some k) = (h : ℕ) → IsUpTo ctors s h ↔ (k ≤ h)
-
-⊥_prop : IsProp ⊥
-⊥_prop = hlevel
 
 only_one : {A : Type 0} (s t : A) → Contains (s ∷ []) t → s ≡ t
 only_one s t (zero, lt, is) = is
@@ -99,7 +97,7 @@ module _ (types : TypeTable) where
     )
     sort_high (sort.Tree d) r = elim (slice_get_cases depths d.0).1 [
       | inl here ↦ subst (λ o. IsHigh types.ctors
-          (sort.Tree d) (one_higher o)) (sym here.2) (tree_high d.0 here.0 (lt_true d.0 (length types.datatypes) r)
+          (sort.Tree d) (one_higher o)) (sym here.2) (tree_high d.0 here.0 (ltb-true d.0 (length types.datatypes) r)
           (known.each d.0 here.0 here.2))
       | inr past ↦ absurd (omega (
         arith,
@@ -107,7 +105,7 @@ module _ (types : TypeTable) where
         known.size,
         fields_size types
             (length types.datatypes),
-        lt_true d.0 (length types.datatypes) r,
+        ltb-true d.0 (length types.datatypes) r,
       ))
     ]
 
@@ -116,7 +114,7 @@ module _ (types : TypeTable) where
     all_high before [] most r p =
         subst (λ l. IsTallest types.ctors l most) (sym (append-nil before)) p
     all_high before (s ∷ ss) most r p =
-        let q = both (is_sort types.datatypes s) (list_all (is_sort types.datatypes) ss) r in
+        let q = and_parts (is_sort types.datatypes s) (list_all (is_sort types.datatypes) ss) r in
         subst (λ l. IsTallest types.ctors l (tallest_in depths (greater most (height_in depths s)) ss))
         (append_assoc before (s ∷ []) ss)
         (all_high (before ++ s ∷ []) ss (greater most (height_in depths s)) q.1 (one_more before s most (height_in
@@ -133,8 +131,8 @@ test_at : {A : Type 0} (p : A → Bool) (xs : List A) (i : ℕ) (x : A) → list
     → slice_get xs i ≡ Some x → p x ≡ true
 test_at p [] i x all is = let no : None ≡ Some x = is in cc
 test_at p (y ∷ xs) zero x all is =
-    let e : y ≡ x = (let s : Some y ≡ Some x = is in cc) in ap p (sym e) ∙ (both (p y) (list_all p xs) all).0
-test_at p (y ∷ xs) (suc i) x all is = test_at p xs i x (both (p y) (list_all p xs) all).1 is
+    let e : y ≡ x = (let s : Some y ≡ Some x = is in cc) in ap p (sym e) ∙ (and_parts (p y) (list_all p xs) all).0
+test_at p (y ∷ xs) (suc i) x all is = test_at p xs i x (and_parts (p y) (list_all p xs) all).1 is
 
 -- the table of the greatest heights
 pub heights_are : (program : Program) (depths : List (Option ℕ)) (heights : List (Option ℕ))
@@ -144,7 +142,7 @@ pub heights_are : (program : Program) (depths : List (Option ℕ)) (heights : Li
 heights_are program depths heights known e = record {
   size = ap (length {A = Option ℕ}) e ∙ length-map program.functions (tallest_params depths);
   each = λ f o is function here. subst (IsTallest program.types.ctors (param_sorts function.params)) (same f o is
-      function here) (params_high program.types depths known function (both (list_all (is_sort
+      function here) (params_high program.types depths known function (and_parts (list_all (is_sort
       program.types.datatypes) (param_sorts function.params)) (is_sort program.types.datatypes function.result)
       (test_at (is_in_range program.types.datatypes) program.functions f function (is_valid program).in_range
       here)).0);

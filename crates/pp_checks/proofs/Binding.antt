@@ -21,7 +21,8 @@ bind_first : (b : Binds) (bs : List Binds) (ss : List Sort) → bind_each (b ∷
 bind_first b bs [] = sym (bind_none bs)
 bind_first b bs (s ∷ ss) = ap (λ (l : List Sort). l ++ bind_each bs ss) (sym (append-nil (b s)))
 
-drop_one : (i : ℕ) (ss : List Sort) → drop 1 (drop i ss) ≡ drop (suc i) ss
+-- what is left but for one
+pub drop_one : (i : ℕ) (ss : List Sort) → drop 1 (drop i ss) ≡ drop (suc i) ss
 drop_one zero ss = refl
 drop_one (suc i) [] = refl
 drop_one (suc i) (s ∷ ss) = drop_one i ss
@@ -63,7 +64,8 @@ module _ (types : TypeTable) (functions : List Function) where
       let same : d ≡ c = (let both : Some d ≡ Some c = is in cc) in
       ap (λ (b : Body). b.1 (scope ++ binds types.ctors b.0 s)) (ap (body types functions) same ∙ body_of_case c)
 
-past_end : (ss : List Sort) (i : ℕ) → slice_get ss i ≡ None → drop i ss ≡ []
+-- behind the end nothing is left
+pub past_end : (ss : List Sort) (i : ℕ) → slice_get ss i ≡ None → drop i ss ≡ []
 past_end [] zero is = refl
 past_end [] (suc i) is = refl
 past_end (s ∷ ss) zero is = let no : Some s ≡ None = is in cc

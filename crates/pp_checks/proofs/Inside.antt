@@ -4,7 +4,8 @@ use Rattle.std.proofs.Common.{map, Option, Some, None, length, replicate, slice_
 use Rattle.std.proofs.Common.{arith, inl, inr, ⊎_elim, IsTrue, length-append, eq-eqb}
 use Rattle.std.specs.Prelude.{nat_eq, ◌||◌}
 use Rattle.std.proofs.lemmas.Bool.Decides.{eqb_tells}
-use Rattle.std.proofs.lemmas.Option.{slice_get_within}
+use Rattle.std.proofs.lemmas.Bool.{or_right}
+use Rattle.std.proofs.lemmas.Option.{same_Some, slice_get_within}
 use Rattle.pp_graph.specs.Rows.{is_set, marked}
 use Rattle.pp_prog.specs.declared.expr.Pattern.{Pattern}
 use Rattle.pp_prog.specs.declared.expr.Pattern.TheFolds.{fold-roll-Pattern, ind-Pattern, map-Pattern}
@@ -33,13 +34,6 @@ get_past : {A : Type 0} (xs ys : List A) (i : ℕ) → length xs ≤ i
 get_past xs ys i le =
     let e : i ≡ length xs + (i - length xs) = omega (arith, le) in
     ap (slice_get (xs ++ ys)) e ∙ get_right xs ys (i - length xs)
-
-some_same : {A : Type 0} {x y : A} → Some x ≡ Some y → x ≡ y
-some_same h = cc
-
-or_right : (a b : Bool) → b ≡ true → a || b ≡ true
-or_right true b h = refl
-or_right false b h = h
 
 below_or : (n i : ℕ) → (i < n) ⊎ (n ≤ i)
 below_or zero i = inr (omega arith)
@@ -102,7 +96,7 @@ module _ (inner : Origin) (live : Bool) where
       → IsMark b (marked ms j)
   mark_at [] ms j b h is = absurd (let no : None ≡ Some b = is in cc)
   mark_at (b ∷ bs) [] j c h is = absurd h
-  mark_at (b ∷ bs) (m ∷ ms) zero c h is = subst (λ x. IsMark x m) (some_same is) h.0
+  mark_at (b ∷ bs) (m ∷ ms) zero c h is = subst (λ x. IsMark x m) (same_Some _ _ is) h.0
   mark_at (b ∷ bs) (m ∷ ms) (suc j) c h is = mark_at bs ms j c h.1 is
 
   -- a marked variable is bound below a constructor pattern

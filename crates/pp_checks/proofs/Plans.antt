@@ -1,8 +1,9 @@
 -- Plans of programs: what their tables tell, and what follows from the rules of measures.
-use Rattle.std.proofs.Common.{◌≡◌, ◌↔◌, ◌⊎◌, ◌<◌, ◌≤◌, ◌+◌, ℕ, zero, suc, nat_le, Bool, true, false, List, ◌++◌, length}
+use Rattle.std.proofs.Common.{◌≡◌, ◌↔◌, ◌⊎◌, ◌<◌, ◌+◌, ℕ, zero, suc, Bool, true, false, List, ◌++◌, length}
 use Rattle.std.proofs.Common.{Option, Some, None, slice_get, refl, sym, ap, ◌∙◌, subst, arith, inl, inr, ⊎_elim}
 use Rattle.std.proofs.Common.{Contains, IsTrue}
-use Rattle.std.proofs.lemmas.Bool.Decides.{eqb_tells, nat_tests}
+use Rattle.std.proofs.lemmas.Bool.Decides.{eqb_tells}
+use Rattle.std.proofs.lemmas.Bool.{le-leb, leb-true}
 use Rattle.std.proofs.lemmas.List.{length-map}
 use Rattle.std.proofs.lemmas.Option.{slice_get_cases, slice_get_within}
 use Rattle.pp_graph.specs.Reaches.{Reaches}
@@ -65,12 +66,6 @@ told Is n f table a lt = elim (slice_get_cases table f).1 [
   | inr past ↦ absurd (omega (arith, past.0, a.size, lt))
 ]
 
-le_true : (a b : ℕ) → nat_le a b ≡ true → a ≤ b
-le_true a b h = grind (arith, nat_tests)
-
-true_le : (a b : ℕ) → a ≤ b → nat_le a b ≡ true
-true_le a b h = grind (arith, nat_tests)
-
 module _ (plan : Plan) (program : Program) (p : IsPlanOf plan program) where
   pub rank_told : (f : ℕ) (r : ℕ) → f < length program.functions → slice_get plan.ranks f ≡ Some r
       → IsRank program.functions f r
@@ -103,8 +98,8 @@ module _ (plan : Plan) (program : Program) (p : IsPlanOf plan program) where
         λ nests. absurd (never n nests),
       )
       by (Some k) tells is = (
-        λ e. (tells n).1 (le_true k n (sym (ap (λ o. is_at_most o n) is) ∙ e)),
-        λ nests. ap (λ o. is_at_most o n) is ∙ true_le k n ((tells n).0 nests),
+        λ e. (tells n).1 (leb-true k n (sym (ap (λ o. is_at_most o n) is) ∙ e)),
+        λ nests. ap (λ o. is_at_most o n) is ∙ le-leb k n ((tells n).0 nests),
       )
 
   low_told : (f d : ℕ) (function : Function) → slice_get program.functions f ≡ Some function
@@ -122,8 +117,8 @@ module _ (plan : Plan) (program : Program) (p : IsPlanOf plan program) where
         λ up. absurd (never d up),
       )
       by (Some k) tells is = (
-        λ e. (tells d).1 (le_true k d (sym (ap (λ o. is_at_most o d) is) ∙ e)),
-        λ up. ap (λ o. is_at_most o d) is ∙ true_le k d ((tells d).0 up),
+        λ e. (tells d).1 (leb-true k d (sym (ap (λ o. is_at_most o d) is) ∙ e)),
+        λ up. ap (λ o. is_at_most o d) is ∙ le-leb k d ((tells d).0 up),
       )
 
   function_at : (f : ℕ) → f < length program.functions → (function : Function) × (slice_get program.functions f ≡

@@ -3,7 +3,8 @@ use Rattle.std.proofs.Common.{◌≡◌, ◌↔◌, ◌⊎◌, ◌<◌, ◌≤�
 use Rattle.std.proofs.Common.{◌∷◌, length, replicate, Option, Some, None, slice_get, slice_set, refl, sym, ap, ◌∙◌}
 use Rattle.std.proofs.Common.{subst, arith, inl, inr, Contains, nat_eq, nat_le, ◌≢◌}
 use Rattle.std.specs.List.{list_all}
-use Rattle.std.proofs.lemmas.Bool.Decides.{eqb_tells, leb_tells, nat_tests}
+use Rattle.std.proofs.lemmas.Bool.Decides.{eqb_tells, leb_tells}
+use Rattle.std.proofs.lemmas.Bool.{lt-ltb, ltb-true}
 use Rattle.std.proofs.lemmas.List.{length-replicate}
 use Rattle.std.proofs.lemmas.Option.{slice_get_cases, slice_get_within}
 use Rattle.pp_graph.specs.Reaches.{calls_of}
@@ -11,12 +12,6 @@ use Rattle.pp_checks.specs.Closed.{IsNesting, Nests}
 use Rattle.pp_checks.specs.Plan.{AreOf}
 use Rattle.pp_checks.specs.Tables.{AreSettled, AreSettledTo, IsSettled, is_before, is_less, is_unknown, is_unset}
 use Rattle.pp_checks.proofs.Cones.{nests_more, nests_within, past_nests}
-
-lt_true : (a b : ℕ) → nat_lt a b ≡ true → a < b
-lt_true a b h = grind (arith, nat_tests)
-
-true_lt : (a b : ℕ) → a < b → nat_lt a b ≡ true
-true_lt a b h = grind (arith, nat_tests)
 
 first_in : (g : ℕ) (gs : List ℕ) → Contains (g ∷ gs) g
 first_in g gs = (0, omega arith, refl)
@@ -61,8 +56,8 @@ module _ (calls : List (List ℕ)) where
 
   depth_before : (n k g : ℕ) → ((m : ℕ) → Nests calls m g ↔ (k ≤ m)) → (nat_lt k (suc n) ≡ true) ↔ Nests calls n g
   depth_before n k g tells = (
-    λ e. (tells n).1 (omega (arith, lt_true k (suc n) e)),
-    λ nests. true_lt k (suc n)
+    λ e. (tells n).1 (omega (arith, ltb-true k (suc n) e)),
+    λ nests. lt-ltb k (suc n)
         (omega (arith, (tells n).0 nests)),
   )
 
@@ -79,7 +74,7 @@ module _ (calls : List (List ℕ)) where
     where
       by : (r : Option (Option ℕ)) → slice_get depths g ≡ r → (is_less r (suc n) ≡ true) ↔ Nests calls n g
       by None e =
-          (λ t. past_nests calls n g (past e), λ nests. true_lt 0 (suc n) (omega arith))
+          (λ t. past_nests calls n g (past e), λ nests. lt-ltb 0 (suc n) (omega arith))
         where
           past : slice_get depths g ≡ None → length calls ≤ g
           past e =
@@ -93,7 +88,7 @@ module _ (calls : List (List ℕ)) where
   never_zero : (n : ℕ) (r : Option (Option ℕ)) → (is_less r 0 ≡ true) → ⊥
   never_zero n None e = let no : false ≡ true = e in cc
   never_zero n (Some None) e = let no : false ≡ true = e in cc
-  never_zero n (Some (Some k)) e = absurd (let lt = lt_true k 0 e in omega arith)
+  never_zero n (Some (Some k)) e = absurd (let lt = ltb-true k 0 e in omega arith)
 
   -- all called functions have less, exactly where the call tree is at most this deep
   nests_tells : (n i f : ℕ) (depths : List (Option ℕ)) → AreSettledTo calls n i depths

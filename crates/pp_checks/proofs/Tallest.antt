@@ -1,11 +1,11 @@
 -- How high the values of datatypes can be: one more than the depth of their fields.
 use Rattle.std.specs.Prelude.{pos}
 use Rattle.std.proofs.Common.{◌≡◌, ◌⊎◌, ◌<◌, ◌≤◌, ◌+◌, ◌-◌, ℕ, zero, suc, nat_eq, nat_lt, nat_le, Bool, true, false}
-use Rattle.std.proofs.Common.{◌&&◌, List, [], ◌∷◌, ◌++◌, map, take, drop, length, get_or, Option, Some, None, slice_get}
+use Rattle.std.proofs.Common.{List, [], ◌∷◌, ◌++◌, map, take, drop, length, get_or, Option, Some, None, slice_get}
 use Rattle.std.proofs.Common.{refl, sym, ap, ◌∙◌, subst, arith, inl, inr, Contains, ◌≢◌, append_assoc, add-one}
 use Rattle.std.proofs.Common.{drop-cons}
 use Rattle.std.specs.List.{list_all}
-use Rattle.std.proofs.lemmas.Bool.{eqb-true}
+use Rattle.std.proofs.lemmas.Bool.{and_parts, eqb-true, le-leb, leb-true, lt-ltb, ltb-true}
 use Rattle.std.proofs.lemmas.List.{length_push}
 use Rattle.std.proofs.lemmas.Bool.Decides.{eqb_tells, leb_tells, nat_tests}
 use Rattle.std.proofs.lemmas.Option.{slice_get_within}
@@ -46,22 +46,6 @@ trees_more cs i c whole found next lt is inv step =
     rw add-one (inv ∙ ap (λ (l : List Ctor). found ++ trees_in (joined (map sorts_in_ctor l))) now
     ∙ ap (λ (l : List ℕ). found ++ l) (trees_append c.fields rest) ∙ sym (append_assoc found (trees_in
     c.fields) (trees_in rest)) ∙ ap (λ (l : List ℕ). l ++ trees_in rest) (sym step))
-
-pub both : (a b : Bool) → a && b ≡ true → (a ≡ true) × (b ≡ true)
-both true b h = (refl, h)
-both false b h = cc
-
-pub lt_true : (a b : ℕ) → nat_lt a b ≡ true → a < b
-lt_true a b h = grind (arith, nat_tests)
-
-le_true : (a b : ℕ) → nat_le a b ≡ true → a ≤ b
-le_true a b h = grind (arith, nat_tests)
-
-true_lt : (a b : ℕ) → a < b → nat_lt a b ≡ true
-true_lt a b h = grind (arith, nat_tests)
-
-true_le : (a b : ℕ) → a ≤ b → nat_le a b ≡ true
-true_le a b h = grind (arith, nat_tests)
 
 -- membership
 pub at_head : {A : Type 0} (x : A) (xs : List A) → Contains (x ∷ xs) x
@@ -239,9 +223,9 @@ word_height ctors v s w h = height_is v ∙ by (out-Value v) w (sym (has_is ctor
         → tree_has k (map (has_sort ctors) fs) s ≡ true → ⊥
     no_tree c fs None w h = let no : false ≡ true = h in cc
     no_tree c fs (Some k) (inl e) h =
-        let no : false ≡ true = ap (λ (t : Sort). same_sort (sort.Tree k.of) t) (sym e) ∙ (both _ _ h).0 in cc
+        let no : false ≡ true = ap (λ (t : Sort). same_sort (sort.Tree k.of) t) (sym e) ∙ (and_parts _ _ h).0 in cc
     no_tree c fs (Some k) (inr e) h =
-        let no : false ≡ true = ap (λ (t : Sort). same_sort (sort.Tree k.of) t) (sym e) ∙ (both _ _ h).0 in cc
+        let no : false ≡ true = ap (λ (t : Sort). same_sort (sort.Tree k.of) t) (sym e) ∙ (and_parts _ _ h).0 in cc
 
     by : (y : value.Value-F Value) → (s ≡ sort.Int) ⊎ (s ≡ sort.Bool) → has_step ctors (map-Value Value (Sort
         → Bool) (has_sort ctors) y) s ≡ true → height_step (map-Value Value ℕ height y) ≡ 0
@@ -256,7 +240,7 @@ fields_low : (ctors : List Ctor) (n : ℕ) (fs : List Value) (ss : List Sort) �
 fields_low ctors n [] ss low h = omega arith
 fields_low ctors n (f ∷ fs) [] low h = let no : false ≡ true = h in cc
 fields_low ctors n (f ∷ fs) (s ∷ ss) low h =
-    let p = both _ _ h in
+    let p = and_parts _ _ h in
     omega (arith, low s (at_head s ss) f p.0, fields_low ctors n fs ss (λ t c. low t (at_tail s t ss c)) p.1)
 
 module _ (types : TypeTable) (agree : Agree types.datatypes types.ctors) where
@@ -268,9 +252,9 @@ module _ (types : TypeTable) (agree : Agree types.datatypes types.ctors) where
           → Contains (ctors_of types k.of) k
       by None e h = let no : false ≡ true = h in cc
       by (Some t) e h =
-          let p = both _ _ h in
-          let from = le_true t.first.0 c p.0 in
-          let to = lt_true c (t.first.0 + t.count) p.1 in
+          let p = and_parts _ _ h in
+          let from = leb-true t.first.0 c p.0 in
+          let to = ltb-true c (t.first.0 + t.count) p.1 in
           let at : t.first.0 + (c - t.first.0) ≡ c = omega (arith, from) in
           subst (λ (o : Option Datatype). Contains (ctors_in types.ctors o) k) (sym e)
           (get_in (take t.count (drop t.first.0 types.ctors)) (c - t.first.0) k
@@ -316,7 +300,7 @@ module _ (types : TypeTable) (agree : Agree types.datatypes types.ctors) where
       → greatest (map height fs) ≤ n
   tree_low n d c fs fields None e h = let no : false ≡ true = h in cc
   tree_low n d c fs fields (Some k) e h =
-      let p = both _ _ h in
+      let p = and_parts _ _ h in
       fields_low types.ctors n fs k.fields (fields k e (of_data k.of.0 d p.0)) p.1
 
   layer_low : (n d : ℕ) (y : value.Value-F Value) → ((c : ℕ) (k : Ctor) → slice_get types.ctors c ≡ Some k
@@ -370,8 +354,8 @@ module _ (types : TypeTable) (agree : Agree types.datatypes types.ctors) where
           let p = in_get (take t.count (drop t.first.0 types.ctors)) k has in
           let lt = block_over types.ctors t.first.0 t.count p.0 k p.1 in
           let at = sym (block_get types.ctors t.first.0 t.count p.0 lt) ∙ p.1 in
-          let inside : in_block t (t.first.0 + p.0) ≡ true = rw (true_le t.first.0 (t.first.0 + p.0) (omega arith))
-          (true_lt (t.first.0 + p.0) (t.first.0 + t.count) (omega (arith, lt))) in (
+          let inside : in_block t (t.first.0 + p.0) ≡ true = rw (le-leb t.first.0 (t.first.0 + p.0) (omega arith))
+          (lt-ltb (t.first.0 + p.0) (t.first.0 + t.count) (omega (arith, lt))) in (
             t.first.0 + p.0,
             at,
             names (t.first.0 + p.0) (slice_get types.ctors (t.first.0 + p.0)) at (agree.block d
@@ -390,13 +374,13 @@ module _ (types : TypeTable) (agree : Agree types.datatypes types.ctors) where
       has_is types.ctors (Truth true) sort.Bool ∙ ap (λ y. has_step types.ctors (map-Value Value
           (Sort → Bool) (has_sort types.ctors) y) sort.Bool) (outs-Bool true),
     )
-    value_of (sort.Tree e) h = inhabited e.0 (lt_true e.0 (length types.datatypes) h)
+    value_of (sort.Tree e) h = inhabited e.0 (ltb-true e.0 (length types.datatypes) h)
 
     all_values : (ss : List Sort) → list_all (is_sort types.datatypes) ss ≡ true
         → (fs : List Value) × (fields_have (map (has_sort types.ctors) fs) ss ≡ true)
     all_values [] h = ([], refl)
     all_values (s ∷ ss) h =
-        let p = both _ _ h in
+        let p = and_parts _ _ h in
         let first = value_of s p.0 in
         let rest = all_values ss p.1 in
         (first.0 ∷ rest.0, rw (first.1) (rest.1))
@@ -406,18 +390,20 @@ module _ (types : TypeTable) (agree : Agree types.datatypes types.ctors) where
         → has_sort types.ctors v s ≡ true → Contains ss s → (fs : List Value) × (fields_have (map (has_sort
         types.ctors) fs) ss ≡ true) × (height v ≤ greatest (map height fs))
     fields_with [] s v h hv (k, lt, is) = absurd (omega (arith, lt))
-    fields_with (t ∷ ss) s v h hv has = by (λ c. fields_with ss s v (both (is_sort types.datatypes t) (list_all
+    fields_with (t ∷ ss) s v h hv has = by (λ c. fields_with ss s v (and_parts (is_sort types.datatypes t) (list_all
         (is_sort types.datatypes) ss) h).1 hv c) (head_or t s ss has)
       where
         by : (Contains ss s → (fs : List Value) × (fields_have (map (has_sort types.ctors) fs) ss ≡ true) × (height
             v ≤ greatest (map height fs))) → (t ≡ s) ⊎ Contains ss s → (fs : List Value) × (fields_have (map
             (has_sort types.ctors) fs) (t ∷ ss) ≡ true) × (height v ≤ greatest (map height fs))
         by again (inl e) =
-            let rest = all_values ss (both (is_sort types.datatypes t) (list_all (is_sort types.datatypes) ss) h).1 in
+            let p = and_parts (is_sort types.datatypes t) (list_all (is_sort types.datatypes) ss) h in
+            let rest = all_values ss p.1 in
             (v ∷ rest.0, rw (subst (λ z. has_sort types.ctors v z ≡ true) (sym e) hv) (rest.1), omega arith)
         by again (inr c) =
             let rest = again c in
-            let first = value_of t (both (is_sort types.datatypes t) (list_all (is_sort types.datatypes) ss) h).0 in
+            let p = and_parts (is_sort types.datatypes t) (list_all (is_sort types.datatypes) ss) h in
+            let first = value_of t p.0 in
             (first.0 ∷ rest.0, rw (first.1) (rest.1), omega (arith, rest.2))
 
     tree_step : (c : CtorId) (fs : List Value) (k : Ctor) (d : ℕ) → slice_get types.ctors c.0 ≡ Some k
@@ -467,15 +453,15 @@ module _ (types : TypeTable) (agree : Agree types.datatypes types.ctors) where
     field_range d e has =
         let field = field_of (ctors_of types (record { 0 = d })) (sort.Tree (record { 0 = e })) has in
         let ctor = ctor_from d field.0 field.1 in
-        lt_true e (length types.datatypes) (by field.0.fields (agree.fields ctor.0 field.0 ctor.1) field.2)
+        ltb-true e (length types.datatypes) (by field.0.fields (agree.fields ctor.0 field.0 ctor.1) field.2)
       where
         by : (ss : List Sort) → list_all (is_sort types.datatypes) ss ≡ true
             → Contains ss (sort.Tree (record { 0 = e })) → nat_lt e (length types.datatypes) ≡ true
         by [] h (k, lt, is) = absurd (omega (arith, lt))
         by (s ∷ ss) h c = elim (head_or s (sort.Tree (record { 0 = e })) ss c) [
           | inl same ↦ subst (λ z. is_sort
-              types.datatypes z ≡ true) same (both _ _ h).0
-          | inr d ↦ by ss (both _ _ h).1 d
+              types.datatypes z ≡ true) same (and_parts _ _ h).0
+          | inr d ↦ by ss (and_parts _ _ h).1 d
         ]
 
     -- where each value is at most one more high, fields are nested at most n deep

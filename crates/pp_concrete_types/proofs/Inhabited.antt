@@ -3,13 +3,14 @@ use Rattle.std.proofs.Common.{◌≡◌, ℕ, zero, suc, ◌+◌, List, [], ◌�
 use Rattle.std.proofs.Common.{ap, ◌∙◌, subst, arith}
 use Rattle.std.specs.Prelude.{Option, Some, None, slice_get, unwrap_or, Contains}
 use Rattle.std.proofs.lemmas.List.{drop_all}
-use Rattle.std.proofs.lemmas.Option.{same_Some, unwrap_or-slice_get}
+use Rattle.std.proofs.lemmas.Option.{none-some, same_Some, unwrap_or-slice_get}
 use Rattle.pp_concrete_types.proofs.Lists.{contained, stands}
 use Rattle.pp_concrete_types.proofs.Places.{place_is, root_stands}
 use Rattle.pp_concrete_types.proofs.Rooms.{ctor_is}
 use Rattle.pp_concrete_types.proofs.Types.{args_have, field_types, root_has, root_types}
 use Rattle.pp_concrete_types.proofs.Values.{Values, int_value, more_values, no_values, tree_value, truth_value}
 use Rattle.pp_concrete_types.specs.Datatypes.{AreDatatypes}
+use Rattle.pp_generic.proofs.Putting.{put_bool, put_int, put_param, put_root}
 use Rattle.pp_instances.specs.Same.{place_of}
 use Rattle.pp_instances.specs.Uses.{root_at}
 use Rattle.pp_instances.specs.declared.member.Decl.TheVariants.{Function, Root}
@@ -33,12 +34,11 @@ use Rattle.pp_typed.specs.declared.sort.GenericSort.TheVariants as sort
 use Rattle.pp_typed.specs.declared.typed.Typed.{Typed}
 use Rattle.pp_typed.specs.declared.typed.TypedCtor.{TypedCtor}
 use Rattle.pp_typed.specs.declared.typed.TypedRoot.{TypedRoot}
-use Rattle.pp_validity.proofs.Ground.{each_put, ground_int, ground_bool, ground_root, put_int, put_bool, put_param}
-use Rattle.pp_validity.proofs.Ground.{put_root, puts_puts}
+use Rattle.pp_validity.proofs.Ground.{each_put, ground_int, ground_bool, ground_root}
+use Rattle.pp_validity.proofs.Ground.{puts_puts}
 use Rattle.pp_validity.proofs.Known.{HasTypes}
 use Rattle.pp_validity.proofs.Patterns.{map_map, mapped}
 use Rattle.pp_validity.proofs.Placed.{ctor_found}
-use Rattle.pp_validity.proofs.Whole.{none_some}
 
 -- the type parameters put at arguments are the arguments
 params_put : (args : List GenericSort) (i n : ℕ) → i + n ≡ length args → map (put args) (params_from i n) ≡ drop i args
@@ -152,7 +152,7 @@ module _ (typed : Typed) (sorted : IsWellSorted typed) (roots : List Member) (ar
 
     grounds_have : (ss : List GenericSort) → AreInRange typed.roots 0 ss → Ts ss
         → (i : ℕ) (s : GenericSort) → slice_get ss i ≡ Some s → V s
-    grounds_have [] none_in_range h i t at = absurd (none_some at)
+    grounds_have [] none_in_range h i t at = absurd (none-some _ at)
     grounds_have (s ∷ ss) (more_in_range here more) h zero t at =
         subst V (same_Some _ _ at) (ground_has s here (h 0 s refl))
     grounds_have (s ∷ ss) (more_in_range here more) h (suc i) t at = grounds_have ss more (λ j. h (suc j)) i t at

@@ -3,9 +3,8 @@ use Rattle.std.proofs.Common.{◌≡◌, ◌⊎◌, inl, inr, ⊎_elim, ℕ, zer
 use Rattle.std.proofs.Common.{[], ◌∷◌, ◌++◌, map, take, length, refl, sym, ap, ◌∙◌, arith}
 use Rattle.std.specs.Prelude.{Some, slice_get, Contains}
 use Rattle.std.specs.List.{filter, list_all}
-use Rattle.std.proofs.lemmas.Option.{get_or_from_slice_get, same_Some, slice_get_read, slice_get_within}
+use Rattle.std.proofs.lemmas.Option.{get_or_from_slice_get, none-some, same_Some, slice_get_read, slice_get_within}
 use Rattle.std.proofs.lemmas.Bool.{and_from}
-use Rattle.pp_validity.proofs.Whole.{none_some}
 
 pub contained : {A : Type 0} (xs : List A) (i : ℕ) (x : A) → slice_get xs i ≡ Some x → Contains xs x
 contained xs i x h = (i, slice_get_within xs i x h, get_or_from_slice_get xs i x x h)
@@ -32,7 +31,7 @@ before_or_behind {A} (x ∷ xs) ys (suc i) y h =
 -- an item of a mapped list comes from an item at its place
 pub unmapped : {A B : Type 0} (f : A → B) (xs : List A) (i : ℕ) (y : B) → slice_get (map f xs) i ≡ Some y
     → (x : A) × (slice_get xs i ≡ Some x) × (f x ≡ y)
-unmapped f [] i y h = absurd (none_some h)
+unmapped f [] i y h = absurd (none-some _ h)
 unmapped f (x ∷ xs) zero y h = (x, refl, same_Some _ _ h)
 unmapped f (x ∷ xs) (suc i) y h = unmapped f xs i y h
 
@@ -65,7 +64,7 @@ module _ {A : Type 0} (p : A → Bool) where
       counted false zs h = h
 
   pub unfiltered : (xs : List A) (rank : ℕ) (x : A) → slice_get (filter p xs) rank ≡ Some x → IsPassed xs rank x
-  unfiltered [] rank x h = absurd (none_some h)
+  unfiltered [] rank x h = absurd (none-some _ h)
   unfiltered (y ∷ xs) rank x h = by (p y) refl rank h (unfiltered xs)
     where
       by : (b : Bool) → p y ≡ b → (k : ℕ) → slice_get (cond b (y ∷ filter p xs) (filter p xs)) k ≡ Some x

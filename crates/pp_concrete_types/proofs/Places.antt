@@ -6,7 +6,7 @@ use Rattle.std.specs.List.{sum_by, take-map}
 use Rattle.std.specs.Option.{option_map}
 use Rattle.std.proofs.lemmas.List.{length-map}
 use Rattle.std.proofs.lemmas.List.Sums.{sum_by-cons}
-use Rattle.std.proofs.lemmas.Option.{same_Some, slice_get-map}
+use Rattle.std.proofs.lemmas.Option.{none-some, same_Some, slice_get-map}
 use Rattle.pp_concrete_types.proofs.Lists.{before_or_behind, contained, unmapped}
 use Rattle.pp_concrete_types.proofs.Rooms.{own_ctor}
 use Rattle.pp_instances.specs.Closure.{Distinct}
@@ -23,11 +23,10 @@ use Rattle.pp_typed.specs.Sorted.{ctors_of}
 use Rattle.pp_typed.specs.declared.typed.Typed.{Typed}
 use Rattle.pp_typed.specs.declared.typed.TypedCtor.{TypedCtor}
 use Rattle.pp_validity.proofs.Placed.{ctor_found, data_found, datatype}
-use Rattle.pp_validity.proofs.Whole.{none_some}
 
 -- a member that stands in a list once has its place there
 pub place_is : (ms : List Member) (d : ℕ) (m : Member) → Distinct ms → slice_get ms d ≡ Some m → place_of ms m ≡ d
-place_is [] d m once h = absurd (none_some h)
+place_is [] d m once h = absurd (none-some _ h)
 place_is (k ∷ ms) zero m once h =
     ap (λ b. cond (not b) (1 + place_of ms m) 0) (ap (same m) (same_Some _ _ h) ∙ same_self m)
 place_is (k ∷ ms) (suc d) m once h = by (same m k) refl (place_is ms d m once.1 h)
@@ -58,7 +57,7 @@ Behind typed roots base m ms c k =
 module _ (typed : Typed) (roots : List Member) where
   pub ctor_of : (base : ℕ) (ms : List Member) (c : ℕ) (k : Ctor) → slice_get (ctors_from typed roots base ms) c ≡ Some k
       → IsOf typed roots base ms c k
-  ctor_of base [] c k h = absurd (none_some h)
+  ctor_of base [] c k h = absurd (none-some _ h)
   ctor_of base (m ∷ ms) c k h =
       ⊎_elim here (λ (q : Behind typed roots base m ms c k). later q.0 q.1 (ctor_of (suc base) ms q.0 k q.2))
       (before_or_behind (ctors_at typed roots base m) (ctors_from typed roots (suc base) ms) c k h)

@@ -6,7 +6,7 @@ use Rattle.std.specs.List.{sum_by}
 use Rattle.std.proofs.lemmas.Bool.{eqb-true}
 use Rattle.std.proofs.lemmas.List.{length-map}
 use Rattle.std.proofs.lemmas.List.Sums.{sum_by-cons, sum_by-le, sum_by-take-le}
-use Rattle.std.proofs.lemmas.Option.{slice_get_within}
+use Rattle.std.proofs.lemmas.Option.{none-some, slice_get_within}
 use Rattle.pp_concrete_types.proofs.Lists.{contained, unfiltered}
 use Rattle.pp_instances.specs.declared.member.Member.{Member}
 use Rattle.pp_numbers.specs.Tables.{HasRoom, IsOneOf}
@@ -16,7 +16,6 @@ use Rattle.pp_typed.specs.WellSorted.{IsCtor, IsWellSorted}
 use Rattle.pp_typed.specs.declared.typed.Typed.{Typed}
 use Rattle.pp_typed.specs.declared.typed.TypedCtor.{TypedCtor}
 use Rattle.pp_typed.specs.declared.typed.TypedRoot.{TypedRoot}
-use Rattle.pp_validity.proofs.Whole.{none_some}
 
 -- a constructor of a root stands among the constructors of all
 pub record IsOwn (all : List TypedCtor) (r j : ℕ) (k : TypedCtor) : Type 0 where
@@ -51,7 +50,7 @@ module _ (typed : Typed) (sorted : IsWellSorted typed) where
       by (k ∷ cs) e =
           let own = own_ctor typed.ctors r 0 k (ap (λ (l : List TypedCtor). slice_get l 0) e) in
           let is = ctor_is k (contained typed.ctors own.place k own.at) in
-          absurd (none_some (sym at ∙ ap (slice_get typed.roots) (sym own.root) ∙ is.declared))
+          absurd (none-some _ (sym at ∙ ap (slice_get typed.roots) (sym own.root) ∙ is.declared))
 
   -- a root has at most 64 constructors
   pub few_of : (r : ℕ) → length (ctors_of typed.ctors r) ≤ 64

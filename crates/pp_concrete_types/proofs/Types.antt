@@ -6,7 +6,7 @@ use Rattle.std.specs.Option.{option_map}
 use Rattle.std.proofs.lemmas.Bool.{lt-ltb}
 use Rattle.std.proofs.lemmas.List.Elements.{Contains-append_cases, Contains-append_left, Contains-append_right}
 use Rattle.std.proofs.lemmas.List.Elements.{Contains-push}
-use Rattle.std.proofs.lemmas.Option.{same_Some, slice_get-map, slice_get_within}
+use Rattle.std.proofs.lemmas.Option.{none-some, same_Some, slice_get-map, slice_get_within}
 use Rattle.pp_concrete_types.proofs.Lists.{contained, stands}
 use Rattle.pp_concrete_types.specs.Datatypes.{AreDatatypes}
 use Rattle.pp_instances.proofs.Kept.{nothing_in}
@@ -27,7 +27,6 @@ use Rattle.pp_typed.specs.declared.typed.TypedCtor.{TypedCtor}
 use Rattle.pp_validity.proofs.Known.{HasTypes}
 use Rattle.pp_validity.proofs.Placed.{placed}
 use Rattle.pp_validity.proofs.Types.{types_put}
-use Rattle.pp_validity.proofs.Whole.{none_some}
 use Rattle.pp_validity.proofs.Within.{Within}
 
 pub in_mapped : {A B : Type 0} (f : A → B) (xs : List A) (x : A) → Contains xs x → Contains (map f xs) (f x)
@@ -35,7 +34,7 @@ in_mapped f xs x c = contained (map f xs) c.0 (f x) (slice_get-map f xs c.0 ∙ 
 
 pub in_joined : {A B : Type 0} (f : A → List B) (xs : List A) (i : ℕ) (x : A) (y : B) → slice_get xs i ≡ Some x
     → Contains (f x) y → Contains (joined (map f xs)) y
-in_joined f [] i x y h c = absurd (none_some h)
+in_joined f [] i x y h c = absurd (none-some _ h)
 in_joined f (z ∷ xs) zero x y h c =
     Contains-append_left (f z) (joined (map f xs)) y (subst (λ w. Contains (f w) y) (sym (same_Some _ _ h)) c)
 in_joined f (z ∷ xs) (suc i) x y h c = Contains-append_right (f z) (joined (map f xs)) y (in_joined f xs i x y h c)

@@ -1,10 +1,9 @@
 -- What holds of the matrices that are still to be looked at, from the first one to the end.
-use Rattle.std.proofs.Common.{◌≡◌, ℕ, zero, suc, ◌+◌, ◌<◌, ◌^◌, Bool, true, ◌||◌, List, [], ◌∷◌, ◌++◌, length, get_or}
-use Rattle.std.proofs.Common.{Some, nat_eq, refl, sym, ap, ◌∙◌, subst, arith, IsTrue, Contains, ◌↔◌}
-use Rattle.std.proofs.lemmas.Bool.{and_from, and_parts}
+use Rattle.std.proofs.Common.{◌≡◌, ℕ, zero, suc, ◌+◌, ◌<◌, ◌^◌, true, ◌||◌, List, [], ◌∷◌, ◌++◌, length, get_or}
+use Rattle.std.proofs.Common.{Some, nat_eq, refl, sym, ap, ◌∙◌, subst, arith, Contains, ◌↔◌}
+use Rattle.std.proofs.lemmas.Bool.{and_from, and_parts, or_left, or_right}
 use Rattle.std.proofs.lemmas.List.{length-map}
 use Rattle.std.proofs.Math.Logic.{∥∥₁_elim}
-use Rattle.std.proofs.Props.{props}
 use Rattle.std.specs.List.{list_all}
 use Rattle.pp_prog.specs.declared.expr.Pattern.{Pattern}
 use Rattle.pp_prog.specs.declared.sort.Sort.{Sort}
@@ -14,6 +13,7 @@ use Rattle.pp_prog.specs.Fits.{fits, fits_one}
 use Rattle.pp_prog.specs.Sorts.{has_sort}
 use Rattle.pp_prog.specs.Table.{HaveValues, is_sort}
 use Rattle.pp_prog.specs.Valid.{Covers}
+use Rattle.pp_prog.proofs.Sure.{true_prop, ⊥_prop}
 use Rattle.pp_cover.specs.declared.constraint.Constraint.{Constraint}
 use Rattle.pp_cover.specs.declared.matrix.Matrix.{Matrix}
 use Rattle.pp_cover.specs.Constraint.{constraints, row_fits}
@@ -22,18 +22,12 @@ use Rattle.pp_cover.specs.Split.{parts}
 use Rattle.pp_cover.specs.Cover.{first_column, first_matrix, first_rows}
 use Rattle.pp_cover.proofs.Specialize.{rows_within}
 use Rattle.pp_cover.proofs.Constraints.{constraints_satisfied}
-use Rattle.pp_cover.proofs.Lists.{nat_eq_same, or_left, or_right}
+use Rattle.pp_cover.proofs.Lists.{nat_eq_same}
 use Rattle.pp_cover.proofs.Parts.{all_covered_append, all_covered_parts, parts_covered}
 use Rattle.pp_cover.proofs.Typed.{values_of}
 use Rattle.pp_cover.proofs.Weight.{parts_few, parts_lighter, score, score_smaller}
 use Rattle.pp_cover.proofs.WellFormed.{AllWellFormed, WellFormed, all_well_formed_append, all_well_formed_parts}
 use Rattle.pp_cover.proofs.WellFormed.{constraints_within, mentioned_within, parts_well_formed}
-
-true_prop : {b : Bool} → IsProp (IsTrue b)
-true_prop = hlevel props
-
-⊥_prop : IsProp ⊥
-⊥_prop = hlevel
 
 -- the row of a pattern is met by a value that fits it
 first_rows_fit : (ps : List Pattern) (v : Value) → any_fits (first_rows ps) (v ∷ []) ≡ fits_one ps v

@@ -3,7 +3,7 @@
 use Rattle.std.proofs.Common.{◌≡◌, ℕ, suc, ◌<◌, Bool, true, false, not, ◌&&◌, ◌||◌, List, [], ◌∷◌, ◌++◌, length, Option}
 use Rattle.std.proofs.Common.{Some, slice_get, nat_eq, nat_lt, refl, sym, ap, ◌∙◌, arith, inl, inr}
 use Rattle.std.proofs.Math.Bool.{and-false}
-use Rattle.std.proofs.lemmas.Bool.{and_parts, eqb-true, ltb-true, or_parts}
+use Rattle.std.proofs.lemmas.Bool.{and_parts, eqb-true, ltb-true, or_parts, or_right}
 use Rattle.std.proofs.lemmas.Bool.Decides.{eqb_tells}
 use Rattle.std.proofs.lemmas.List.{append_assoc, length-append}
 use Rattle.pp_prog.specs.declared.expr.Pattern.{Pattern}
@@ -17,7 +17,7 @@ use Rattle.pp_cover.specs.Constraint.{some_satisfies}
 use Rattle.pp_cover.specs.Matrix.{admits, any_fits, can_satisfy, default_rows, implies, is_in, keep_if, mentions}
 use Rattle.pp_cover.specs.Matrix.{specialized_row, specialized_if, specialized_rows}
 use Rattle.pp_cover.proofs.Constraints.{constraints_satisfied}
-use Rattle.pp_cover.proofs.Lists.{get_left, get_seam, or_right}
+use Rattle.pp_cover.proofs.Lists.{get_left, get_seam}
 
 -- the row constrains the first n columns alone
 abbrev pub row_within : ℕ → List Constraint → Bool

@@ -1,7 +1,6 @@
 pub mod Imported
 pub mod Left
 pub mod Owned
-pub mod Parts
 pub mod Counting
 pub mod NextCtor
 pub mod Sound

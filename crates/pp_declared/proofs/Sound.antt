@@ -2,7 +2,7 @@
 use Rattle.std.proofs.Common.{◌≡◌, ◌∙◌, ℕ, ◌<◌, Bool, true, false, ◌&&◌, not, List, [], ◌∷◌, ◌++◌, All, Option, Some}
 use Rattle.std.proofs.Common.{None, Ok, refl, subst, true≢false, sym, map, append_assoc, count_by, nat_eq, nat_lt}
 use Rattle.std.proofs.Common.{length, slice_get, if◌then◌else◌}
-use Rattle.std.proofs.lemmas.Bool.{eqb-true, leb-true, ltb-true}
+use Rattle.std.proofs.lemmas.Bool.{and_parts, eqb-true, leb-true, ltb-true, not-true}
 use Rattle.std.proofs.lemmas.List.{append-nil}
 use Rattle.std.proofs.lemmas.List.Elements.{All-nil, All-cons}
 use Rattle.pp_declared.specs.Declare.{imports_checked, all_checked, classes_new_after, defs_new_after, parent_word}
@@ -93,14 +93,6 @@ imports_sound objects (i ∷ is) e =
     All-cons (λ (x : ImportIn). has x.path.name objects ≡ true) i is s.0 (imports_sound objects is s.1)
 
 -- constructors
-both_true : (a b : Bool) → (a && b) ≡ true → (a ≡ true) × (b ≡ true)
-both_true true b e = (refl, e)
-both_true false b e = cc
-
-not_true : (a : Bool) → not a ≡ true → a ≡ false
-not_true true e = cc
-not_true false e = refl
-
 module _ (roots : List ClassIn) (c : ClassIn) where
   -- the answer where a constructor extends what may stand at this place
   abbrev extended_by : ℕ → ℕ → Word → TypeTrees → Option ClassIn → Part ℕ
@@ -114,17 +106,17 @@ module _ (roots : List ClassIn) (c : ClassIn) where
       → place_of w (class_names roots) ≡ Some r → extended_by r at w ts o ≡ Ok q → (q ≡ r) × IsOwner roots c r
   extends_sound r q at w ts None there parent found e =
       let s = held (not (has w c.class.params) && false) _ _ q e in let b =
-      both_true (not (has w c.class.params)) false s.0 in absurd (true≢false (sym b.1))
+      and_parts (not (has w c.class.params)) false s.0 in absurd (true≢false (sym b.1))
   extends_sound r q at w ts (Some r0) there parent found e =
       let s = held (not (has w c.class.params) && (r0.sealed && nat_eq r0.source c.source)) _ _ q e in
       let t = held (nat_eq (length c.class.params) (length r0.class.params) && are_params c.class.params ts) _ _ q s.1
       in
-      let a = both_true (not (has w c.class.params)) (r0.sealed && nat_eq r0.source c.source) s.0 in
-      let b = both_true r0.sealed (nat_eq r0.source c.source) a.1 in
-      let d = both_true (nat_eq (length c.class.params) (length r0.class.params)) (are_params c.class.params ts) t.0 in
+      let a = and_parts (not (has w c.class.params)) (r0.sealed && nat_eq r0.source c.source) s.0 in
+      let b = and_parts r0.sealed (nat_eq r0.source c.source) a.1 in
+      let d = and_parts (nat_eq (length c.class.params) (length r0.class.params)) (are_params c.class.params ts) t.0 in
       let same : q ≡ r = (let f = t.1 in cc) in (
         same,
-        extended r at w ts r0 parent (not_true (has w c.class.params) a.0) found there b.0
+        extended r at w ts r0 parent (not-true (has w c.class.params) a.0) found there b.0
             (eqb-true r0.source c.source b.1)
             (eqb-true (length c.class.params) (length r0.class.params) d.0) d.1,
       )

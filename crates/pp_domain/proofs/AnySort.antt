@@ -27,6 +27,13 @@ use Rattle.pp_domain.specs.Answers.{IsEquality, IsMerge}
 use Rattle.pp_domain.specs.AnySort.{IsChoice, IsSame}
 use Rattle.pp_domain.proofs.Composition.{Moves_grown, Extended_grown}
 
+-- equal values have equal contents
+pub int_same : (x y : ℤ) → value.Int x ≡ value.Int y → x ≡ y
+int_same x y e = let o = sym (outs-Int x) ∙ ap out-Value e ∙ outs-Int y in cc
+
+pub bool_same : (x y : Bool) → value.Bool x ≡ value.Bool y → x ≡ y
+bool_same x y e = let o = sym (outs-Bool x) ∙ ap out-Value e ∙ outs-Bool y in cc
+
 module _ {D T : Type 0} (m : Sense D T) (types : TypeTable) (law : Lawful m) where
   -- gates that aren't inputs
   pub Moves_gates : (d : D) (gs hs : List Gate) (k : ℕ) → m.Fits types d gs → AddsGates gs hs k
@@ -87,12 +94,6 @@ module _ {D T : Type 0} (m : Sense D T) (types : TypeTable) (law : Lawful m) whe
       value_is n s v gives false e is =
           is ∙ ap value.Bool (sym (stands.value s gives ∙ ap (λ (x : Bool). if x then lit_value s a else lit_value s
           b) e))
-
-  int_same : (x y : ℤ) → value.Int x ≡ value.Int y → x ≡ y
-  int_same x y e = let o = sym (outs-Int x) ∙ ap out-Value e ∙ outs-Int y in cc
-
-  bool_same : (x y : Bool) → value.Bool x ≡ value.Bool y → x ≡ y
-  bool_same x y e = let o = sym (outs-Bool x) ∙ ap out-Value e ∙ outs-Bool y in cc
 
   pub words_same : (d : D) (gs hs : List Gate) (k : ℕ) (a b : List Literal) (l : Literal) → m.Fits types d gs
       → AddsGates gs hs k → IsOf hs l

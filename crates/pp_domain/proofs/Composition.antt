@@ -16,7 +16,8 @@ use Rattle.pp_domain.specs.Sense.{Sense, Good, Extended, Inexact}
 use Rattle.pp_domain.specs.Moves.{KeepsNode, Moves, Steady}
 use Rattle.pp_domain.specs.Laws.{Lawful}
 
-agree_self : (n : ℕ) (a : ℕ → Bool) → AgreeUpTo n a a
+-- a valuation agrees with itself
+pub agree_self : (n : ℕ) (a : ℕ → Bool) → AgreeUpTo n a a
 agree_self n a = record { agree = λ x low high. refl }
 
 agree_back : (n : ℕ) (a b : ℕ → Bool) → AgreeUpTo n a b → AgreeUpTo n b a

@@ -3,7 +3,7 @@ use Rattle.std.proofs.Common.{◌≡◌, ℕ, zero, suc, ◌<◌, ◌≤◌, ◌
 use Rattle.std.proofs.Common.{Some, refl, sym, ap, ◌∙◌, subst, arith, inl, inr, slice_get}
 use Rattle.std.specs.Prelude.{slice_index_or}
 use Rattle.std.proofs.lemmas.Bool.{both_ways, cases_Bool}
-use Rattle.std.proofs.lemmas.Option.{slice_get_within, slice_get-get_or}
+use Rattle.std.proofs.lemmas.Option.{slice_get_within, slice_get-get_or, same_Some}
 use Rattle.pp_prog.specs.declared.id.DataId.{DataId}
 use Rattle.pp_prog.specs.declared.sort.Sort.TheVariants as sort
 use Rattle.pp_prog.specs.declared.types.TypeTable.{TypeTable}
@@ -27,10 +27,7 @@ without_step : (v x w : Value) (xs : List Value) (k : ℕ) (b : Bool) → equal 
     → slice_get (if b then without v xs else x ∷ without v xs) k ≡ Some w → At (x ∷ xs) w × (equal v w ≡ false)
 without_step v x w xs k true e rest h = let r = rest k h in (next x w xs r.0, r.1)
 without_step v x w xs zero false e rest h =
-    let same : Some x ≡ Some w = h in ((0, h), subst (λ y. equal v y ≡ false) (some_same x w same) e)
-  where
-    some_same : (a b : Value) → Some a ≡ Some b → a ≡ b
-    some_same a b p = cc
+    let same : Some x ≡ Some w = h in ((0, h), subst (λ y. equal v y ≡ false) (same_Some x w same) e)
 without_step v x w xs (suc k) false e rest h = let r = rest k h in (next x w xs r.0, r.1)
 
 without_at : (v w : Value) (xs : List Value) (k : ℕ) → slice_get (without v xs) k ≡ Some w

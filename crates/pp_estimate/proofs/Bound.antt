@@ -12,6 +12,7 @@ use Rattle.pp_estimate.specs.Counted.{counted}
 use Rattle.pp_estimate.specs.Events.{Event}
 use Rattle.pp_estimate.specs.Visits.{Binding, bind_each, component_events, comparison, part}
 use Rattle.pp_estimate.proofs.Merged.{counted_append}
+use Rattle.pp_checks.proofs.Binding.{drop_one, past_end}
 
 module _ (w : Shape) where
   bind_none : (bs : List Binding) → bind_each w bs [] ≡ []
@@ -22,11 +23,6 @@ module _ (w : Shape) where
       → bind_each w (b ∷ bs) ss ≡ bind_each w (b ∷ []) ss ++ bind_each w bs (drop 1 ss)
   bind_first b bs [] = sym (bind_none bs)
   bind_first b bs (s ∷ ss) = ap (λ (l : List Shape). l ++ bind_each w bs ss) (sym (append-nil (b (part w s))))
-
-  drop_one : (i : ℕ) (ss : List Sort) → drop 1 (drop i ss) ≡ drop (suc i) ss
-  drop_one zero ss = refl
-  drop_one (suc i) [] = refl
-  drop_one (suc i) (s ∷ ss) = drop_one i ss
 
   -- one pattern more
   pub bind_more : (f : Pattern → Binding) (ps : List Pattern) (ss : List Sort) (i : ℕ) (p : Pattern)
@@ -44,12 +40,6 @@ module _ (w : Shape) where
       (append_assoc scope (bind_each w (f p ∷ []) (drop i ss))
       (bind_each w (map f (drop (suc i) ps)) (drop (suc i) ss)))
       ∙ ap (λ (l : List Shape). l ++ bind_each w (map f (drop (suc i) ps)) (drop (suc i) ss)) (sym step))
-
-  past_end : (ss : List Sort) (i : ℕ) → slice_get ss i ≡ None → drop i ss ≡ []
-  past_end [] zero is = refl
-  past_end [] (suc i) is = refl
-  past_end (s ∷ ss) zero is = let no : Some s ≡ None = is in cc
-  past_end (s ∷ ss) (suc i) is = past_end ss i is
 
   pub bind_past : (b : Binding) (ss : List Sort) (i : ℕ) → slice_get ss i ≡ None → bind_each w (b ∷ []) (drop i ss) ≡ []
   bind_past b ss i is = ap (λ (l : List Sort). bind_each w (b ∷ []) l) (past_end ss i is)

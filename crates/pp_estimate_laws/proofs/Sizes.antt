@@ -5,12 +5,7 @@ use Rattle.pp_prog.specs.declared.sort.Sort.TheVariants as sort
 use Rattle.pp_prog.specs.declared.types.TypeTable.{TypeTable}
 use Rattle.pp_prog.specs.Sizes.{bits, ctors_of, fields_of, height_at, nodes}
 use Rattle.pp_estimate_laws.proofs.Numbers.{le_same, plus_grows, sum_grows}
-
-none_below : (n : ℕ) → 0 ≤ n
-none_below n = omega arith
-
-less_one : (h k : ℕ) → suc h ≤ suc k → h ≤ k
-less_one h k le = omega arith
+use Rattle.pp_list.proofs.Numbers.{less_one, none_below}
 
 pub bits_grow : (types : TypeTable) (h k : ℕ) (s : Sort) → h ≤ k → bits types h s ≤ bits types k s
 bits_grow types zero zero s le = le_same (bits types zero s)

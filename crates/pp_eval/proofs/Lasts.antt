@@ -31,7 +31,8 @@ module _ (c d : CallMeaning) (more : CallsCover c d) where
       then_extends _ _ _ _ (frame_extends c d more f.measure args) (λ frame.
       then_extends _ _ _ _ (expr_covers c d more f.body frame args) (λ v. finished_extends f.post frame args v))
 
-  run_extends : (f : Function) (args : List Value) → Extends (run_with c f args) (run_with d f args)
+  -- a run over calls that have more values
+  pub run_extends : (f : Function) (args : List Value) → Extends (run_with c f args) (run_with d f args)
   run_extends f args =
       then_extends _ _ _ _ (allowed_extends c d more f.pre args)
       (λ allows. either_extends allows _ _ _ _ (started_extends f args) refl)

@@ -1,26 +1,13 @@
 -- An Int is a word of 32 bits.
-use Rattle.std.proofs.Common.{◌≡◌, true, arith}
+use Rattle.std.proofs.Common.{◌≡◌, true}
 use Rattle.std.specs.Int.{w32}
-use Rattle.std.specs.Int.RustNames.{FitsSigned, int_le, int_lt}
+use Rattle.std.specs.Int.RustNames.{FitsSigned}
 use Rattle.std.proofs.lemmas.Bool.{and_from, and_parts}
-use Rattle.std.proofs.lemmas.Int.{ints}
 use Rattle.pp_word.specs.Wrapping.{IsWord}
 use Rattle.pp_word.proofs.Ranges.{fits_from_IsWord}
 use Rattle.pp_prog.specs.Sorts.{is_int}
-use lib.Signed.{◌≤ℤ◌, ◌<ℤ◌}
 use lib.IntN.{ℤ}
-
-at_most : (a b : ℤ) → int_le a b ≡ true → a ≤ℤ b
-at_most a b h = grind (arith, ints)
-
-less : (a b : ℤ) → int_lt a b ≡ true → a <ℤ b
-less a b h = grind (arith, ints)
-
-at_most_true : (a b : ℤ) → a ≤ℤ b → int_le a b ≡ true
-at_most_true a b h = grind (arith, ints)
-
-less_true : (a b : ℤ) → a <ℤ b → int_lt a b ≡ true
-less_true a b h = grind (arith, ints)
+use Rattle.pp_list.proofs.Integers.{at_most, at_most_true, less, less_true}
 
 pub word_from : (n : ℤ) → is_int n ≡ true → IsWord w32 n
 word_from n h = let p = and_parts _ _ h in (at_most _ n p.0, less n _ p.1)

@@ -1,9 +1,9 @@
 -- The tests of trees decide equality and subtrees.
-use Rattle.std.proofs.Common.{◌≡◌, ℕ, zero, suc, ℤ, Bool, true, false, ◌&&◌, List, [], ◌∷◌, map, refl, sym, ap, ◌∙◌}
+use Rattle.std.proofs.Common.{◌≡◌, ℕ, zero, suc, ℤ, Bool, true, false, List, [], ◌∷◌, map, refl, sym, ap, ◌∙◌}
 use Rattle.std.proofs.Common.{subst, arith, eq-eqb, Contains, ◌⊎◌, inl, inr}
 use Rattle.std.specs.Prelude.{◌↔◌, ◌||◌, nat_eq}
 use Rattle.std.specs.Ordering.{int_eq}
-use Rattle.std.proofs.lemmas.Bool.{eqb-true}
+use Rattle.std.proofs.lemmas.Bool.{and_parts, eqb-true, or_left, or_right}
 use Rattle.std.proofs.lemmas.Bool.Decides.{Decides-int_eq}
 use Rattle.pp_prog.specs.declared.id.CtorId.{CtorId}
 use Rattle.pp_prog.specs.declared.value.Value.{Value}
@@ -25,10 +25,6 @@ int_self a = grind (arith, Decides-int_eq a a)
 ctor_same : (c d : CtorId) → nat_eq c.0 d.0 ≡ true → c ≡ d
 ctor_same c d h = let mk : ℕ → CtorId = λ n. record { 0 = n } in ap mk (eqb-true c.0 d.0 h)
 
-both_true : (a b : Bool) → a && b ≡ true → (a ≡ true) × (b ≡ true)
-both_true true b h = (refl, h)
-both_true false b h = cc
-
 truth_same : (a b : Bool) → same_truth a b ≡ true → a ≡ b
 truth_same true b h = sym h
 truth_same false true h = cc
@@ -49,7 +45,7 @@ all_same [] [] h = refl
 all_same [] (w ∷ ws) h = cc
 all_same (y ∷ ys) [] h = cc
 all_same (y ∷ ys) (w ∷ ws) h =
-    let p = both_true _ _ h in
+    let p = and_parts _ _ h in
     let a = y.1.0 w p.0 in let b = all_same ys ws p.1 in cc
 
 all_self : (ys : List S) → pass_all (map equal (map (λ z. z.0) ys)) (map (λ z. z.0) ys) ≡ true
@@ -68,7 +64,7 @@ level (layer.Bool a) (layer.Tree c ws) h = cc
 level (layer.Tree c ys) (layer.Int m) h = cc
 level (layer.Tree c ys) (layer.Bool b) h = cc
 level (layer.Tree c ys) (layer.Tree d ws) h =
-    let p = both_true _ _ h in
+    let p = and_parts _ _ h in
     let same = ctor_same c d p.0 in
     let fields = all_same ys ws p.1 in cc
 
@@ -110,14 +106,6 @@ module _ (t : Value) where
   below_tree : (c : CtorId) (fields : List Value) → below t (Tree c fields) ≡ at_or_under (equal t) (map pair fields)
   below_tree c fields =
       ap (below t) (sym (rolls-Tree c fields)) ∙ para-roll-Value Bool (below_step (equal t)) (layer.Tree c fields)
-
-  or_right : (a b : Bool) → b ≡ true → a || b ≡ true
-  or_right true b h = refl
-  or_right false b h = h
-
-  or_left : (a b : Bool) → a ≡ true → a || b ≡ true
-  or_left true b h = refl
-  or_left false b h = cc
 
   -- a field that passes, or passes below, makes the test true
   passes : (fields : List Value) (v : Value) → Contains fields v → ((equal t v ≡ true) ⊎ (below t v ≡ true))

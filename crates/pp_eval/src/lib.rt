@@ -5,6 +5,9 @@
 //! call is below that of its caller, `specs/Operators` what the operators make of values, `specs/Equality` when values
 //! are equal or proper subtrees, and `specs/Runs` what a run is and which functions are good. All are total: where an
 //! expression has no meaning, it is `Stuck`, and where calls are nested deeper than the fuel, `Deep`.
+//!
+//! [`run`] is that definition as a plain program. [`unary`] and [`operate`] say what operators make of values, and
+//! [`goes_down`] and [`one_sort`] when a measure is below another, for those who hold values of their own.
 #![tactic(auto)]
 
 mod equality;

@@ -130,8 +130,9 @@ fn of_alike(op: BinaryOp, check: Option<CheckId>, x: &Value, y: &Value) -> Resul
 /// recurse on the height of the operands.
 ///
 /// # Errors
-/// `Fails`: exactly where the divisor is 0 and the site has a check. `Stuck`: where it is 0 and there is none, or where
-/// the operands aren't of the operator's sorts.
+/// `Fails`: exactly where a number is divided by 0 and the site has a check. `Stuck`: exactly where one is divided by 0
+/// and there is none, where operands of an operator but `==` and `!=` aren't of its sorts, and for `&&` and `||`, which
+/// may skip their right operand.
 pub fn operate(op: BinaryOp, check: Option<CheckId>, x: &Value, y: &Value) -> Result<Value, Stop>
     ensures { result ≡ operated op check x.now y.now }
 {

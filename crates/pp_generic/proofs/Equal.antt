@@ -1,18 +1,14 @@
 -- `equal` decides equality.
-use Rattle.std.proofs.Common.{◌≡◌, Bool, true, false, ◌&&◌, List, [], ◌∷◌, map, refl, sym, ap, ◌∙◌, subst, arith}
+use Rattle.std.proofs.Common.{◌≡◌, Bool, true, false, List, [], ◌∷◌, map, refl, sym, ap, ◌∙◌, subst, arith}
 use Rattle.std.proofs.Common.{eq-eqb}
 use Rattle.std.specs.Prelude.{IsTrue, ◌↔◌}
-use Rattle.std.proofs.lemmas.Bool.{eqb-true}
+use Rattle.std.proofs.lemmas.Bool.{and_parts, eqb-true}
 use Rattle.pp_typed.specs.declared.sort.GenericSort.{GenericSort}
 use Rattle.pp_typed.specs.declared.sort.GenericSort.TheOpen as layer
 use Rattle.pp_typed.specs.declared.sort.GenericSort.TheViews.{out-GenericSort, roll-GenericSort, out-roll-GenericSort}
 use Rattle.pp_typed.specs.declared.sort.GenericSort.TheViews.{roll-out-GenericSort}
 use Rattle.pp_typed.specs.declared.sort.GenericSort.TheFolds.{fold-roll-GenericSort, ind-GenericSort, map-GenericSort}
 use Rattle.pp_generic.specs.Equal.{equal, equal_step, equal_layer, pass_all}
-
-both_true : (a b : Bool) → a && b ≡ true → (a ≡ true) × (b ≡ true)
-both_true true b h = (refl, h)
-both_true false b h = cc
 
 abbrev Sure : GenericSort → Type 0
 Sure v = (w : GenericSort) → (equal v w ≡ true → v ≡ w) × (equal v v ≡ true)
@@ -26,7 +22,7 @@ all_same [] [] h = refl
 all_same [] (w ∷ ws) h = cc
 all_same (y ∷ ys) [] h = cc
 all_same (y ∷ ys) (w ∷ ws) h =
-    let p = both_true _ _ h in
+    let p = and_parts _ _ h in
     let a = (y.1 w).0 p.0 in let b = all_same ys ws p.1 in cc
 
 level : (y : layer.GenericSort-F S) (o : layer.GenericSort-F GenericSort)
@@ -36,7 +32,7 @@ level layer.Int layer.Int h = refl
 level layer.Bool layer.Bool h = refl
 level (layer.Param i) (layer.Param j) h = ap layer.Param (eqb-true i j h)
 level (layer.Root c ys) (layer.Root d ws) h =
-    let p = both_true _ _ h in
+    let p = and_parts _ _ h in
     let same = eqb-true c d p.0 in
     let fields = all_same ys ws p.1 in cc
 level layer.Int layer.Bool h = cc

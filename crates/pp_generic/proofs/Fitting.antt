@@ -1,6 +1,7 @@
 -- Two roots fit exactly where their arguments fit, one by one.
 use Rattle.std.proofs.Common.{◌≡◌, ℕ, ◌+◌, ◌<◌, ◌≤◌, List, [], ◌∷◌, length, get_or, drop, map, refl, ap, sym, ◌∙◌}
-use Rattle.std.proofs.Common.{arith, suc, drop-cons}
+use Rattle.std.proofs.Common.{arith}
+use Rattle.std.proofs.Math.Bool.{and-false}
 use Rattle.std.proofs.lemmas.List.{drop_all}
 use Rattle.std.specs.Prelude.{nat_eq, Bool, true, false, ◌&&◌}
 use Rattle.pp_generic.specs.declared.expected.Expected.{Expected}
@@ -9,6 +10,7 @@ use Rattle.pp_generic.specs.declared.expected.Expected.TheOpen as layer
 use Rattle.pp_generic.specs.declared.expected.Expected.TheVariants as expected
 use Rattle.pp_generic.specs.Equal.{pass_all}
 use Rattle.pp_generic.specs.Expected.{fits, fits_step, fits_root}
+use Rattle.pp_list.proofs.Lists.{rest_at}
 use Rattle.pp_typed.specs.declared.sort.GenericSort.{GenericSort}
 use Rattle.pp_typed.specs.declared.sort.GenericSort.TheVariants.{Root, outs-Root}
 
@@ -27,24 +29,13 @@ differ r q b h = ap (λ t. t && b) h
 pub alike : (r q : ℕ) (b : Bool) → nat_eq r q ≡ true → (nat_eq r q && b) ≡ b
 alike r q b h = ap (λ t. t && b) h
 
-and_false : (b : Bool) → b && false ≡ false
-and_false true = refl
-and_false false = refl
-
 -- lists of two lengths don't fit
 pub uneven : (xs : List Expected) (ys : List GenericSort) → (length xs ≡ length ys → ⊥)
     → pass_all (map fits xs) ys ≡ false
 uneven [] [] h = absurd (h refl)
 uneven [] (y ∷ ys) h = refl
 uneven (x ∷ xs) [] h = refl
-uneven (x ∷ xs) (y ∷ ys) h = ap (λ b. fits x y && b) (uneven xs ys (λ e. h (omega (arith, e)))) ∙ and_false (fits x y)
-
-rest_at : {X : Type 0} (xs : List X) (i : ℕ) (x : X) → i < length xs → x ≡ get_or xs i x
-    → drop i xs ≡ x ∷ drop (i + 1) xs
-rest_at xs i x lt is =
-    let e : drop i xs ≡ get_or xs i x ∷ drop (suc i) xs = drop-cons xs i x lt in
-    let n : suc i ≡ i + 1 = omega arith in
-    e ∙ ap (λ y. y ∷ drop (suc i) xs) (sym is) ∙ ap (λ k. x ∷ drop k xs) n
+uneven (x ∷ xs) (y ∷ ys) h = ap (λ b. fits x y && b) (uneven xs ys (λ e. h (omega (arith, e)))) ∙ and-false (fits x y)
 
 -- where two don't fit, the lists from there on don't
 pub stops : (xs : List Expected) (ys : List GenericSort) (i : ℕ) (x : Expected) (y : GenericSort)

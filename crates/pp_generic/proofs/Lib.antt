@@ -1,3 +1,4 @@
 pub mod Ends
 pub mod Equal
 pub mod Fitting
+pub mod Putting

@@ -10,7 +10,8 @@ use Rattle.std.specs.Set.{is_member}
 use Rattle.pp_graph.specs.Reaches.{Reaches, by_call, by_more, SameGroup, AreGroups, calls_of}
 use Rattle.pp_graph.proofs.Paths.{further, source_within}
 
-or_not : {P : Type 0} (b : Bool) → Decides b P → P ⊎ (P → ⊥)
+-- what is decided holds or does not
+pub or_not : {P : Type 0} (b : Bool) → Decides b P → P ⊎ (P → ⊥)
 or_not true d = inl (d.0 refl)
 or_not false d = inr (λ p. let e : false ≡ true = d.1 p in cc)
 

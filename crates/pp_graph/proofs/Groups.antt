@@ -1,14 +1,11 @@
 -- The first function of a group, read from the table of rows.
-use Rattle.std.proofs.Common.{◌≡◌, ◌⊎◌, ◌<◌, ◌≤◌, ◌+◌, ◌-◌, ℕ, zero, suc, Bool, true, false, ◌&&◌, List, length, refl}
+use Rattle.std.proofs.Common.{◌≡◌, ◌⊎◌, ◌<◌, ◌≤◌, ◌+◌, ◌-◌, ℕ, zero, suc, Bool, true, false, List, length, refl}
 use Rattle.std.proofs.Common.{sym, ap, ◌∙◌, subst, arith, inl, inr, ⊎_elim}
 use Rattle.std.proofs.lemmas.Bool.Decides.{eqb_tells}
+use Rattle.std.proofs.lemmas.Bool.{and_parts}
 use Rattle.pp_graph.specs.Reaches.{Reaches, SameGroup, IsGroup, AreGroups}
 use Rattle.pp_graph.specs.Rows.{Tells, Grouped, mutual_at, first_or, first_from, group}
 use Rattle.pp_graph.proofs.Paths.{source_within}
-
-both : (a b : Bool) → a && b ≡ true → (a ≡ true) × (b ≡ true)
-both true b h = (refl, h)
-both false b h = cc
 
 pub first_on : (rows : List (List Bool)) (f g : ℕ) → g < f → mutual_at rows f g ≡ false
     → first_from rows f g (f - g) ≡ first_from rows f (g + 1) (f - (g + 1))
@@ -31,7 +28,7 @@ group_least rows f = first_least rows f 0 f (omega arith)
 module _ (calls : List (List ℕ)) (rows : List (List Bool)) (t : Tells calls (length calls) rows) where
   related : (f g : ℕ) → f < length calls → g < length calls → mutual_at rows f g ≡ true → Reaches calls f g
       × Reaches calls g f
-  related f g inf ing h = let p = both _ _ h in ((t.tells f g inf ing).0 p.0, (t.tells g f ing inf).0 p.1)
+  related f g inf ing h = let p = and_parts _ _ h in ((t.tells f g inf ing).0 p.0, (t.tells g f ing inf).0 p.1)
 
   tested : (f g : ℕ) → Reaches calls f g → Reaches calls g f → mutual_at rows f g ≡ true
   tested f g a b =

@@ -17,7 +17,6 @@ use Rattle.pp_prog.specs.ExprSorts.{Sorting, a_bool, binary_sort, truth_sort}
 use Rattle.pp_prog.specs.Results.{operator_result}
 use Rattle.pp_prog.specs.Sizes.{by_sort}
 use Rattle.pp_prog.proofs.PartSorts.{binary_parts, bool_then}
-use Rattle.pp_prog.proofs.Results.{binary_is}
 use Rattle.pp_estimate.specs.declared.shape.Shape.{Shape}
 use Rattle.pp_estimate.specs.Visits.{Visiting, binary_extra, class_extra, node, shape, visit}
 use Rattle.pp_estimate_laws.proofs.Numbers.{le_same}
@@ -26,16 +25,13 @@ use Rattle.pp_steps.specs.declared.step.Step.TheVariants as steps
 use Rattle.pp_steps.specs.Compile.{Compiling, binary, one, quotient, skipping, unless, when}
 use Rattle.pp_steps.specs.Piece.{Piece, after, asks, bind, demand, joined, plain}
 use Rattle.pp_steps.specs.Sorted.{AllSorted, IsSorted, Sorts}
-use Rattle.pp_steps_gates.proofs.Operators.{operated_binary}
+use Rattle.pp_steps_gates.proofs.Operators.{bits_within, le_more, operated_binary, result_is}
 use Rattle.pp_guess_gates.specs.Measure.{class_gates, operator_gates}
 use Rattle.pp_operators.specs.Gates.{number_gates}
 use Rattle.pp_guess_gates.proofs.Pieces.{Is, IsBit, IsLight, choice_light, demand_light, joined_light, lighter, load}
 use Rattle.pp_guess_gates.proofs.Pieces.{one_light, sorted_left, sorted_one, sorted_right, unless_light, when_light}
 use Rattle.pp_guess_gates.proofs.Prices.{Prices, worth, worth_of_both, worth_of_node}
 use Rattle.pp_guess_gates.proofs.Scopes.{Are, Covers, IsCovered, covered}
-
-le_more : (n : ℕ) → n ≤ n + 64
-le_more n = omega arith
 
 -- two values of a sort are equal or not
 pub equal_low : (s : Sort) → by_sort 64 1 (λ d. 64) s ≤ 64
@@ -46,11 +42,6 @@ equal_low (sort.Tree d) = le_same 64
 module _ (types : TypeTable) where
   equal_within : (s : Sort) (n : ℕ) → by_sort 64 1 (λ d. 64) s ≤ n + 64
   equal_within s n = let low = equal_low s in omega arith
-
-  bits_within : (s : Sort) (n : ℕ) → by_sort 64 1 (λ d. 0) s ≤ n + 64
-  bits_within sort.Int n = omega arith
-  bits_within sort.Bool n = omega arith
-  bits_within (sort.Tree d) n = omega arith
 
   class_fits : (c : OperatorClass) (s : Sort) (p e : Shape) → class_gates types c s ≤ class_extra types c p e + 64
   class_fits class.Equality s p e = equal_within s _
@@ -88,10 +79,6 @@ module _ (types : TypeTable) (σ : Sorts) (ψ : Prices) (left : OpenCall → ℕ
         ∙ ap (λ z. binary_sort op (Some z) (Some (σ y))) hx
         ∙ ap (λ z. binary_sort op (Some a) (Some z)) hy
         ∙ ap (λ z. binary_sort op z (Some b)) (sym oa) ∙ ap (binary_sort op o) (sym qb) ∙ h)
-
-  result_is : (op : BinaryOp) (o q : Option Sort) (r a s : Sort) → o ≡ Some a → r ≡ a → binary_sort op o q ≡ Some s
-      → operator_result op r ≡ s
-  result_is op o q r a s oa ra h = binary_is op o q r s (λ t e. ra ∙ same_Some a t (sym oa ∙ e)) h
 
   module _ (op : BinaryOp) (a b : Compiling) (v w : Visiting) (t u : Sorting) (ha : C a v t) (hb : C b w u) where
     -- an operator that is one step

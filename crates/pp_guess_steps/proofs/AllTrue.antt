@@ -32,7 +32,8 @@ use Rattle.pp_guess_steps.proofs.TiesBack.{tied_at}
 use Rattle.pp_guess_steps.specs.OwnWorld.{own_answer, own_world}
 use Rattle.pp_guess_steps.proofs.OwnWorld.{found_of, hit_of, obeys_own, two_agree}
 
-deep_some : (o : Option Value) (u : Value) → or_deep o ≡ Ok u → o ≡ Some u
+-- an answer that has a value is that value
+pub deep_some : (o : Option Value) (u : Value) → or_deep o ≡ Ok u → o ≡ Some u
 deep_some None u e = cc
 deep_some (Some v) u e = let same : v ≡ u = cc in ap Some same
 

@@ -1,7 +1,7 @@
 -- The second half: values that obey all steps but the open calls, and for which the failing number and all that is
 -- supposed are true, are those of a guess run that fails.
 use Rattle.std.proofs.Common.{◌≡◌, ◌-◌, ℕ, zero, suc, List, [], ◌∷◌, ◌++◌, map, Option}
-use Rattle.std.proofs.Common.{Some, None, Ok, Err, refl, sym, ap, ◌∙◌, subst, arith, Contains}
+use Rattle.std.proofs.Common.{Some, None, Ok, Err, refl, sym, ap, ◌∙◌, subst, Contains}
 use Rattle.std.specs.Prelude.{nat_eq, slice_get}
 use Rattle.std.proofs.lemmas.Bool.{eqb-true}
 use Rattle.pp_prog.specs.declared.expr.Expr.{Expr}
@@ -13,64 +13,30 @@ use Rattle.pp_prog.specs.declared.types.Ctor.{Ctor}
 use Rattle.pp_prog.specs.declared.value.Value.{Value}
 use Rattle.pp_prog.specs.declared.value.Value.TheVariants.{Bool as Truth}
 use Rattle.pp_eval.specs.declared.outcome.Outcome.{Outcome}
-use Rattle.pp_eval.specs.declared.outcome.Outcome.TheVariants.{Done}
 use Rattle.pp_eval.specs.declared.outcome.Stop.{Stop}
 use Rattle.pp_eval.specs.declared.outcome.Stop.TheVariants as stop
 use Rattle.pp_eval.specs.Meaning.{CallMeaning, Frame, meaning}
 use Rattle.pp_eval.specs.Operators.{truth}
-use Rattle.pp_eval.specs.Part.{Part, and_then, either}
-use Rattle.pp_eval.specs.Runs.{finished, run_with, started}
-use Rattle.pp_eval.proofs.Extends.{CallsCover, Extends, allowed_extends, either_extends, expr_covers}
-use Rattle.pp_eval.proofs.Extends.{frame_extends, same_extends, then_extends}
+use Rattle.pp_eval.specs.Part.{Part, and_then}
+use Rattle.pp_eval.specs.Runs.{run_with}
+use Rattle.pp_eval.proofs.Extends.{CallsCover, Extends}
+use Rattle.pp_eval.proofs.Lasts.{run_extends}
 use Rattle.pp_guess_runs.specs.Guess.{called, one_less, or_deep, own}
 use Rattle.pp_steps.specs.Guesses.{Standing, guess_steps}
 use Rattle.pp_steps.specs.Meaning.{Missing, Values, bit}
+use Rattle.pp_steps.proofs.Counting.{minus_zero}
 use Rattle.pp_steps_run.specs.Told.{AllOf, AreValues, On}
 use Rattle.pp_steps_run.proofs.Lasting.{Lasts}
 use Rattle.pp_guess_steps.proofs.OwnFrame.{A, base_of, failed_is, fails_is, fails_told, own_cover}
 use Rattle.pp_guess_steps.specs.Laws.{ObeysRest}
 use Rattle.pp_guess_steps.specs.OpenCalls.{answered, own_answered, own_calls}
-use Rattle.pp_guess_steps.proofs.AllTrue.{all, Own, answers, obeys, all_true}
+use Rattle.pp_guess_steps.proofs.AllTrue.{all, Own, answers, obeys, all_true, deep_some}
+use Rattle.pp_guess_steps.proofs.Failures.{pred_is}
 use Rattle.pp_guess_steps.proofs.OwnWorld.{hit_of}
-
-deep_some : (o : Option Value) (u : Value) → or_deep o ≡ Ok u → o ≡ Some u
-deep_some None u e = cc
-deep_some (Some v) u e = let same : v ≡ u = cc in ap Some same
 
 deep_other : (o : Option Value) (s : Stop) → or_deep o ≡ Err s → s ≡ stop.Deep
 deep_other None s e = let same : stop.Deep ≡ s = cc in sym same
 deep_other (Some v) s e = cc
-
-minus_zero : (n : ℕ) → n - 0 ≡ n
-minus_zero n = omega arith
-
-minus_one : (n : ℕ) → suc n - 1 ≡ n
-minus_one n = omega arith
-
-pred_is : (n : ℕ) → n - 1 ≡ one_less n
-pred_is zero = refl
-pred_is (suc n) = minus_one n
-
--- ---- runs over calls that have more values
-
-module _ (c d : CallMeaning) (more : CallsCover c d) where
-  finished_extends : (post : Option (CheckId × Expr)) (frame : Frame) (args : List Value) (v : Value)
-      → Extends (finished c post frame args v) (finished d post frame args v)
-  finished_extends None frame args v = refl
-  finished_extends (Some post) frame args v =
-      then_extends _ _ _ _ (expr_covers c d more post.1 frame (args ++ v ∷ [])) (λ p.
-      then_extends _ _ _ _ (same_extends (truth p)) (λ t. same_extends
-      (either t (Ok (Done v)) (Err (stop.Fails post.0)))))
-
-  started_extends : (f : Function) (args : List Value) → Extends (started c f args) (started d f args)
-  started_extends f args =
-      then_extends _ _ _ _ (frame_extends c d more f.measure args) (λ frame.
-      then_extends _ _ _ _ (expr_covers c d more f.body frame args) (λ v. finished_extends f.post frame args v))
-
-  run_extends : (f : Function) (args : List Value) → Extends (run_with c f args) (run_with d f args)
-  run_extends f args =
-      then_extends _ _ _ _ (allowed_extends c d more f.pre args)
-      (λ allows. either_extends allows _ _ _ _ (started_extends f args) refl)
 
 module _ (ctors : List Ctor) (functions : List Function) (field : CtorId → ℕ → Value) (ρ : Values) (f : Function)
     (check : CheckId) (N : ℕ) where

@@ -1,10 +1,11 @@
 -- Values that obey all steps but the open calls.
-use Rattle.std.proofs.Common.{◌≡◌, ℕ, suc, ◌+◌, List, [], ◌∷◌, ◌++◌, length, subst, arith}
+use Rattle.std.proofs.Common.{ℕ, suc, ◌+◌, List, [], ◌∷◌, ◌++◌, length, subst}
 use Rattle.pp_prog.specs.declared.types.Ctor.{Ctor}
 use Rattle.pp_prog.specs.declared.value.Value.{Value}
 use Rattle.pp_steps.specs.declared.step.Step.{Step}
 use Rattle.pp_steps.specs.declared.step.Step.TheVariants as steps
 use Rattle.pp_steps.specs.Meaning.{Does, Missing, Obeys, Values}
+use Rattle.pp_steps.proofs.Counting.{plus_none, plus_suc}
 use Rattle.pp_steps_run.specs.Told.{AllOf}
 use Rattle.pp_guess_steps.specs.Laws.{DoesRest, ObeysRest}
 use Rattle.pp_guess_steps.proofs.CallsPaired.{IsNoCall}
@@ -15,12 +16,6 @@ AllNoCall = AllOf IsNoCall
 pub quiet_join : (xs ys : List Step) → AllNoCall xs → AllNoCall ys → AllNoCall (xs ++ ys)
 quiet_join [] ys h g = g
 quiet_join (x ∷ xs) ys h g = (h.0, quiet_join xs ys h.1 g)
-
-plus_suc : (a b : ℕ) → suc a + b ≡ a + suc b
-plus_suc a b = omega arith
-
-plus_none : (a : ℕ) → a ≡ a + 0
-plus_none a = omega arith
 
 module _ (ctors : List Ctor) (missing : Missing) (ρ : Values) where
   pub rest_left : (k : ℕ) (xs ys : List Step) → ObeysRest ctors missing ρ k (xs ++ ys) → ObeysRest ctors missing ρ k xs

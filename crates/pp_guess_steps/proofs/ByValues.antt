@@ -12,10 +12,9 @@ use Rattle.pp_eval.specs.Meaning.{CallMeaning, Frame, meaning}
 use Rattle.pp_eval.specs.Part.{Part, inside}
 use Rattle.pp_run_laws.proofs.ExprFollows.{expr_follows}
 use Rattle.pp_run_laws.proofs.Follows.{Follows, Kept}
-use Rattle.pp_run_laws.proofs.Stops.{IsClosed}
 use Rattle.pp_guess_runs.specs.Answers.{Answers}
 use Rattle.pp_guess_runs.specs.Guess.{called, or_deep, unfolded}
-use Rattle.pp_guess_steps.proofs.FuelsAgree.{AnyStop}
+use Rattle.pp_guess_steps.proofs.FuelsAgree.{AnyStop, any_closed}
 
 -- a failing check of the frame itself
 abbrev pub OwnStop : Stop → Type 0
@@ -26,9 +25,6 @@ OwnStop stop.Stuck = ⊥
 
 pub own_inner : (g : FunctionId) (c : CheckId) → OwnStop (stop.Inner g c) → OwnStop (stop.Fails c)
 own_inner g c h = tt
-
-any_closed : IsClosed AnyStop
-any_closed = record { fails = λ c. tt; stuck = tt }
 
 abbrev pub value_only : Part Value → Part Value
 value_only (Ok v) = Ok v

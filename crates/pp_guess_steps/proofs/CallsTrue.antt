@@ -1,6 +1,7 @@
 -- The second half: calls that are reached and have answers are those of the guess run whose table they are.
 use Rattle.std.proofs.Common.{◌≡◌, ◌≤◌, ◌<◌, ◌-◌, ℕ, zero, suc, Bool, true, false, List, [], ◌∷◌, ◌++◌, map, Option}
 use Rattle.std.proofs.Common.{Some, None, Ok, Err, refl, sym, ap, ◌∙◌, subst, arith, Contains}
+use Rattle.std.proofs.lemmas.Bool.{and_parts}
 use Rattle.std.specs.Prelude.{slice_get, ◌&&◌, not}
 use Rattle.pp_tree.specs.declared.operator.BinaryOp.TheVariants.{Equal}
 use Rattle.pp_prog.specs.declared.expr.Expr.{Expr}
@@ -26,21 +27,16 @@ use Rattle.pp_steps.specs.Guesses.{Standing, asking, holding, implying, params_o
 use Rattle.pp_steps.specs.Meaning.{Missing, Values, bit}
 use Rattle.pp_steps.specs.Piece.{Piece, after, demand, joined, plain}
 use Rattle.pp_steps_run.specs.Told.{AreValues, IsMade, IsTold, IsValue, Off, On}
-use Rattle.pp_steps_run.proofs.Calls.{AreSites, right_in}
+use Rattle.pp_steps_run.proofs.Calls.{AreSites, right_in, values_at}
 use Rattle.pp_steps_run.proofs.Lasting.{Lasts, lasts_first, truth_is}
 use Rattle.pp_steps_run.proofs.Patterns.{are_more}
 use Rattle.pp_steps_run.proofs.Pieces.{bit_truth, made_left, made_right}
-use Rattle.pp_guess_steps.proofs.Ties.{both_on}
 use Rattle.pp_guess_steps.specs.OpenCalls.{answered}
 use Rattle.pp_guess_steps.proofs.OpenCalls.{asking_site}
+use Rattle.pp_guess_steps.proofs.PairsBack.{holds_then}
 
 no_bit : {A : Type 0} (b : Bool) → b ≡ true → b ≡ false → A
 no_bit b e f = let no : true ≡ false = sym e ∙ f in absurd (cc)
-
-holds_then : (a b : Bool) → not (a && not b) ≡ true → a ≡ true → b ≡ true
-holds_then true true h e = refl
-holds_then true false h e = cc
-holds_then false b h e = cc
 
 extends_ok : (p q : Part Value) (v : Value) → Extends p q → p ≡ Ok v → q ≡ Ok v
 extends_ok (Ok u) q v h e = h ∙ e
@@ -96,10 +92,6 @@ module _ (ctors : List Ctor) (functions : List Function) (N : ℕ) (ρ : Values)
       site = λ ks frame is. asking_site ctors missing ρ functions w None frame (Full w);
     }
 
-    values_at : (ks : List ℕ) → AreValues ρ ks (map ρ ks)
-    values_at [] = tt
-    values_at (k ∷ ks) = (refl, values_at ks)
-
     -- an expression that has a value where the steps say so
     ok_where_alive : (w : ℕ) (e : Expr) (k : ℕ) (env : List ℕ) (reach : ℕ)
         → Made k (compile None (asking functions w) e k env reach) → (vs : List Value) → On ρ reach → AreValues ρ env vs
@@ -125,7 +117,7 @@ module _ (ctors : List Ctor) (functions : List Function) (N : ℕ) (ρ : Values)
 
     demanded : (k alive test : ℕ) → Made k (demand false k alive test) → On ρ (demand false k alive test).alive
         → On ρ alive × On ρ test
-    demanded k alive test h on = both_on (bit (ρ alive)) (bit (ρ test)) (sym (ap bit h.steps.0 ∙ bit_truth _) ∙ on)
+    demanded k alive test h on = and_parts (bit (ρ alive)) (bit (ρ test)) (sym (ap bit h.steps.0 ∙ bit_truth _) ∙ on)
 
     implied : (k a b : ℕ) → Made k (implying k a b) → On ρ (implying k a b).out → On ρ a → On ρ b
     implied k a b h on =
@@ -208,7 +200,7 @@ module _ (ctors : List Ctor) (functions : List Function) (N : ℕ) (ρ : Values)
           let first = lasts_first
           (meaning (Full w) post.1 None (args_of c ++ ρ c.result ∷ [])) truth lasts in
           let is = ok_where_alive w post.1 i (c.call.args ++ c.result ∷ []) reach gx (args_of c ++ ρ c.result ∷ []) r
-          (are_more ρ c.call.args (c.result ∷ []) (args_of c) (ρ c.result ∷ []) (values_at c.call.args) (refl, tt))
+          (are_more ρ c.call.args (c.result ∷ []) (args_of c) (ρ c.result ∷ []) (values_at ρ c.call.args) (refl, tt))
           first
           both.0 in
           let whole = extends_ok _ _ _ (expr_covers (Ans w) (Full w) (known.cover w) post.1 None
@@ -233,7 +225,7 @@ module _ (ctors : List Ctor) (functions : List Function) (N : ℕ) (ρ : Values)
       call_is calls covers only =
           let post = holds f.post refl (after (after (after (after k P) X) E) D) D.alive hz ends in
           let both = demanded (after (after (after k P) X) E) X.alive (after (after k P) X) hd post.0 in
-          let is = ok_where_alive w f.body (after k P) c.call.args k hx (args_of c) reached (values_at c.call.args)
+          let is = ok_where_alive w f.body (after k P) c.call.args k hx (args_of c) reached (values_at ρ c.call.args)
           (known.body_lasts c f there here) both.0 in
           let same : equal (ρ X.out) (ρ c.result) ≡ true = sym (ap bit h2.steps.0 ∙ bit_truth _) ∙ both.1 in
           let body = extends_ok _ _ _ (expr_covers (Ans w) calls covers f.body None (args_of c)) is

@@ -17,6 +17,7 @@ use Rattle.pp_guess_runs.specs.Guess.{called, one_less, own}
 use Rattle.pp_steps.specs.declared.step.Step.{Step}
 use Rattle.pp_steps.specs.Guesses.{guess_steps}
 use Rattle.pp_steps.specs.Meaning.{Obeys, Values}
+use Rattle.pp_steps.proofs.Counting.{minus_one, minus_zero}
 use Rattle.pp_steps_run.specs.Told.{AllOf, AreValues, On}
 use Rattle.pp_steps_run.proofs.Lasting.{Lasts}
 use Rattle.pp_steps_run.proofs.Pieces.{obeys_left}
@@ -27,15 +28,10 @@ use Rattle.pp_guess_steps.proofs.Rounds.{Paired, agreement_on, grown_on, less_be
 use Rattle.pp_guess_steps.proofs.ByValues.{OwnStop, own_inner}
 use Rattle.pp_guess_steps.proofs.RunsKeep.{CallsKeep, Keeps, own_keep, run_keeps}
 
-minus_one : (n : ℕ) → suc n - 1 ≡ n
-minus_one n = omega arith
-
-pred_is : (n : ℕ) → n - 1 ≡ one_less n
+-- one less, by subtraction
+pub pred_is : (n : ℕ) → n - 1 ≡ one_less n
 pred_is zero = refl
 pred_is (suc n) = minus_one n
-
-minus_zero : (n : ℕ) → n - 0 ≡ n
-minus_zero n = omega arith
 
 abbrev pub failing : CheckId → Part Outcome
 failing c = Err (stop.Fails c)

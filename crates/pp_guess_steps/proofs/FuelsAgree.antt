@@ -30,7 +30,8 @@ AnyStop s = Unit {0}
 abbrev pub NoStop : Stop → Type 0
 NoStop s = ⊥
 
-any_closed : IsClosed AnyStop
+-- any stop is one that may be
+pub any_closed : IsClosed AnyStop
 any_closed = record { fails = λ c. tt; stuck = tt }
 
 abbrev pub or_part : Part Value → Part Value → Part Value

@@ -13,6 +13,7 @@ use Rattle.pp_prog.specs.declared.value.Value.TheVariants.{Bool as Truth}
 use Rattle.pp_eval.specs.Equality.{equal, pass_all}
 use Rattle.pp_guess_runs.proofs.Tables.{list_self, lists_same}
 use Rattle.std.proofs.lemmas.List.Elements.{Contains-append_cases, Contains-append_right}
+use Rattle.std.proofs.lemmas.List.{append_assoc}
 use Rattle.pp_checks.proofs.Tallest.{at_head, head_or}
 use Rattle.pp_guess_steps.proofs.Members.{at_tail, nothing_in}
 use Rattle.pp_steps.specs.declared.step.Step.{Step}
@@ -30,10 +31,6 @@ eqb_swap a b h = eq-eqb b a (sym (eqb-true a b h))
 
 pub same_function : (c d : FunctionId) → nat_eq c.0 d.0 ≡ true → c ≡ d
 same_function c d h = let mk : ℕ → FunctionId = λ n. record { 0 = n } in ap mk (eqb-true c.0 d.0 h)
-
-assoc : (xs ys zs : List Standing) → (xs ++ ys) ++ zs ≡ xs ++ (ys ++ zs)
-assoc [] ys zs = refl
-assoc (x ∷ xs) ys zs = ap (λ l. x ∷ l) (assoc xs ys zs)
 
 -- ---- any two calls of a list agree
 
@@ -76,7 +73,7 @@ module _ (ctors : List Ctor) (missing : Missing) (ρ : Values) where
           → nat_eq u.call.callee.0 v.call.callee.0 ≡ true → Agree u v
 
       at_x : Contains ((olds ++ x ∷ []) ++ xs) x
-      at_x = subst (λ l. Contains l x) (sym (assoc olds (x ∷ []) xs))
+      at_x = subst (λ l. Contains l x) (sym (append_assoc olds (x ∷ []) xs))
           (Contains-append_right olds (x ∷ xs) x (at_head x xs))
 
       first : x ≡ c → Contains olds d ⊎ Contains (x ∷ xs) d
@@ -96,7 +93,7 @@ module _ (ctors : List Ctor) (missing : Missing) (ρ : Values) where
           → nat_eq u.call.callee.0 v.call.callee.0 ≡ true → Agree u v) → Agree c d
       by (inl is) place later = first is place later
       by (inr there) place later =
-          later c d there (subst (λ l. Contains l d) (sym (assoc olds (x ∷ []) xs)) hd) e
+          later c d there (subst (λ l. Contains l d) (sym (append_assoc olds (x ∷ []) xs)) hd) e
 
 -- ---- the world
 

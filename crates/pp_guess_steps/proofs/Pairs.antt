@@ -2,7 +2,7 @@
 use Rattle.std.proofs.Common.{◌≡◌, ℕ, suc, ◌-◌, Bool, true, false, List, [], ◌∷◌, ◌++◌, map, None, Ok, refl, sym, ap}
 use Rattle.std.proofs.Common.{◌∙◌, subst}
 use Rattle.std.specs.Prelude.{nat_eq}
-use Rattle.std.proofs.lemmas.Bool.{eqb-true}
+use Rattle.std.proofs.lemmas.Bool.{and_parts, eqb-true}
 use Rattle.pp_tree.specs.declared.operator.BinaryOp.TheVariants.{Equal}
 use Rattle.pp_prog.specs.declared.expr.Function.{Function}
 use Rattle.pp_prog.specs.declared.id.CtorId.{CtorId}
@@ -21,7 +21,7 @@ use Rattle.pp_steps.specs.Piece.{Piece, after, joined, plain}
 use Rattle.pp_steps_run.specs.Told.{AllOf, IsMade, On}
 use Rattle.pp_steps_run.proofs.Pieces.{all_join, bit_truth, made_left, made_right}
 use Rattle.pp_guess_steps.proofs.FuelsAgree.{calls_agree}
-use Rattle.pp_guess_steps.proofs.Ties.{IsHonest, answer_there, both_on, implying_on, some_value}
+use Rattle.pp_guess_steps.proofs.Ties.{IsHonest, answer_there, implying_on, some_value}
 use Rattle.pp_guess_steps.specs.OpenCalls.{world}
 
 same_id : (c d : FunctionId) → nat_eq c.0 d.0 ≡ true → c ≡ d
@@ -49,7 +49,7 @@ module _ (ctors : List Ctor) (functions : List Function) (W : Answers) (field : 
       let q = equal_all (after k p) xs ys (suc k) in
       let rest = equal_are (after k p) xs ys (suc k) (made_right ctors (world functions W field N) ρ k p
       q h) on in
-      let both = both_on (bit (ρ test)) (bit (ρ k)) (sym (ap bit h.steps.1.0 ∙ bit_truth _) ∙ rest.1) in
+      let both = and_parts (bit (ρ test)) (bit (ρ k)) (sym (ap bit h.steps.1.0 ∙ bit_truth _) ∙ rest.1) in
       let same : equal (ρ x) (ρ y) ≡ true = sym (ap bit h.steps.0 ∙ bit_truth _) ∙ both.1 in
       (ap (λ v. v ∷ map ρ xs) (equal_same (ρ x) (ρ y) same) ∙ ap (λ vs. ρ y ∷ vs) rest.0, both.0)
 
@@ -100,8 +100,8 @@ module _ (ctors : List Ctor) (functions : List Function) (W : Answers) (field : 
           implying_on ctors functions W field N ρ (after k p) (suc k) (suc (suc k))
               (made_left ctors (world functions W field N) ρ (after k p) q r hq)
               (λ on.
-              let b = both_on (bit (ρ k)) (bit (ρ d.has)) (sym (ap bit h.steps.1.0 ∙ bit_truth _) ∙ on) in
-              let a = both_on (bit (ρ near)) (bit (ρ c.has)) (sym (ap bit h.steps.0 ∙ bit_truth _) ∙ b.0) in
+              let b = and_parts (bit (ρ k)) (bit (ρ d.has)) (sym (ap bit h.steps.1.0 ∙ bit_truth _) ∙ on) in
+              let a = and_parts (bit (ρ near)) (bit (ρ c.has)) (sym (ap bit h.steps.0 ∙ bit_truth _) ∙ b.0) in
               let n = is a.0 in
               let u = answer_there ctors functions W field N ρ c hc n.first a.1 in
               let v = answer_there ctors functions W field N ρ d hd n.second b.1 in
@@ -134,8 +134,8 @@ module _ (ctors : List Ctor) (functions : List Function) (W : Answers) (field : 
         let h2 = made_right ctors w ρ n p (joined a (joined e z)) h1 in
         let h3 = made_right ctors w ρ m a (joined e z) h2 in
         let near = λ (on : On ρ (suc n)).
-        (let b = both_on (bit (ρ n)) (bit (ρ d.call.reach)) (sym (ap bit h1.steps.1.0 ∙ bit_truth _) ∙ on) in
-        let f = both_on (bit (ρ s.out)) (bit (ρ c.call.reach)) (sym (ap bit h1.steps.0 ∙ bit_truth _) ∙ b.0) in
+        (let b = and_parts (bit (ρ n)) (bit (ρ d.call.reach)) (sym (ap bit h1.steps.1.0 ∙ bit_truth _) ∙ on) in
+        let f = and_parts (bit (ρ s.out)) (bit (ρ c.call.reach)) (sym (ap bit h1.steps.0 ∙ bit_truth _) ∙ b.0) in
         let args = equal_are k c.call.args d.call.args true_one
         (made_left ctors w ρ k s (joined p (joined a (joined e z))) h) f.0 in
         let r : AreNear = record { first = f.1; second = b.1; args = args.0 } in r) in

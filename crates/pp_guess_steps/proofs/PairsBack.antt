@@ -16,7 +16,8 @@ use Rattle.std.proofs.lemmas.Bool.{eq-eqb}
 use Rattle.pp_steps_run.specs.Told.{AllOf, IsMade, On}
 use Rattle.pp_steps_run.proofs.Pieces.{all_left, all_right, bit_truth, made_left, made_right}
 
-holds_then : (a b : Bool) → not (a && not b) ≡ true → a ≡ true → b ≡ true
+-- what an implication and its premise give
+pub holds_then : (a b : Bool) → not (a && not b) ≡ true → a ≡ true → b ≡ true
 holds_then true true h e = refl
 holds_then true false h e = cc
 holds_then false b h e = cc

@@ -7,7 +7,8 @@ use Rattle.pp_prog.specs.declared.expr.Expr.{Expr}
 use Rattle.pp_prog.specs.declared.expr.Function.{Function}
 use Rattle.pp_prog.specs.declared.id.CheckId.{CheckId}
 use Rattle.pp_prog.specs.declared.id.FunctionId.{FunctionId}
-use Rattle.pp_steps.proofs.Counting.{less_suc, self_less}
+use Rattle.pp_steps.proofs.Counting.{first_one, first_two, less_suc, second_three, second_two, self_less, two_up}
+use Rattle.pp_steps.proofs.Counting.{less_later, third_three}
 use Rattle.pp_steps.specs.declared.step.Step.TheVariants as steps
 use Rattle.pp_steps.specs.Compile.{Site, compile}
 use Rattle.pp_steps.specs.Frames.{Frame, admitting, descending, measuring}
@@ -22,29 +23,11 @@ use Rattle.pp_steps_exist.proofs.Forms.{SiteStays, below_end}
 use Rattle.pp_steps_exist.proofs.Within.{IsWithin, LessOne, at_most, below_join, below_later, demand_within}
 use Rattle.pp_steps_exist.proofs.Within.{joined_within, one_within, plain_within, up}
 
-two_up : (a k : ℕ) → a < k → a < suc (suc k)
-two_up a k h = omega arith
-
 two_self : (k : ℕ) → k < suc (suc k)
 two_self k = omega arith
 
 le_suc : (k : ℕ) → k ≤ suc k
 le_suc k = omega arith
-
-first_one : (k : ℕ) → k < k + 1
-first_one k = omega arith
-
-first_two : (k : ℕ) → k < k + 2
-first_two k = omega arith
-
-second_two : (k : ℕ) → suc k < k + 2
-second_two k = omega arith
-
-second_three : (k : ℕ) → suc k < k + 3
-second_three k = omega arith
-
-third_three : (k : ℕ) → suc (suc k) < k + 3
-third_three k = omega arith
 
 -- ---- calls
 
@@ -109,9 +92,6 @@ pub record IsBefore (k : ℕ) (c : Standing) : Type 0 where
   pub args : Below k c.call.args
   pub has : c.has < k
   pub result : c.result < k
-
-less_later : (a k n : ℕ) → k ≤ n → a < k → a < n
-less_later a k n le h = omega arith
 
 pub before_later : (k n : ℕ) → k ≤ n → (c : Standing) → IsBefore k c → IsBefore n c
 before_later k n le c h = record {

@@ -6,7 +6,8 @@ use Rattle.pp_tree.specs.declared.operator.BinaryOp.TheVariants.{Equal}
 use Rattle.pp_prog.specs.declared.expr.Function.{Function}
 use Rattle.pp_prog.specs.declared.id.CheckId.{CheckId}
 use Rattle.pp_prog.specs.Sorts.{param_sorts}
-use Rattle.pp_steps.proofs.Counting.{less_suc, self_less, zero_plus}
+use Rattle.pp_steps.proofs.Counting.{first_one, less_suc, second_three, second_two, self_less, third_three, zero_plus}
+use Rattle.pp_steps.proofs.Counting.{le_trans, less_later}
 use Rattle.pp_steps.specs.declared.step.Step.{Step}
 use Rattle.pp_steps.specs.declared.step.Step.TheVariants as steps
 use Rattle.pp_steps.specs.Guesses.{GuessSteps, Standing, agreeing, agreeing_with, all_agreeing, all_unfolded}
@@ -28,24 +29,6 @@ use Rattle.pp_guess_steps.proofs.Reading.{IsBefore, all_later, before_later, gue
 use Rattle.pp_guess_steps.proofs.Reading.{unfolded_within}
 use Rattle.pp_guess_steps.proofs.Rounds.{Paired}
 use Rattle.pp_guess_steps.proofs.StandingAgree.{mid}
-
-second_two : (k : ℕ) → suc k < k + 2
-second_two k = omega arith
-
-second_three : (k : ℕ) → suc k < k + 3
-second_three k = omega arith
-
-third_three : (k : ℕ) → suc (suc k) < k + 3
-third_three k = omega arith
-
-first_one : (k : ℕ) → k < k + 1
-first_one k = omega arith
-
-less_later : (a k n : ℕ) → k ≤ n → a < k → a < n
-less_later a k n le h = omega arith
-
-le_trans : (a b c : ℕ) → a ≤ b → b ≤ c → a ≤ c
-le_trans a b c h g = omega arith
 
 -- numbers below k, of an outcome
 abbrev LessAll : ℕ → List ℕ → Type 0

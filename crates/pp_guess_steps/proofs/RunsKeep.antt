@@ -19,12 +19,8 @@ use Rattle.pp_eval.specs.Part.{Part, and_then, either, failed, inside}
 use Rattle.pp_eval.specs.Runs.{finished, run_with, started}
 use Rattle.pp_run_laws.proofs.ExprFollows.{expr_follows}
 use Rattle.pp_run_laws.proofs.Follows.{Follows, Kept}
-use Rattle.pp_run_laws.proofs.Stops.{IsClosed}
 use Rattle.pp_guess_runs.specs.Guess.{compared, is_check, own_call}
-use Rattle.pp_guess_steps.proofs.FuelsAgree.{AnyStop}
-
-any_closed : IsClosed AnyStop
-any_closed = record { fails = λ c. tt; stuck = tt }
+use Rattle.pp_guess_steps.proofs.FuelsAgree.{AnyStop, any_closed}
 
 -- of the stops, those in S are kept
 module _ (S : Stop → Type 0) (inner : (g : FunctionId) (c : CheckId) → S (stop.Inner g c) → S (stop.Fails c)) where

@@ -5,7 +5,6 @@ use Rattle.std.proofs.Common.{sym, ap, ◌∙◌, subst, Contains, inl, inr, sli
 use Rattle.std.specs.Prelude.{nat_eq, IsTrue, is_some, None, Some, true, refl, if◌then◌else◌}
 use Rattle.std.proofs.lemmas.Bool.{eq-eqb}
 use Rattle.std.proofs.Math.Logic.{∥∥₁_elim}
-use Rattle.std.proofs.Props.{props}
 use Rattle.pp_prog.specs.declared.expr.Function.{Function}
 use Rattle.pp_prog.specs.declared.id.CheckId.{CheckId}
 use Rattle.pp_prog.specs.declared.id.CtorId.{CtorId}
@@ -15,6 +14,7 @@ use Rattle.pp_prog.specs.declared.value.Value.{Value}
 use Rattle.pp_prog.specs.declared.value.Value.TheVariants.{Bool as Truth}
 use Rattle.pp_prog.specs.Sorts.{has_sort, param_sorts}
 use Rattle.pp_prog.proofs.ValueSorts.{Has, Have, bool_value}
+use Rattle.pp_prog.proofs.Sure.{bool_prop}
 use Rattle.pp_checks.proofs.Tallest.{head_or}
 use Rattle.pp_eval.specs.declared.outcome.Stop.TheVariants as stop
 use Rattle.pp_eval.specs.Meaning.{CallMeaning}
@@ -44,9 +44,6 @@ use Rattle.pp_guess_steps.proofs.Reading.{IsBefore}
 use Rattle.pp_guess_steps.proofs.RoundsRead.{guess_read, standing_before}
 use Rattle.pp_guess_steps.proofs.SolvedSorted.{all_have}
 use Rattle.pp_guess_steps.proofs.Sorting.{IsCallSorted, standing_sorted}
-
-bool_prop : {a b : Bool} → IsProp (a ≡ b)
-bool_prop = hlevel props
 
 at_end : (n : ℕ) → 0 + n ≤ n
 at_end n = omega arith

@@ -4,11 +4,12 @@ use Rattle.std.proofs.Common.{refl, sym, ap}
 use Rattle.std.proofs.Common.{◌∙◌, subst, arith}
 use Rattle.std.specs.Prelude.{nat_lt, if◌then◌else◌}
 use Rattle.std.proofs.lemmas.Bool.Decides.{nat_tests}
+use Rattle.std.proofs.lemmas.List.{append_assoc}
 use Rattle.pp_prog.specs.declared.expr.Function.{Function}
 use Rattle.pp_prog.specs.declared.id.CheckId.{CheckId}
 use Rattle.pp_prog.specs.declared.types.Ctor.{Ctor}
 use Rattle.pp_prog.specs.Sorts.{param_sorts}
-use Rattle.pp_steps.proofs.Counting.{zero_plus}
+use Rattle.pp_steps.proofs.Counting.{plus_none, plus_suc, zero_plus}
 use Rattle.pp_steps.specs.declared.step.Step.{Step}
 use Rattle.pp_steps.specs.declared.step.Step.TheVariants as steps
 use Rattle.pp_steps.specs.Frames.{open_step}
@@ -47,26 +48,16 @@ standing_cons (steps.IsAlike a b) k ss = refl
 standing_cons (steps.GoesDown a b) k ss = refl
 standing_cons (steps.Answer c) k ss = refl
 
-assoc : (xs ys zs : List Standing) → (xs ++ ys) ++ zs ≡ xs ++ (ys ++ zs)
-assoc [] ys zs = refl
-assoc (x ∷ xs) ys zs = ap (λ l. x ∷ l) (assoc xs ys zs)
-
 right_none : (xs : List Standing) → xs ++ [] ≡ xs
 right_none [] = refl
 right_none (x ∷ xs) = ap (λ l. x ∷ l) (right_none xs)
-
-plus_suc : (a b : ℕ) → suc a + b ≡ a + suc b
-plus_suc a b = omega arith
-
-plus_none : (a : ℕ) → a ≡ a + 0
-plus_none a = omega arith
 
 standing_join : (k : ℕ) (xs ys : List Step) → standing k (xs ++ ys) ≡ standing k xs ++ standing (k + length xs) ys
 standing_join k [] ys = ap (λ i. standing i ys) (plus_none k)
 standing_join k (x ∷ xs) ys =
     standing_cons x k (xs ++ ys)
     ∙ ap (λ l. standing k (x ∷ []) ++ l) (standing_join (suc k) xs ys)
-    ∙ sym (assoc (standing k (x ∷ [])) (standing (suc k) xs) (standing (suc k + length xs) ys))
+    ∙ sym (append_assoc (standing k (x ∷ [])) (standing (suc k) xs) (standing (suc k + length xs) ys))
     ∙ ap (λ l. l ++ standing (suc k + length xs) ys) (sym (standing_cons x k xs))
     ∙ ap (λ i. standing k (x ∷ xs) ++ standing i ys) (plus_suc k (length xs))
 
@@ -277,7 +268,7 @@ module _ (ctors : List Ctor) (missing : Missing) (ρ : Values) where
   agree_join : (xs ys olds : List Standing) → Agree olds xs → Agree (olds ++ xs) ys → Agree olds (xs ++ ys)
   agree_join [] ys olds h g = subst (λ l. Agree l ys) (right_none olds) g
   agree_join (x ∷ xs) ys olds h g =
-      (h.0, agree_join xs ys (olds ++ x ∷ []) h.1 (subst (λ l. Agree l ys) (sym (assoc olds (x ∷ []) xs)) g))
+      (h.0, agree_join xs ys (olds ++ x ∷ []) h.1 (subst (λ l. Agree l ys) (sym (append_assoc olds (x ∷ []) xs)) g))
 
   -- the agreement of what is new
   agreement_back : (n : ℕ) (g : GuessSteps) → ObeysRest ctors missing ρ 0 (with_agreement n g).steps

@@ -1,6 +1,7 @@
 -- What is supposed of calls that are unfolded holds in values that obey the steps in the world of the answers.
 use Rattle.std.proofs.Common.{◌≡◌, ◌<◌, ◌-◌, ℕ, zero, suc, Bool, true, false, List, [], ◌∷◌, ◌++◌, map, Option, Some}
 use Rattle.std.proofs.Common.{None, Ok, Err, refl, sym, ap, ◌∙◌, subst, arith}
+use Rattle.std.proofs.lemmas.Bool.{and_parts}
 use Rattle.std.specs.Prelude.{slice_get, ◌&&◌, not}
 use Rattle.pp_tree.specs.declared.operator.BinaryOp.TheVariants.{Equal}
 use Rattle.pp_prog.specs.declared.expr.Expr.{Expr}
@@ -27,7 +28,7 @@ use Rattle.pp_steps.specs.Guesses.{Standing, asking, holding, implying, unfolded
 use Rattle.pp_steps.specs.Meaning.{Missing, Values, answer_of, bit, is_answered}
 use Rattle.pp_steps.specs.Piece.{Piece, after, demand, joined, plain}
 use Rattle.pp_steps_run.specs.Told.{AreValues, IsMade, IsTold, IsValue, On}
-use Rattle.pp_steps_run.proofs.Calls.{AreSites, right_in}
+use Rattle.pp_steps_run.proofs.Calls.{AreSites, right_in, values_at}
 use Rattle.pp_steps_run.proofs.Choices.{demand_on}
 use Rattle.pp_steps_run.proofs.Lasting.{Lasts, truth_is}
 use Rattle.pp_steps_run.proofs.Pieces.{bit_truth, made_left, made_right}
@@ -58,11 +59,6 @@ kept_ok (Err s) q a h e = cc
 ok_lasts : {A : Type 0} (part : Part A) (a : A) → part ≡ Ok a → Lasts part
 ok_lasts (Ok b) a e = record { lasts = λ d. absurd (cc); meant = λ d. absurd (cc) }
 ok_lasts (Err s) a e = cc
-
-pub both_on : (a b : Bool) → (a && b) ≡ true → (a ≡ true) × (b ≡ true)
-both_on true true e = (refl, refl)
-both_on true false e = cc
-both_on false b e = cc
 
 not_both : (a b : Bool) → ((a ≡ true) → b ≡ true) → not (a && not b) ≡ true
 not_both true true h = refl
@@ -125,10 +121,6 @@ module _ (ctors : List Ctor) (functions : List Function) (W : Answers) (field : 
   pub record IsHonest (c : Standing) : Type 0 where
     pub has : On ρ c.call.reach → ρ c.has ≡ Truth (is_answered (answer_of world ρ c.call))
     pub result : On ρ c.call.reach → (u : Value) → answer_of world ρ c.call ≡ Some u → ρ c.result ≡ u
-
-  values_at : (ks : List ℕ) → AreValues ρ ks (map ρ ks)
-  values_at [] = tt
-  values_at (k ∷ ks) = (refl, values_at ks)
 
   -- the answer of a call that is reached and has one
   pub answer_there : (c : Standing) → IsHonest c → On ρ c.call.reach → On ρ c.has
@@ -252,7 +244,7 @@ module _ (ctors : List Ctor) (functions : List Function) (W : Answers) (field : 
 
         ends_on : On ρ k → On ρ Z.alive
         ends_on on =
-            let d = both_on (bit (ρ c.call.reach)) (bit (ρ c.has)) (sym (ap bit h.steps.0 ∙ bit_truth _) ∙ on) in
+            let d = and_parts (bit (ρ c.call.reach)) (bit (ρ c.has)) (sym (ap bit h.steps.0 ∙ bit_truth _) ∙ on) in
             let u = answer_there c honest d.0 d.1 in
             let p = positive N c.call.wait early in
             let vs = map ρ c.call.args in
@@ -267,7 +259,8 @@ module _ (ctors : List Ctor) (functions : List Function) (W : Answers) (field : 
             let body = kept_ok _ _ u.0 (expr_keeps OwnStop own_inner calls (Ans (suc c.call.wait)) keep f.body None vs)
             parts.body in
             let told = told_value (suc c.call.wait) f.body (after k P) c.call.args k
-            (made_left ctors world ρ (after k P) X (joined E (joined D (joined Z I))) h1) vs on (values_at c.call.args)
+            (made_left ctors world ρ (after k P) X (joined E (joined D (joined Z I))) h1) vs on
+            (values_at ρ c.call.args)
             u.0 body in
             let same : On ρ (after (after k P) X) =
             ap bit h2.steps.0 ∙ bit_truth _ ∙ ap (λ x. equal x (ρ c.result)) told.told.2 ∙ ap (equal u.0) u.2
@@ -277,7 +270,7 @@ module _ (ctors : List Ctor) (functions : List Function) (W : Answers) (field : 
             holding_on (suc c.call.wait) calls keep f.post (after (after (after (after k P) X) E) D)
             (c.call.args ++ c.result ∷ []) D.alive
             (made_left ctors world ρ (after (after (after (after k P) X) E) D) Z I h4) go.0 vs u.0
-            (are_more ρ c.call.args (c.result ∷ []) vs (u.0 ∷ []) (values_at c.call.args) (u.2, tt)) parts.post
+            (are_more ρ c.call.args (c.result ∷ []) vs (u.0 ∷ []) (values_at ρ c.call.args) (u.2, tt)) parts.post
 
     pub unfolded_on : (o : Option Function) → slice_get functions c.call.callee.0 ≡ o → Made k
         (unfolded_of functions o k c)

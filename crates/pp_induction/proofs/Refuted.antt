@@ -6,6 +6,7 @@ use Rattle.pp_prog.specs.declared.expr.Function.{Function}
 use Rattle.pp_prog.specs.declared.id.CheckId.{CheckId}
 use Rattle.pp_prog.specs.declared.program.Program.{Program}
 use Rattle.pp_prog.specs.declared.value.Value.{Value}
+use Rattle.pp_prog.proofs.Sure.{⊥_prop}
 use Rattle.pp_eval.specs.declared.outcome.Outcome.{Outcome}
 use Rattle.pp_eval.specs.declared.outcome.Outcome.TheVariants as outcome
 use Rattle.pp_eval.specs.declared.outcome.Stop.TheVariants.{Deep, Fails, Inner, Stuck}
@@ -65,9 +66,6 @@ pub record Settled {A : Type 0} (V : A → Type 0) (parts : View → ℕ → Par
 module _ (p : Program) (i : ℕ) (old : Frame) (gs : List ℕ) (known : AreKnown p i old gs) where
   abbrev ideal : CallMeaning
   ideal = known_calls p i old gs known
-
-  ⊥_prop : IsProp ⊥
-  ⊥_prop = hlevel
 
   -- a part over calls that are known settles, where the checks that it can fail aren't failed
   pub part_settles : {A : Type 0} (V : A → Type 0) (part : CallMeaning → Part A) (parts : View → ℕ → Part A)

@@ -2,6 +2,7 @@
 use Rattle.std.proofs.Common.{◌≡◌, ◌∙◌, ℕ, zero, suc, ◌+◌, ◌*◌, ◌<◌, ◌≤◌, Bool, true, false, not, ◌&&◌, List, [], ◌∷◌}
 use Rattle.std.proofs.Common.{Option, Some, None, map, length, slice_get, refl, sym, ap, subst, arith, eq-eqb}
 use Rattle.std.proofs.Common.{unwrap_or, if◌then◌else◌}
+use Rattle.std.proofs.lemmas.Bool.{and_parts}
 use Rattle.std.proofs.lemmas.List.{length-map}
 use Rattle.std.proofs.lemmas.Option.{get_or_from_slice_get, slice_get-map, slice_get_within}
 use Rattle.std.specs.Option.{option_map}
@@ -20,14 +21,6 @@ use Rattle.pp_typed.specs.declared.sort.GenericSort.TheFolds.{ind-GenericSort, m
 use Rattle.pp_typed.specs.declared.sort.GenericSort.TheViews.{roll-GenericSort}
 use Rattle.pp_typed.specs.declared.typed.TypedCtor.{TypedCtor}
 use Rattle.pp_typed.specs.declared.typed.TypedRoot.{TypedRoot}
-
-pub both_true : (a b : Bool) → (a && b) ≡ true → (a ≡ true) × (b ≡ true)
-both_true true b e = (refl, e)
-both_true false b e = cc
-
-pub not_true : (a : Bool) → not a ≡ true → a ≡ false
-not_true true e = cc
-not_true false e = refl
 
 -- a sort with arguments put in lives where it lives at the mask of the arguments
 module _ (roots : List TypedRoot) (t : List Bool) (args : List GenericSort) where
@@ -133,7 +126,7 @@ module _ (roots : List TypedRoot) (ctors : List TypedCtor) (t : List Bool) (few 
   pub found : (r : ℕ) (root : TypedRoot) → IsInhabited roots ctors r root → look t r 0 ≡ true
   found r root v =
       let args = params_from 0 root.type_params in
-      let b = both_true (has_arity (slice_get roots r) (length (map (lives roots t 0) args))) (look t r (mask_of (map
+      let b = and_parts (has_arity (slice_get roots r) (length (map (lives roots t 0) args))) (look t r (mask_of (map
       (lives roots t 0) args)))
       (sym (lives-root roots t 0 r args) ∙ finds v) in
       ap (look t r) (sym (params_live 0 root.type_params)) ∙ b.1

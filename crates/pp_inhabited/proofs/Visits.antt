@@ -1,7 +1,7 @@
 -- What visits write and keep.
 use Rattle.std.proofs.Common.{◌≡◌, ◌∙◌, ℕ, zero, suc, ◌≤◌, Bool, true, false, not, ◌&&◌, nat_eq, List, [], ◌∷◌, Option}
 use Rattle.std.proofs.Common.{Some, None, map, length, slice_get, unwrap_or, refl, sym, subst, arith}
-use Rattle.std.proofs.lemmas.Bool.{eqb-true}
+use Rattle.std.proofs.lemmas.Bool.{and_parts, eqb-true, not-true}
 use Rattle.std.proofs.lemmas.List.{length-map}
 use Rattle.std.proofs.lemmas.Option.{get_or_from_slice_get, slice_get_within}
 use Rattle.pp_inhabited.specs.Laws.{FewTypeParams, FitsMask, IsSound}
@@ -9,7 +9,6 @@ use Rattle.pp_typed.specs.Put.{put}
 use Rattle.pp_inhabited.specs.Table.{all_live, has_arity, lives, look, mask_of, is_dead}
 use Rattle.pp_typed.specs.Value.{HasValue, an_int, a_truth, a_param, HaveValues, no_values, more_values}
 use Rattle.pp_inhabited.proofs.Digits.{dead_at, mask_digit, mask_small}
-use Rattle.pp_inhabited.proofs.Exact.{both_true, not_true}
 use Rattle.pp_inhabited.proofs.Layers.{lives-param, lives-root, put-int, put-truth, put-param, put-root}
 use Rattle.pp_typed.specs.declared.sort.GenericSort.{GenericSort}
 use Rattle.pp_typed.specs.declared.sort.GenericSort.TheOpen as layer
@@ -56,7 +55,7 @@ module _ (roots : List TypedRoot) (ctors : List TypedCtor) (t : List Bool) (few 
       → HasValue roots ctors (Root r (map (put args) (sorts_of ys)))
   root_has r ys None there h = cc
   root_has r ys (Some root) there h =
-      let b = both_true (nat_eq (length (map (lives roots t m) (sorts_of ys))) root.type_params) (look t r (mask_of
+      let b = and_parts (nat_eq (length (map (lives roots t m) (sorts_of ys))) root.type_params) (look t r (mask_of
       (map (lives roots t m) (sorts_of ys)))) h in
       let count : length (map (lives roots t m) (sorts_of ys)) ≡ root.type_params = eqb-true _ _ b.0 in
       let le : root.type_params ≤ 4 =
@@ -73,7 +72,7 @@ module _ (roots : List TypedRoot) (ctors : List TypedCtor) (t : List Bool) (few 
   level_has layer.Bool = subst LivesHas (sym rolls-Bool) (λ h. a_truth (put-truth args))
   level_has (layer.Param i) =
       subst LivesHas (sym (rolls-Param i)) (λ h. subst (HasValue roots ctors) (sym (put-param args i))
-      (param_has i (slice_get args i) refl (not_true (is_dead m i) (sym (lives-param roots t m i) ∙ h))))
+      (param_has i (slice_get args i) refl (not-true (is_dead m i) (sym (lives-param roots t m i) ∙ h))))
   level_has (layer.Root r ys) =
       subst LivesHas (sym (rolls-Root r (sorts_of ys))) (λ h. subst (HasValue roots ctors) (sym (put-root args r
       (sorts_of ys)))
@@ -84,5 +83,5 @@ module _ (roots : List TypedRoot) (ctors : List TypedCtor) (t : List Bool) (few 
 
   pub all_have : (ss : List GenericSort) → all_live roots t m ss ≡ true → HaveValues roots ctors (map (put args) ss)
   all_have [] h = no_values
-  all_have (s ∷ ss) h = let b = both_true (lives roots t m s) (all_live roots t m ss) h in
+  all_have (s ∷ ss) h = let b = and_parts (lives roots t m s) (all_live roots t m ss) h in
       more_values (lives_has s b.0) (all_have ss b.1)

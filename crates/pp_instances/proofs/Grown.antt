@@ -6,12 +6,11 @@ use Rattle.std.specs.Prelude.{if◌then◌else◌, nat_eq, slice_get}
 use Rattle.std.proofs.lemmas.Option.{get_or_from_slice_get, slice_get-get_or}
 use Rattle.std.specs.List.{list_any}
 use Rattle.std.proofs.lemmas.Bool.{eqb-true}
-use Rattle.std.proofs.lemmas.List.{append-nil, take_more, take_all, take-append-le}
+use Rattle.std.proofs.lemmas.List.{append-nil, take_more, take_all, take-append-le, map_push}
 use Rattle.std.proofs.lemmas.List.Elements.{Contains-append_left, Contains-append_right, Contains-push}
 use Rattle.std.proofs.lemmas.List.Elements.{Contains-push_cases, Contains-append_cases, Contains-get_or}
 use Rattle.std.proofs.lemmas.Map.Views.{Contains-from_any}
 use Rattle.pp_instances.proofs.Kept.{nothing_in}
-use Rattle.pp_instances.proofs.Parts.{map_push}
 use Rattle.pp_instances.specs.Closure.{Distinct, Used, at_start, by_use, IsClosure, HasMore, HasInstance, Filled}
 use Rattle.pp_instances.specs.Closure.{has_some, FillsOver, IsCause}
 use Rattle.pp_instances.specs.Decides.{same_is}

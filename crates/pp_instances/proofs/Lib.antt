@@ -4,3 +4,4 @@ pub mod Fed
 pub mod Kept
 pub mod Grown
 pub mod Pieces
+pub mod Decls

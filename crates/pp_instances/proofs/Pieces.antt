@@ -1,8 +1,8 @@
 -- Printed names, piece by piece.
 use Rattle.std.proofs.Common.{◌≡◌, ℕ, zero, suc, ◌+◌, ◌<◌, ◌≤◌, List, [], ◌∷◌, ◌++◌, map, take, drop, length, get_or}
 use Rattle.std.proofs.Common.{refl, sym, ap, ◌∙◌, append_assoc, arith}
-use Rattle.std.proofs.lemmas.List.{take_more, take_all}
-use Rattle.pp_instances.proofs.Parts.{joined_push, map_push, two_parts}
+use Rattle.std.proofs.lemmas.List.{take_more, take_all, map_push}
+use Rattle.pp_instances.proofs.Parts.{joined_push, two_parts}
 use Rattle.pp_instances.specs.Names.{after_comma, bracketed, printed_later, printed_sort}
 use Rattle.pp_instances.specs.Same.{joined}
 use Rattle.pp_typed.specs.declared.sort.GenericSort.{GenericSort}

@@ -14,7 +14,8 @@ use Rattle.pp_instances.specs.declared.member.Member.{Member}
 use Rattle.pp_known.proofs.Listed.{args_have_types, declared, function_place, root_listed, root_of_member, root_place}
 use Rattle.pp_known.proofs.Listed.{root_within}
 use Rattle.pp_known.specs.SettingOf.{AreTranslated, IsSettingOf}
-use Rattle.pp_members.proofs.Lists.{element, first_in, joined_in}
+use Rattle.pp_list.proofs.Lists.{element}
+use Rattle.pp_members.proofs.Lists.{first_in, joined_in}
 use Rattle.pp_members.proofs.Sorts.{all_at}
 use Rattle.pp_prog.specs.declared.expr.Function.{Function as ProgramFunction}
 use Rattle.pp_translation.specs.Numbers.{count_of, ctor_at, ctor_if, ctor_number, decl_number, first_of}

@@ -220,7 +220,8 @@ gathers_skip steps seen xs i v found lt is un g = record {
       (λ h. let p = and_parts (is_met (take (i + 1) xs) m.var) (is_marked seen m.var && has (lits steps) (opposite m))
       h in
       let q = and_parts (is_marked seen m.var) (has (lits steps) (opposite m)) p.1 in
-      elim (met_cases (take i xs) v m.var (subst (λ (z : List ℕ). is_met z m.var ≡ true) (take_push xs i v lt is) p.0)) [
+      elim (met_cases (take i xs) v m.var
+      (subst (λ (z : List ℕ). is_met z m.var ≡ true) (take_push xs i v lt is) p.0)) [
         | inl a ↦ and_from (is_met (take i xs) m.var) (is_marked seen m.var && has (lits steps) (opposite m)) a p.1
         | inr e ↦ (let at = literal_in steps (opposite m) q.1 in
             absurd (false_not_true (sym (un.unmarked at.place at.step at.stands
@@ -250,7 +251,8 @@ gathers_more cs vars steps seen xs i v place found s l trail lt is at stands neg
       (λ h. let p = and_parts (is_met (take (i + 1) xs) m.var) (is_marked seen m.var && has (lits steps) (opposite m))
       h in
       let q = and_parts (is_marked seen m.var) (has (lits steps) (opposite m)) p.1 in
-      elim (met_cases (take i xs) v m.var (subst (λ (z : List ℕ). is_met z m.var ≡ true) (take_push xs i v lt is) p.0)) [
+      elim (met_cases (take i xs) v m.var
+      (subst (λ (z : List ℕ). is_met z m.var ≡ true) (take_push xs i v lt is) p.0)) [
         | inl a ↦ has-append_left found (l ∷ []) m (g.same m
             ∙ and_from (is_met (take i xs) m.var) (is_marked seen m.var && has (lits steps) (opposite m)) a p.1)
         | inr e ↦ has-push_last found l m (sym (neg ∙ theirs m e q.1))

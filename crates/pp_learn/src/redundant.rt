@@ -1,4 +1,6 @@
 //! Which literals follow from the others. That is a guess as far as contracts go: minimization looks again at each.
+ghost use Rattle.std.specs.Prelude.{◌≡◌, ◌+◌, [], IfOk, length};
+
 use crate::NoMemory;
 use pp_clause::Clauses;
 use pp_trail::{Mark, Step};
@@ -30,7 +32,10 @@ pub struct Plan {
 
 impl Plan {
     /// No plan yet, for variables up to this one.
-    pub fn new(alloc: Global, vars: u32) -> Result<Plan, NoMemory> {
+    pub fn new(alloc: Global, vars: u32) -> Result<Plan, NoMemory>
+        ensures none { IfOk result (λ p. p.order.items ≡ []) }
+        ensures known { IfOk result (λ p. length p.known.items ≡ vars + 1) }
+    {
         let known = vec![in alloc; None; vars as usize + 1]?;
         Ok(Plan {
             order: Vec::new(alloc),
@@ -41,7 +46,9 @@ impl Plan {
     }
 
     /// The variables, each after those that its reason needs.
-    pub fn order(&self) -> &[u32] {
+    pub fn order(&self) -> &[u32]
+        ensures { result.now ≡ self.now.order.items }
+    {
         self.order.as_slice()
     }
 

@@ -154,7 +154,9 @@ impl Work {
     }
 
     /// The variables that were met before minimization.
-    pub fn met(&self) -> &[u32] {
+    pub fn met(&self) -> &[u32]
+        ensures { result.now ≡ take self.now.resolved self.now.met.items }
+    {
         &self.met[..self.resolved.min(self.met.len())]
     }
 }

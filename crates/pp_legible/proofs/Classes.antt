@@ -2,8 +2,8 @@
 use Rattle.std.proofs.Common.{◌≡◌, ◌∙◌, ℕ, zero, suc, true, false, List, [], ◌∷◌, All, Contains, refl, sym, ap}
 use Rattle.std.proofs.Common.{subst, option_map}
 use Rattle.std.specs.Prelude.{Some, slice_get}
-use Rattle.std.proofs.lemmas.List.Elements.{All-append, All-cons, All-nil, All-contains_itself}
-use Rattle.std.proofs.lemmas.Option.{get_or_from_slice_get, slice_get-map, slice_get_within}
+use Rattle.std.proofs.lemmas.List.Elements.{All-append, All-cons, All-nil, All-contains_itself, All-weaker}
+use Rattle.std.proofs.lemmas.Option.{get_or_from_slice_get, same_Some, slice_get-map, slice_get_within}
 use Rattle.pp_declared.proofs.Steps.{all_first, all_rest}
 use Rattle.pp_declared.specs.Declares.{AreCtors, IsCtor, class_names, more_ctors, no_ctors, param_types, typed_root}
 use Rattle.pp_declared.specs.Listed.{ClassIn, DeclIn, DefIn, defs_of, ctor_of, ctors_of, decls_in, roots_of}
@@ -25,7 +25,7 @@ use Rattle.pp_rules.specs.Bodies.{TypesDef, a_def, typed_params}
 use Rattle.pp_typed.specs.declared.declared.Declared.{Declared}
 use Rattle.pp_typed.specs.declared.declared.Signature.{Signature}
 use Rattle.pp_typed.specs.declared.typed.TypedDef.{TypedDef}
-use Rattle.pp_legible.proofs.Unlike.{has_mapped, some_same}
+use Rattle.pp_legible.proofs.Unlike.{has_mapped}
 
 -- ---- classes of units
 
@@ -64,15 +64,11 @@ fine_decl n (def d) word bare = tt
 of_place : {X : Type 0} (P : X → Type 0) (xs : List X) (k : ℕ) (x : X) → All P xs → slice_get xs k ≡ Some x → P x
 of_place P xs k x all at = subst P (get_or_from_slice_get xs k x x at) (all k x (slice_get_within xs k x at))
 
--- what follows for each of a list from what holds of each
-each : {X : Type 0} (P Q : X → Type 0) (xs : List X) → ((x : X) → P x → Q x) → All P xs → All Q xs
-each P Q xs follows h k d lt = follows _ (h k d lt)
-
 fine_units : OfEachUnit IfCtor
 fine_units n text u s =
-    each (Contains u.decls) (IfCtor n) u.decls
+    All-weaker (Contains u.decls) (IfCtor n)
     (λ d here. fine_decl n d (declared_names_are_words text s.tokens u d s.utf8 s.cut s.spells here)
-    (declared_objects_are_bare text s.tokens u d s.spells here))
+    (declared_objects_are_bare text s.tokens u d s.spells here)) u.decls
     (All-contains_itself u.decls)
 
 fine_classes : (texts : List (List ℕ)) (units : List UnitTree) → EachSpells texts units
@@ -112,13 +108,13 @@ def_words_in n text u s (def d) here = record {
 
 class_words : OfEachUnit (IfClass ClassWord)
 class_words n text u s =
-    each (Contains u.decls) (IfClass ClassWord n) u.decls
-    (λ d here. class_word n d (declared_names_are_words text s.tokens u d s.utf8 s.cut s.spells here))
+    All-weaker (Contains u.decls) (IfClass ClassWord n)
+    (λ d here. class_word n d (declared_names_are_words text s.tokens u d s.utf8 s.cut s.spells here)) u.decls
     (All-contains_itself u.decls)
 
 def_words : OfEachUnit (IfDef DefWords)
 def_words n text u s =
-    each (Contains u.decls) (IfDef DefWords n) u.decls (def_words_in n text u s) (All-contains_itself u.decls)
+    All-weaker (Contains u.decls) (IfDef DefWords n) (def_words_in n text u s) u.decls (All-contains_itself u.decls)
 
 -- the definition of a typed function
 record IsOfDef (ds : List DefIn) (k : ℕ) (t : TypedDef) : Type 0 where
@@ -137,7 +133,7 @@ def_of_typed : {declared : Declared} {ds : List DefIn} {ss : List Signature} {ts
     → TypesDefs declared ds ss ts → (k : ℕ) (t : TypedDef) → slice_get ts k ≡ Some t → IsOfDef ds k t
 def_of_typed no_defs k t at = cc
 def_of_typed (more_defs {d = d} {ds = ds} one rest) zero t at =
-    subst (IsOfDef (d ∷ ds) 0) (some_same at) (own_def ds one)
+    subst (IsOfDef (d ∷ ds) 0) (same_Some _ _ at) (own_def ds one)
 def_of_typed (more_defs one rest) (suc k) t at =
     let own = def_of_typed rest k t at in
     record { written = own.written; here = own.here; name = own.name; sorts = own.sorts; params = own.params }
@@ -163,7 +159,7 @@ class_of : (roots : List ClassIn) {before : List TypedCtor} {cs : List ClassIn} 
     → AreCtors roots before cs ts → (k : ℕ) (t : TypedCtor) → slice_get ts k ≡ Some t → IsOfClass roots cs k t
 class_of roots (no_ctors before) k t at = cc
 class_of roots (more_ctors before {c} one room rest) zero t at =
-    record { class = c; here = refl; declares = subst (IsCtor roots c) (some_same at) one }
+    record { class = c; here = refl; declares = subst (IsCtor roots c) (same_Some _ _ at) one }
 class_of roots (more_ctors before one room rest) (suc k) t at =
     let own = class_of roots rest k t at in
     record { class = own.class; here = own.here; declares = own.declares }

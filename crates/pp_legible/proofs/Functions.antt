@@ -2,7 +2,7 @@
 use Rattle.std.proofs.Common.{◌≡◌, ◌∙◌, ℕ, zero, suc, List, [], ◌∷◌, ◌++◌, Option, Some, None, map, option_map, refl}
 use Rattle.std.proofs.Common.{sym, ap}
 use Rattle.std.specs.Prelude.{slice_get}
-use Rattle.std.proofs.lemmas.Option.{slice_get-map}
+use Rattle.std.proofs.lemmas.Option.{same_Some, slice_get-map}
 use Rattle.pp_instances.specs.Laws.{HaveNames}
 use Rattle.pp_instances.specs.declared.member.Instance.{Instance}
 use Rattle.pp_instances.specs.declared.member.Member.{Member}
@@ -11,7 +11,7 @@ use Rattle.pp_translation.specs.Bare.{bare_function}
 use Rattle.pp_translation.specs.Functions.{function_if, function_of, functions_of, param_at}
 use Rattle.pp_typed.specs.declared.typed.Typed.{Typed}
 use Rattle.pp_typed.specs.declared.typed.TypedDef.{TypedDef}
-use Rattle.pp_legible.proofs.Unlike.{Has, Unlike, has_more, places_unlike, some_same, unlike_places}
+use Rattle.pp_legible.proofs.Unlike.{Has, Unlike, has_more, places_unlike, unlike_places}
 
 abbrev AreNamedAlike : Function → Function → Type 0
 AreNamedAlike f g = f.name ≡ g.name
@@ -55,8 +55,8 @@ module _ (typed : Typed) (texts : List (List ℕ)) (roots functions : List Membe
         among = record { place = 0; here = refl };
         def = d;
         defined = defined;
-        name = ap (λ (g : Function). g.name) (sym (some_same at));
-        params = ap (λ (g : Function). g.params) (sym (some_same at));
+        name = ap (λ (g : Function). g.name) (sym (same_Some _ _ at));
+        params = ap (λ (g : Function). g.params) (sym (same_Some _ _ at));
       }
       by (suc k) at = among_more i is f (rest f (record { place = k; here = at }))
 

@@ -1,5 +1,6 @@
 -- Printed names tell the functions and the datatypes of a program apart.
 use Rattle.std.proofs.Common.{◌≡◌, ◌∙◌, ℕ, zero, suc, ◌+◌, List, [], ◌∷◌, Some, refl, sym, ap}
+use Rattle.std.proofs.lemmas.Option.{same_Some}
 use Rattle.std.specs.Prelude.{slice_get}
 use Rattle.pp_instances.specs.declared.member.Decl.TheVariants.{Root}
 use Rattle.pp_instances.specs.declared.member.Instance.{Instance}
@@ -10,7 +11,6 @@ use Rattle.pp_prog.specs.declared.types.Datatype.{Datatype}
 use Rattle.pp_translation.specs.Numbers.{count_of, datatypes_from, stands_for}
 use Rattle.pp_typed.specs.declared.typed.TypedCtor.{TypedCtor}
 use Rattle.pp_legible.proofs.Functions.{names_tell}
-use Rattle.pp_legible.proofs.Unlike.{some_same}
 use Rattle.pp_legible.specs.Laws.{NamesDiffer}
 
 -- a datatype has the name of the instance at its place
@@ -18,7 +18,7 @@ datatype_named : (all : List TypedCtor) (first : ℕ) (is : List Instance) (k : 
     → slice_get (datatypes_from all first is) k ≡ Some d
     → (i : Instance) × (slice_get is k ≡ Some i) × (i.name ≡ d.name)
 datatype_named all first [] k d at = cc
-datatype_named all first (i ∷ is) zero d at = (i, refl, ap (λ (t : Datatype). t.name) (some_same at))
+datatype_named all first (i ∷ is) zero d at = (i, refl, ap (λ (t : Datatype). t.name) (same_Some _ _ at))
 datatype_named all first (i ∷ is) (suc k) d at =
     datatype_named all (first + count_of all (stands_for Root i)) is k d at
 

@@ -1,11 +1,9 @@
 -- Lists in which no element is like another that stands before it.
 use Rattle.std.proofs.Common.{◌≡◌, ◌⊎◌, ℕ, zero, suc, Bool, true, false, List, [], ◌∷◌, ◌++◌, Some, map}
 use Rattle.std.proofs.Common.{cond, inl, inr, refl, sym, ap, subst, arith}
+use Rattle.std.proofs.lemmas.Option.{same_Some}
 use Rattle.std.specs.List.{filter}
 use Rattle.std.specs.Prelude.{slice_get}
-
-pub some_same : {X : Type 0} {x y : X} → Some x ≡ Some y → x ≡ y
-some_same h = cc
 
 -- the element stands in the list
 pub record Has {X : Type 0} (xs : List X) (x : X) : Type 0 where
@@ -21,7 +19,7 @@ has_first x xs = record { place = 0; here = refl }
 pub has_mapped : {X Y : Type 0} (f : X → Y) (xs : List X) (k : ℕ) (y : Y) → slice_get (map f xs) k ≡ Some y
     → (x : X) × Has xs x × (f x ≡ y)
 has_mapped f [] k y at = cc
-has_mapped f (x ∷ xs) zero y at = (x, has_first x xs, some_same at)
+has_mapped f (x ∷ xs) zero y at = (x, has_first x xs, same_Some _ _ at)
 has_mapped f (x ∷ xs) (suc k) y at = let m = has_mapped f xs k y at in (m.0, has_more x m.1, m.2)
 
 pub has_either : {X : Type 0} (xs ys : List X) (k : ℕ) (x : X) → slice_get (xs ++ ys) k ≡ Some x → Has xs x ⊎ Has ys x
@@ -76,9 +74,9 @@ module _ {X : Type 0} (R : X → X → Type 0) where
   unlike_places back [] h i j a b there here r = cc
   unlike_places back (x ∷ xs) h zero zero a b there here r = refl
   unlike_places back (x ∷ xs) h zero (suc j) a b there here r =
-      absurd (h.0 b (record { place = j; here = here }) (subst (λ z. R z b) (sym (some_same there)) r))
+      absurd (h.0 b (record { place = j; here = here }) (subst (λ z. R z b) (sym (same_Some _ _ there)) r))
   unlike_places back (x ∷ xs) h (suc i) zero a b there here r =
-      absurd (h.0 a (record { place = i; here = there }) (subst (λ z. R z a) (sym (some_same here)) (back a b r)))
+      absurd (h.0 a (record { place = i; here = there }) (subst (λ z. R z a) (sym (same_Some _ _ here)) (back a b r)))
   unlike_places back (x ∷ xs) h (suc i) (suc j) a b there here r =
       ap suc (unlike_places back xs h.1 i j a b there here r)
 

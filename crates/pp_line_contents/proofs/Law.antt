@@ -1,8 +1,9 @@
 -- Two contents of one line of a function are the same.
-use Rattle.std.proofs.Common.{◌≡◌, ◌≢◌, ◌∙◌, ℕ, List, ◌∷◌, ◌++◌, Option, Some, codes, get_or, slice_get, refl, sym, ap}
+use Rattle.std.proofs.Common.{◌≡◌, ◌≢◌, ◌∙◌, ℕ, List, ◌∷◌, ◌++◌, Option, codes, get_or, slice_get, refl, sym, ap}
 use Rattle.std.proofs.Common.{subst, arith}
 use Rattle.std.proofs.lemmas.List.{append_cancel_left}
-use Rattle.pp_line_contents.proofs.Others.{one_ending}
+use Rattle.std.proofs.lemmas.Option.{same_Some}
+use Rattle.pp_line_contents.proofs.Others.{no_blank, one_ending}
 use Rattle.pp_line_contents.proofs.Spans.{every_of, one_span}
 use Rattle.pp_line_contents.proofs.Values.{arguments_told, end_stops, no_digit}
 use Rattle.pp_line_contents.proofs.Words.{IsDigit, one_check, one_decimal, one_reason, one_round}
@@ -17,14 +18,8 @@ use Rattle.pp_prog.specs.declared.value.Value.{Value}
 use Rattle.pp_print.specs.declared.line.Reason.{Reason}
 use Rattle.pp_sound.specs.Sound.{IsCheckOf}
 
-some_same : {A : Type 0} {x y : A} → Some x ≡ Some y → x ≡ y
-some_same h = cc
-
 no_comma : IsDigit 44 → ⊥
 no_comma h = omega (arith, h.1)
-
-no_blank : IsDigit 32 → ⊥
-no_blank h = omega (arith, h.0)
 
 -- ---- verdicts
 
@@ -140,7 +135,7 @@ lines_tell_contents p legible i j f g there here line a b h k =
     let names = one_span IsNamed f.name g.name _ _ (every_of IsNamed f.name (legible.named i f there))
     (every_of IsNamed g.name (legible.named j g here)) colon_stops colon_stops (sym x.split ∙ y.split) in
     let numbers = legible.functions i j f g there here names.0 in
-    let same : f ≡ g = some_same (sym there ∙ ap (slice_get p.functions) numbers ∙ here) in
+    let same : f ≡ g = same_Some _ _ (sym there ∙ ap (slice_get p.functions) numbers ∙ here) in
     let own : Prints p i f line b =
     subst (λ z. Prints p i z line b) (sym same) (subst (λ n. Prints p n g line b) (sym numbers) k) in
     (numbers, one_content p legible i f line a b (one_letter p i f line a b h own) h own)

@@ -21,7 +21,8 @@ every_reversed P (c ∷ cs) h =
 reversed_same : (a b : List ℕ) → reverse a ≡ reverse b → a ≡ b
 reversed_same a b e = sym (reverse-reverse a) ∙ ap reverse e ∙ reverse-reverse b
 
-no_blank : IsDigit 32 → ⊥
+-- a blank is no digit
+pub no_blank : IsDigit 32 → ⊥
 no_blank h = omega (arith, h.0)
 
 -- from the end

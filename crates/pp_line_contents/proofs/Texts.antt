@@ -5,9 +5,10 @@ use Rattle.std.specs.List.{concat}
 use Rattle.std.proofs.lemmas.List.{append_cancel_left, length-append}
 use Rattle.pp_line_contents.proofs.Law.{lines_tell_contents}
 use Rattle.pp_line_contents.proofs.Newlines.{NotNewline, counts_end_once, lines_end_once}
+use Rattle.pp_line_contents.proofs.Others.{no_blank}
 use Rattle.pp_line_contents.proofs.Spans.{Every, every_append, every_of, of_all, one_span, rest_same}
 use Rattle.pp_line_contents.proofs.Tails.{AreFrom, from_first, from_rest, from_start}
-use Rattle.pp_line_contents.proofs.Words.{IsDigit, one_decimal}
+use Rattle.pp_line_contents.proofs.Words.{one_decimal}
 use Rattle.pp_line_contents.specs.Contents.{Content, Prints}
 use Rattle.pp_line_contents.specs.Laws.{IsLegible, IsOneLine, TextsTellContents, TextsTellLines}
 use Rattle.pp_line_contents.specs.Reports.{AreSmall, Counts, PrintEach, PrintsReport, ReportContent, counts_text}
@@ -46,9 +47,6 @@ pub texts_tell_lines : TextsTellLines
 texts_tell_lines xs ys h k e = one_list xs ys (of_all IsOneLine xs h) (of_all IsOneLine ys k) e
 
 -- ---- counts
-
-pub no_blank : IsDigit 32 → ⊥
-no_blank h = omega (arith, h.0)
 
 pub counts_same : (m n : Counts) → AreSmall m → AreSmall n → counts_text m ≡ counts_text n → m ≡ n
 counts_same m n p q e =

@@ -8,9 +8,11 @@ use Rattle.std.specs.Prelude.{slice_get}
 use Rattle.std.proofs.lemmas.Bool.{and_parts, eqb-true}
 use Rattle.std.proofs.lemmas.Int.{ints}
 use Rattle.std.proofs.lemmas.List.{append_cancel_left}
+use Rattle.std.proofs.lemmas.Option.{same_Some}
 use Rattle.pp_line_contents.proofs.Spans.{Stops, every_of, first_same, one_span, rest_same}
 use Rattle.pp_line_contents.proofs.Words.{IsDigit, one_signed}
 use Rattle.pp_line_contents.specs.Laws.{HasNoMark}
+use Rattle.pp_list.proofs.Integers.{at_most, less}
 use Rattle.pp_print.specs.Values.{after_comma, arguments_text, bool_text, in_brackets, joined, tree_text}
 use Rattle.pp_print.specs.Values.{value_step, value_text}
 use Rattle.pp_prog.specs.Sorts.{fields_have, has_sort, has_step, have_sorts, is_int, param_sorts, same_sort, tree_has}
@@ -57,12 +59,6 @@ comma_stops h = h.3 refl
 
 -- ---- numbers and truth values
 
-at_most : (a b : ℤ) → int_le a b ≡ true → a ≤ℤ b
-at_most a b h = grind (arith, ints)
-
-less : (a b : ℤ) → int_lt a b ≡ true → a <ℤ b
-less a b h = grind (arith, ints)
-
 small_int : (n : ℤ) → is_int n ≡ true → mag n < 2 ^ 63
 small_int n h =
     let p = and_parts (int_le (neg_ℤ (pos (2 ^ 31))) n) (int_lt n (pos (2 ^ 31))) h in
@@ -106,9 +102,6 @@ no_fields : (tests : List (Sort → Bool)) (ss : List Sort) → ss ≡ [] → fi
 no_fields [] ss none h = refl
 no_fields (t ∷ ts) [] none h = cc
 no_fields (t ∷ ts) (s ∷ ss) none h = cc
-
-some_same : {A : Type 0} {x y : A} → Some x ≡ Some y → x ≡ y
-some_same h = cc
 
 -- ---- trees
 
@@ -233,7 +226,7 @@ module _ (ctors : List Ctor)
       (every_of IsUnmarked a.name (unmarked c.0 a here)) (every_of IsUnmarked b.name (unmarked d.0 b there))
       (behind_stops a.object _ r p) (behind_stops b.object _ t q) split in
       let numbers = differ c.0 d.0 a b here there (one_data a.of b.of s m.0 n.0) names.0 in
-      let same : b ≡ a = some_same (sym there ∙ ap (slice_get ctors) (sym numbers) ∙ here) in
+      let same : b ≡ a = same_Some _ _ (sym there ∙ ap (slice_get ctors) (sym numbers) ∙ here) in
       let fields = behind_told a.object a.fields ys ws r t (objects c.0 a here) m.1
       (subst (λ (x : Ctor). fields_have (map has ws) x.fields ≡ true) same n.1)
       (names.1 ∙ ap (λ (x : Ctor). behind_name x.object (map text ws) t) same) in

@@ -3,6 +3,7 @@ use Rattle.std.proofs.Common.{◌≡◌, ℕ, nat_eq, Bool, true, false, List, [
 use Rattle.std.specs.Prelude.{Option, Some, None, if◌then◌else◌, slice_get}
 use Rattle.std.proofs.lemmas.Bool.{eqb-true}
 use Rattle.std.proofs.lemmas.List.Elements.{All-contains}
+use Rattle.std.proofs.lemmas.Option.{same_Some}
 use Rattle.pp_instances.specs.Same.{joined}
 use Rattle.pp_instances.specs.Uses.{case_mentions, case_step, ctor_mentions, decl_mentions, def_mentions, def_or_none}
 use Rattle.pp_instances.specs.Uses.{expr_step, function_at, guard_mentions, kind_mentions, kind_step, mentions}
@@ -11,7 +12,6 @@ use Rattle.pp_instances.specs.declared.member.Decl.TheVariants.{Function}
 use Rattle.pp_instances.specs.declared.member.Member.{Member}
 use Rattle.pp_members.proofs.Listed.{AreProperIn, function_in, proper_append, proper_joined, proper_member, proper_none}
 use Rattle.pp_members.proofs.Listed.{proper_same, proper_sort, proper_sorts}
-use Rattle.pp_members.proofs.Lists.{same_some}
 use Rattle.pp_members.proofs.Sorts.{all_at, append_in_range, bound_in_range, sort_in_range}
 use Rattle.pp_typed.specs.InRange.{IsInRange, AreInRange, none_in_range, more_in_range}
 use Rattle.pp_typed.specs.Sorted.{IsSorted, AreSorted, IsSortedGuard, AreSortedCases, param_sorts, sorted_int}
@@ -195,7 +195,7 @@ module _ (typed : Typed) (well : IsWellSorted typed) where
       → In root.type_params (if b then types_of c.fields else [])
   proper_ctor r root c true at ctor is =
       let same : ctor.owner ≡ root =
-      same_some (sym ctor.declared ∙ ap (slice_get typed.roots) (eqb-true c.root r is) ∙ at) in
+      same_Some _ _ (sym ctor.declared ∙ ap (slice_get typed.roots) (eqb-true c.root r is) ∙ at) in
       subst (λ (z : TypedRoot). In z.type_params (types_of c.fields)) same
       (proper_sorts typed ctor.owner.type_params ctor.fields)
   proper_ctor r root c false at ctor is = proper_none typed root.type_params

@@ -5,18 +5,17 @@ use Rattle.std.specs.Prelude.{Some, None, slice_get, unwrap_or, Contains}
 use Rattle.std.proofs.lemmas.List.{length-map}
 use Rattle.std.proofs.lemmas.List.Elements.{Contains-append_cases, Contains-append_left, Contains-append_right}
 use Rattle.std.proofs.lemmas.List.Elements.{Contains-get_or}
-use Rattle.std.proofs.lemmas.Option.{slice_get-get_or}
+use Rattle.std.proofs.lemmas.Option.{same_Some, slice_get-get_or}
+use Rattle.pp_generic.proofs.Putting.{put_bool, put_int, put_param, put_root}
 use Rattle.pp_instances.proofs.Kept.{nothing_in}
 use Rattle.pp_instances.proofs.Mentioned.{types_int, types_bool, types_root}
 use Rattle.pp_instances.specs.Uses.{at_args, root_at, types_in, types_of}
 use Rattle.pp_instances.specs.declared.member.Member.{Member}
-use Rattle.pp_members.proofs.Lists.{first_in, later_in, first_or_later, same_some}
+use Rattle.pp_members.proofs.Lists.{first_in, later_in, first_or_later}
 use Rattle.pp_typed.specs.InRange.{IsInRange, AreInRange, int_in_range, bool_in_range, param_in_range, root_in_range}
 use Rattle.pp_typed.specs.InRange.{none_in_range, more_in_range}
-use Rattle.pp_typed.specs.Put.{put, put_at, put_step}
+use Rattle.pp_typed.specs.Put.{put}
 use Rattle.pp_typed.specs.declared.sort.GenericSort.{GenericSort}
-use Rattle.pp_typed.specs.declared.sort.GenericSort.TheFolds.{fold-roll-GenericSort}
-use Rattle.pp_typed.specs.declared.sort.GenericSort.TheOpen as layer
 use Rattle.pp_typed.specs.declared.sort.GenericSort.TheVariants as sort
 use Rattle.pp_typed.specs.declared.typed.TypedRoot.{TypedRoot}
 
@@ -24,39 +23,25 @@ use Rattle.pp_typed.specs.declared.typed.TypedRoot.{TypedRoot}
 pub at_in_range : (roots : List TypedRoot) (n : ℕ) {ss : List GenericSort} → AreInRange roots n ss
     → (i : ℕ) (s : GenericSort) → slice_get ss i ≡ Some s → IsInRange roots n s
 at_in_range roots n none_in_range i s h = let no : None ≡ Some s = h in cc
-at_in_range roots n (more_in_range here more) zero s h = subst (IsInRange roots n) (same_some h) here
+at_in_range roots n (more_in_range here more) zero s h = subst (IsInRange roots n) (same_Some _ _ h) here
 at_in_range roots n (more_in_range here more) (suc i) s h = at_in_range roots n more i s h
 
 module _ (args : List GenericSort) where
-  put_int : put args sort.Int ≡ sort.Int
-  put_int = ap (put args) (sym sort.rolls-Int) ∙ fold-roll-GenericSort GenericSort (put_step args) layer.Int
-
-  put_bool : put args sort.Bool ≡ sort.Bool
-  put_bool = ap (put args) (sym sort.rolls-Bool) ∙ fold-roll-GenericSort GenericSort (put_step args) layer.Bool
-
-  put_param : (i : ℕ) → put args (sort.Param i) ≡ put_at args i
-  put_param i =
-      ap (put args) (sym (sort.rolls-Param i)) ∙ fold-roll-GenericSort GenericSort (put_step args) (layer.Param i)
-
-  put_root : (r : ℕ) (ss : List GenericSort) → put args (sort.Root r ss) ≡ sort.Root r (map (put args) ss)
-  put_root r ss =
-      ap (put args) (sym (sort.rolls-Root r ss)) ∙ fold-roll-GenericSort GenericSort (put_step args) (layer.Root r ss)
-
   -- the sort at the place of a parameter
   put_within : (i : ℕ) → i < length args → put args (sort.Param i) ≡ get_or args i (sort.Param i)
-  put_within i lt = put_param i ∙ ap (λ o. unwrap_or o (sort.Param i)) (slice_get-get_or args i (sort.Param i) lt)
+  put_within i lt = put_param args i ∙ ap (λ o. unwrap_or o (sort.Param i)) (slice_get-get_or args i (sort.Param i) lt)
 
   module _ (roots : List TypedRoot) (n m : ℕ) (ok : AreInRange roots m args) (all : length args ≡ n) where
     mutual
       pub put_in_range : {s : GenericSort} → IsInRange roots n s → IsInRange roots m (put args s)
-      put_in_range (int_in_range is) = int_in_range (ap (put args) is ∙ put_int)
-      put_in_range (bool_in_range is) = bool_in_range (ap (put args) is ∙ put_bool)
+      put_in_range (int_in_range is) = int_in_range (ap (put args) is ∙ put_int args)
+      put_in_range (bool_in_range is) = bool_in_range (ap (put args) is ∙ put_bool args)
       put_in_range (param_in_range i is lt) =
           let within : i < length args = omega (arith, all, lt) in
           subst (IsInRange roots m) (sym (ap (put args) is ∙ put_within i within))
           (at_in_range roots m ok i (get_or args i (sort.Param i)) (slice_get-get_or args i (sort.Param i) within))
       put_in_range (root_in_range r root parts is declared whole each) =
-          root_in_range r root (map (put args) parts) (ap (put args) is ∙ put_root r parts) declared
+          root_in_range r root (map (put args) parts) (ap (put args) is ∙ put_root args r parts) declared
           (length-map parts (put args) ∙ whole) (puts_in_range each)
 
       pub puts_in_range : {ss : List GenericSort} → AreInRange roots n ss → AreInRange roots m (map (put args) ss)
@@ -85,15 +70,16 @@ module _ (args : List GenericSort) where
 
     mutual
       pub types_put : {s : GenericSort} → IsInRange roots n s → Mentioned (types_in s) → Have (types_in (put args s))
-      types_put (int_in_range is) h = nothing _ (ap (λ z. types_in (put args z)) is ∙ ap types_in put_int ∙ types_int)
+      types_put (int_in_range is) h =
+          nothing _ (ap (λ z. types_in (put args z)) is ∙ ap types_in (put_int args) ∙ types_int)
       types_put (bool_in_range is) h =
-          nothing _ (ap (λ z. types_in (put args z)) is ∙ ap types_in put_bool ∙ types_bool)
+          nothing _ (ap (λ z. types_in (put args z)) is ∙ ap types_in (put_bool args) ∙ types_bool)
       types_put (param_in_range i is lt) h =
           let within : i < length args = omega (arith, all, lt) in
           subst (λ (z : GenericSort). Have (types_in z)) (sym (ap (put args) is ∙ put_within i within))
           (own (get_or args i (sort.Param i)) (Contains-get_or args i (sort.Param i) within))
       types_put (root_in_range r root parts is declared whole each) h =
-          subst (λ (z : GenericSort). Have (types_in z)) (sym (ap (put args) is ∙ put_root r parts))
+          subst (λ (z : GenericSort). Have (types_in z)) (sym (ap (put args) is ∙ put_root args r parts))
           (subst Have (sym (types_root r (map (put args) parts)))
           (at_root r parts (types_puts each (λ m c. mentioned m (later_in (root_at r parts) (types_of parts) m c)))
           (mentioned (root_at r parts) (first_in (root_at r parts) (types_of parts)))))

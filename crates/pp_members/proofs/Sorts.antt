@@ -3,7 +3,8 @@ use Rattle.std.proofs.Common.{◌≡◌, ⊎_elim, ℕ, nat_eq, Bool, true, fals
 use Rattle.std.proofs.Common.{subst}
 use Rattle.std.specs.Prelude.{Some, All, slice_get}
 use Rattle.std.proofs.lemmas.List.Elements.{All-filter, All-head, All-contains}
-use Rattle.pp_members.proofs.Lists.{element, same_some}
+use Rattle.std.proofs.lemmas.Option.{same_Some}
+use Rattle.pp_list.proofs.Lists.{element}
 use Rattle.pp_members.proofs.Put.{at_in_range, put_in_range, puts_in_range}
 use Rattle.pp_operators.specs.Classes.{class_of}
 use Rattle.pp_operators.specs.declared.class.OperatorClass.{OperatorClass}
@@ -113,7 +114,7 @@ module _ (typed : Typed) (well : IsWellSorted typed) (params : ℕ) where
       → IsRootInRange typed.roots params k.root args → AreIn (map (put args) k.fields)
   fields_in_range k args c root =
       puts_in_range args typed.roots c.owner.type_params params root.each
-      (root.all ∙ ap (λ (z : TypedRoot). z.type_params) (same_some (sym root.declared ∙ c.declared))) c.fields
+      (root.all ∙ ap (λ (z : TypedRoot). z.type_params) (same_Some _ _ (sym root.declared ∙ c.declared))) c.fields
 
   only_ctor : (k : TypedCtor) → ctors_of typed.ctors k.root ≡ k ∷ [] → IsCtor typed k
   only_ctor k only =
@@ -153,7 +154,7 @@ module _ (typed : Typed) (well : IsWellSorted typed) (params : ℕ) where
         let root = root_parts typed.roots params k.root sorts (sort_in_range base_sorted scope) base_is in
         subst In (sym of)
         (put_in_range sorts typed.roots c.owner.type_params params root.each
-        (root.all ∙ ap (λ (z : TypedRoot). z.type_params) (same_some (sym root.declared ∙ c.declared)))
+        (root.all ∙ ap (λ (z : TypedRoot). z.type_params) (same_Some _ _ (sym root.declared ∙ c.declared)))
         (at_in_range typed.roots c.owner.type_params c.fields j s at))
     sort_in_range (sorted_unary op is sorted operand of) scope = unary_in_range typed.roots params op of
     sort_in_range (sorted_binary {a = a} op is left right same operates) scope =

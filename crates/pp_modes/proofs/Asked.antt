@@ -2,7 +2,7 @@
 use Rattle.std.proofs.Common.{◌≡◌, ◌<◌, ℕ, zero, suc, List, [], ◌∷◌, length, Result, Ok, Err, IfOk, refl, sym, ap}
 use Rattle.std.proofs.Common.{◌∙◌, subst, arith}
 use Rattle.std.specs.Prelude.{Some, slice_get}
-use Rattle.std.proofs.lemmas.Option.{slice_get_within}
+use Rattle.std.proofs.lemmas.Option.{same_Some, slice_get_within}
 use Rattle.pp_eval.specs.Runs.{run_at}
 use Rattle.pp_eval.specs.declared.outcome.Outcome.{Outcome}
 use Rattle.pp_modes.specs.Responses.{Response, refusal}
@@ -20,9 +20,6 @@ within fs name f is = slice_get_within fs f is.named.0 is.named.1
 pub if_ok : {A E : Type 0} {P Q : A → Type 0} (r : Result A E) → IfOk r P → ((a : A) → P a → Q a) → IfOk r Q
 if_ok (Ok a) h go = go a h
 if_ok (Err e) h go = tt
-
-pub some_same : {A : Type 0} {x y : A} → Some x ≡ Some y → x ≡ y
-some_same h = cc
 
 not_less : (m n : ℕ) → (m < n → ⊥) → (n < m → ⊥) → m ≡ n
 not_less zero zero h k = refl
@@ -45,7 +42,7 @@ module _ (p : Program) (name : List ℕ) (fuel : ℕ) where
   pub same_function : (f : ℕ) (g : Function) → IsFirstNamed p.functions name f → slice_get p.functions f ≡ Some g
       → (h : Function) → IsAsked p name fuel h → h ≡ g
   same_function f g first at h asked =
-      some_same (sym asked.here ∙ ap (slice_get p.functions) (one_first asked.place f asked.named first) ∙ at)
+      same_Some _ _ (sym asked.here ∙ ap (slice_get p.functions) (one_first asked.place f asked.named first) ∙ at)
 
   -- where the function of the name has parameters, none is asked for
   pub has_params : (r : Response) (f : ℕ) (g : Function) → IsFirstNamed p.functions name f

@@ -2,10 +2,12 @@
 use Rattle.std.proofs.Common.{◌≡◌, ◌≤◌, ℕ, Bool, true, false, ◌&&◌, if◌then◌else◌, List, [], ◌∷◌, length, nat_eq}
 use Rattle.std.proofs.Common.{nat_le, refl, sym, subst, arith, ◌∙◌}
 use Rattle.std.specs.Prelude.{Option, None, Some, option_and_then, option_map}
-use Rattle.std.proofs.lemmas.Bool.{eqb-true, leb-true}
+use Rattle.std.proofs.lemmas.Bool.{and_parts, eqb-true, leb-true}
+use Rattle.std.proofs.lemmas.Option.{none-some, same_Some}
 use Rattle.pp_limits.specs.declared.Range.{Range}
 use Rattle.pp_induct.specs.Reports.{AreLimits}
-use Rattle.pp_limits.specs.declared.TheConstants.{DEPTH, GATES, LEAST_SEED, LEMMAS, MOST_SEED, MOST_SOURCES, ROUNDS}
+use Rattle.pp_limits.specs.declared.TheConstants.{DEPTH, FUEL, GATES, LEAST_SEED, LEMMAS, MOST_SEED, MOST_SOURCES}
+use Rattle.pp_limits.specs.declared.TheConstants.{ROUNDS}
 use Rattle.pp_modes.specs.Answers.{IsInRange}
 use Rattle.pp_modes.specs.Verdicts.{limits_of}
 use Rattle.pp_words.specs.Line.{Line, given_in, is_taken, line_given, line_of}
@@ -13,49 +15,35 @@ use Rattle.pp_words.specs.Command.{values_in}
 use Rattle.pp_words.specs.Number.{number_in, number_of, with_digits, within}
 use Rattle.pp_words.specs.Task.{Given, Mode, Task, asked, has_files, list, listing, make, making, mode_of, numbers_in}
 use Rattle.pp_words.specs.Task.{reads_all, run, running, seed_in, task_in, task_of, verify, verifying}
-use Rattle.pp_words.specs.declared.TheConstants.{NESTED}
 use Rattle.pp_words.specs.declared.task.Numbers.{Numbers}
-
-none_some : {A : Type 0} {x : A} → None ≡ Some x → ⊥
-none_some h = cc
-
-some_same : {A : Type 0} {x y : A} → Some x ≡ Some y → x ≡ y
-some_same h = cc
 
 -- what a test let through
 tested : {A : Type 0} (b : Bool) (o : Option A) (x : A) → (if b then o else None) ≡ Some x → (b ≡ true) × (o ≡ Some x)
 tested true o x h = (refl, h)
-tested false o x h = absurd (none_some h)
+tested false o x h = absurd (none-some _ h)
 
 chained : {A B : Type 0} (f : A → Option B) (o : Option A) (y : B) → option_and_then f o ≡ Some y
     → (x : A) × (o ≡ Some x) × (f x ≡ Some y)
-chained f None y h = absurd (none_some h)
+chained f None y h = absurd (none-some _ h)
 chained f (Some x) y h = (x, refl, h)
 
 mapped : {A B : Type 0} (f : A → B) (o : Option A) (y : B) → option_map f o ≡ Some y
     → (x : A) × (o ≡ Some x) × (f x ≡ y)
-mapped f None y h = absurd (none_some h)
-mapped f (Some x) y h = (x, refl, some_same h)
-
-both : (a b : Bool) → a && b ≡ true → (a ≡ true) × (b ≡ true)
-both true b h = (refl, h)
-both false b h = absurd (false_true h)
-  where
-    false_true : false ≡ true → ⊥
-    false_true e = cc
+mapped f None y h = absurd (none-some _ h)
+mapped f (Some x) y h = (x, refl, same_Some _ _ h)
 
 in_number : (low high : ℕ) (text : List ℕ) (n : ℕ) → number_in low high text ≡ Some n → (low ≤ n) × (n ≤ high)
 in_number low high text n h =
     let digits = chained (within low high) (with_digits 0 text) n (tested _ _ n h).1 in
     let fits = tested (nat_le low digits.0 && nat_le digits.0 high) (Some digits.0) n digits.2 in
-    let sides = both (nat_le low digits.0) (nat_le digits.0 high) fits.0 in
-    let same = some_same fits.1 in
+    let sides = and_parts (nat_le low digits.0) (nat_le digits.0 high) fits.0 in
+    let same = same_Some _ _ fits.1 in
     subst (λ m. (low ≤ m) × (m ≤ high)) same (leb-true low digits.0 sides.0, leb-true digits.0 high sides.1)
 
 in_option : (range : Range) → range.least ≤ range.default → range.default ≤ range.most → (o : Option (List ℕ))
     (n : ℕ) → number_of range o ≡ Some n → (range.least ≤ n) × (n ≤ range.most)
 in_option range a b None n h =
-    (subst (λ m. range.least ≤ m) (some_same h) a, subst (λ m. m ≤ range.most) (some_same h) b)
+    (subst (λ m. range.least ≤ m) (same_Some _ _ h) a, subst (λ m. m ≤ range.most) (same_Some _ _ h) b)
 in_option range a b (Some text) n h = in_number range.least range.most text n h
 
 numbers_range : (given : Given) (n : Numbers) → numbers_in given ≡ Some n → AreLimits (limits_of n)
@@ -92,12 +80,12 @@ fitting : (mode : Mode) (given : Given) (t : Task) → task_in mode given ≡ So
     → (has_files mode given ≡ true) × (asked mode given ≡ Some t)
 fitting mode given t h =
     let test = tested (has_files mode given && reads_all mode given) (asked mode given) t h in
-    ((both (has_files mode given) (reads_all mode given) test.0).0, test.1)
+    ((and_parts (has_files mode given) (reads_all mode given) test.0).0, test.1)
 
 at_most_16 : (files : List (List ℕ)) → nat_le 1 (length files) && nat_le (length files) MOST_SOURCES ≡ true
     → length files ≤ MOST_SOURCES
 at_most_16 files h =
-    leb-true (length files) MOST_SOURCES (both (nat_le 1 (length files)) (nat_le (length files) MOST_SOURCES) h).1
+    leb-true (length files) MOST_SOURCES (and_parts (nat_le 1 (length files)) (nat_le (length files) MOST_SOURCES) h).1
 
 no_files : (files : List (List ℕ)) → length files ≡ 0 → files ≡ []
 no_files [] h = refl
@@ -139,9 +127,9 @@ run_fits : (given : Given) (t : Task) → task_in running given ≡ Some t → I
 run_fits given t h =
     let fit = fitting running given t h in
     let function = chained _ given.function t fit.1 in
-    let fuel = mapped (run function.0) (number_of NESTED given.fuel) t function.2 in
+    let fuel = mapped (run function.0) (number_of FUEL given.fuel) t function.2 in
     subst (λ u. IsFit (line_with given u)) fuel.2 (record {
-      range = (in_option NESTED (omega arith) (omega arith) given.fuel fuel.0 fuel.1).1;
+      range = (in_option FUEL (omega arith) (omega arith) given.fuel fuel.0 fuel.1).1;
       few = at_most_16 given.files fit.0;
       none = λ seed m is. absurd (run_not_make is);
     })

@@ -1,7 +1,7 @@
 //! Mode `run`.
 
 ghost use Rattle.std.specs.Prelude.{◌≡◌, ◌≤◌, IfOk, slice_get, string_bytes};
-ghost use Rattle.pp_words.specs.declared.TheConstants.{NESTED};
+ghost use Rattle.pp_limits.specs.declared.TheConstants.{FUEL};
 ghost use Rattle.pp_eval.specs.declared.outcome.Outcome.{Outcome};
 ghost use Rattle.pp_modes.specs.Responses.{response_of};
 ghost use Rattle.pp_modes.specs.Runs as spec;
@@ -9,10 +9,12 @@ ghost use Rattle.pp_print.specs.Refusals.{words_text};
 ghost use Rattle.pp_modes.specs.Responses as response;
 
 use crate::{NoMemory, Response, Status};
-use pp_eval::{Outcome, run};
+use pp_eval::Outcome;
 use pp_list::at;
 use pp_print::{deep_line, done_line, fails_line, inner_line, outside_line, words_line};
 use pp_prog::{CheckId, FunctionId, Program};
+use pp_stack::run;
+use pp_store::release;
 use std::alloc::Global;
 
 fn status_of(outcome: &Outcome) -> Status
@@ -109,7 +111,7 @@ pub(crate) fn answer_run(
     name: &str,
     fuel: u32,
 ) -> Result<Response, NoMemory>
-    requires { fuel ≤ NESTED.most }
+    requires { fuel ≤ FUEL.most }
     ensures { IfOk result (λ r. spec.AnswersRun program.now name.now fuel (response_of r)) }
 {
     let Some(f) = program.find(name) else {
@@ -119,5 +121,14 @@ pub(crate) fn answer_run(
         return no_function(alloc);
     }
     let outcome = run(alloc, program, f, &[], fuel)?;
-    ran(alloc, program, name, fuel, &outcome)
+    let response = ran(alloc, program, name, fuel, &outcome);
+    let_go(outcome);
+    response
+}
+
+/// Lets go of an outcome, of a value without recursion on its height.
+fn let_go(outcome: Outcome) {
+    if let Outcome::Done(value) = outcome {
+        release(value);
+    }
 }

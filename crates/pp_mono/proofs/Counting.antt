@@ -4,6 +4,7 @@ use Rattle.std.proofs.Common.{map, sum, length, Option, Some, None, refl, sym, a
 use Rattle.std.specs.Prelude.{slice_get}
 use Rattle.std.proofs.lemmas.List.{length-append, map-append}
 use Rattle.std.proofs.lemmas.List.Sums.{sum_by-append, sum_by-cons}
+use Rattle.std.proofs.lemmas.Option.{same_Some}
 use Rattle.pp_prog.specs.declared.check.CheckKind.TheVariants as check
 use Rattle.pp_prog.specs.declared.expr.Case.{Case}
 use Rattle.pp_prog.specs.declared.expr.Expr.{Expr}
@@ -209,14 +210,11 @@ module _ (typed : Typed) (set : Setting) (own : Frame) where
       let post = lists_post t.post in
       omega (arith, pre, measure, body, post)
 
-same_some : {X : Type 0} (x y : X) → Some x ≡ Some y → x ≡ y
-same_some x y e = cc
-
 sum_at : {X : Type 0} (f : X → ℕ) (xs : List X) (i : ℕ) (x : X) → slice_get xs i ≡ Some x → f x ≤ sum (map f xs)
 sum_at f [] i x e = cc
 sum_at f (y ∷ xs) zero x e =
     let all = sum_by-cons (λ n. n) (f y) (map f xs) in
-    let same : f y ≡ f x = ap f (same_some y x e) in
+    let same : f y ≡ f x = ap f (same_Some y x e) in
     omega (arith, all, same)
 sum_at f (y ∷ xs) (suc i) x e =
     let all = sum_by-cons (λ n. n) (f y) (map f xs) in

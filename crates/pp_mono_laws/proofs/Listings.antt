@@ -6,6 +6,7 @@ use Rattle.pp_instances.specs.Order.{AreListed, IsListing, MemberOf, Precedes, m
 use Rattle.pp_instances.specs.declared.member.Decl.TheVariants.{Function, Root}
 use Rattle.pp_instances.specs.declared.member.Instance.{Instance}
 use Rattle.pp_instances.specs.declared.member.Member.{Member}
+use Rattle.pp_instances.proofs.Decls.{one_function, one_root}
 use Rattle.pp_typed.specs.declared.sort.GenericSort.{GenericSort}
 use Rattle.pp_typed.specs.declared.typed.Typed.{Typed}
 use Rattle.pp_mono_laws.proofs.Ordered.{at_place, one_order}
@@ -53,12 +54,6 @@ module _ (typed : Typed) (kind : MemberOf) where
     one_listing ms ns xs ys p q more back =
         one_order (Precedes typed kind) never_precedes precedes_through xs ys p.in_order q.in_order
         (listed_too ms ns xs ys p q more) (listed_too ns ms ys xs q p back)
-
-one_function : (n m : ℕ) → Function n ≡ Function m → n ≡ m
-one_function n m is = cc
-
-one_root : (n m : ℕ) → Root n ≡ Root m → n ≡ m
-one_root n m is = cc
 
 module _ (typed : Typed) (ms ns : List Member) (fs gs rs qs : List Instance) (p : AreListed typed ms fs rs)
     (q : AreListed typed ns gs qs) (more : (m : Member) → Contains ms m → Contains ns m)

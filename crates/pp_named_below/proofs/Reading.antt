@@ -1,8 +1,8 @@
 -- The fields of a tree that was looked at, one after another, and where they stand.
 use Rattle.std.proofs.Common.{◌≡◌, ◌⊎◌, ℕ, zero, suc, ◌+◌, List, [], ◌∷◌, ◌++◌, take, Some}
 use Rattle.std.proofs.Common.{refl, sym, ap, ◌∙◌, append_assoc, slice_get, inl, inr}
-use Rattle.std.proofs.lemmas.List.{append-nil, take_more}
-use Rattle.std.proofs.lemmas.Option.{get_or_from_slice_get, same_Some, slice_get_within}
+use Rattle.std.proofs.lemmas.List.{append-nil}
+use Rattle.std.proofs.lemmas.Option.{same_Some}
 use Rattle.pp_clause.specs.Literal.{Literal}
 use Rattle.pp_domain.specs.declared.symbol.Symbol.{Symbol}
 use Rattle.pp_domain.specs.declared.symbol.Symbol.TheVariants as symbol
@@ -12,11 +12,7 @@ use Rattle.pp_named_trees.specs.declared.arena.NamedTree.{NamedTree}
 use Rattle.pp_named_trees.specs.Found.{IsPlaceOf}
 use Rattle.pp_named_below.specs.declared.fields.TreeField.{TreeField}
 use Rattle.pp_named_below.specs.Fields.{AreTreeFields, fields_among, looked_at, trees_among}
-
-taken_next : {X : Type 0} (xs : List X) (i : ℕ) (x : X) → slice_get xs i ≡ Some x
-    → take (i + 1) xs ≡ take i xs ++ x ∷ []
-taken_next xs i x at =
-    take_more xs i x (slice_get_within xs i x at) ∙ ap (λ z. take i xs ++ z ∷ []) (get_or_from_slice_get xs i x x at)
+use Rattle.pp_list.proofs.Lists.{taken_next}
 
 -- ---- one more
 

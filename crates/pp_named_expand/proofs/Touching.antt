@@ -1,7 +1,7 @@
 -- Before the first look the groups can be worked out: nothing rests on them yet.
-use Rattle.std.proofs.Common.{◌≡◌, ◌⊎◌, ℕ, zero, suc, List, [], ◌∷◌, length, Some, refl, sym, ap, ◌∙◌}
+use Rattle.std.proofs.Common.{◌≡◌, ◌⊎◌, ℕ, zero, suc, List, [], ◌∷◌, length, refl, sym, ap, ◌∙◌}
 use Rattle.std.proofs.Common.{subst}
-use Rattle.std.proofs.Common.{inl, inr, slice_get, arith, ◌<◌, ◌^◌, length-append}
+use Rattle.std.proofs.Common.{inl, inr, arith, ◌<◌, ◌^◌, length-append}
 use Rattle.pp_prog.specs.declared.types.TypeTable.{TypeTable}
 use Rattle.pp_gate.specs.declared.gate.Gate.{Gate}
 use Rattle.pp_gate.proofs.Growing.{Grows_none}
@@ -15,6 +15,7 @@ use Rattle.pp_named_trees.specs.Meaning.{IsUntouched, NamedFits, named_sense}
 use Rattle.pp_named_trees.proofs.Keeping.{agree_back}
 use Rattle.pp_named_trees.proofs.Lawful.{named_lawful}
 use Rattle.pp_named_expand.specs.Touched.{IsTouched}
+use Rattle.pp_list.proofs.Lists.{nothing}
 
 pub touched_none : (types : TypeTable) (d : NamedTrees) (gs : List Gate) → NamedFits types d gs → IsTouched types d gs d
 touched_none types d gs fits = record {
@@ -42,9 +43,6 @@ no_groups types groups more none are news =
     empty : (xs : List ℕ) → 0 ≡ length xs → [] ≡ xs
     empty [] e = refl
     empty (x ∷ xs) e = absurd (omega (arith, e))
-
-nothing : {X : Type 0} {Y : Type 0} (xs : List X) (i : ℕ) (x : X) → xs ≡ [] → slice_get xs i ≡ Some x → Y
-nothing xs i x none at = let no : slice_get [] i ≡ Some x = subst (λ ys. slice_get ys i ≡ Some x) none at in cc
 
 untouched_groups : (types : TypeTable) (d : NamedTrees) (gs : List Gate) (groups : List ℕ) → NamedFits types d gs
     → IsUntouched d → AreGroups (field_table types) groups → IsTouched types d gs (record d { groups = groups })

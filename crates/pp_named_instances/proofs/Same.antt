@@ -15,7 +15,7 @@ use Rattle.pp_prog.specs.declared.types.Datatype.{Datatype}
 use Rattle.pp_prog.specs.declared.types.TypeTable.{TypeTable}
 use Rattle.pp_prog.specs.declared.value.Value.{Value}
 use Rattle.pp_prog.specs.declared.value.Value.TheVariants as value
-use Rattle.pp_prog.specs.declared.value.Value.TheVariants.{outs-Int, outs-Bool}
+use Rattle.pp_prog.specs.declared.value.Value.TheVariants.{outs-Int}
 use Rattle.pp_prog.specs.declared.value.Value.TheViews.{out-Value}
 use Rattle.pp_prog.specs.Table.{in_block, in_block_of}
 use Rattle.pp_prog.proofs.Values.{ctor_same, same_ctor}
@@ -29,6 +29,7 @@ use Rattle.pp_wordgate.specs.Meaning.{word_of}
 use Rattle.pp_domain.specs.declared.symbol.Symbol.{Symbol}
 use Rattle.pp_domain.specs.declared.symbol.Symbol.TheVariants as symbol
 use Rattle.pp_domain.specs.Naming.{Naming, IsNaming, HasCtor, IsOfData}
+use Rattle.pp_domain.proofs.AnySort.{bool_same}
 use Rattle.pp_named_trees.specs.declared.arena.Alternative.{Alternative}
 use Rattle.pp_named_trees.specs.declared.arena.Expansion.{Expansion}
 use Rattle.pp_named_trees.specs.declared.arena.NamedTree.{NamedTree}
@@ -43,9 +44,6 @@ zero_word a v w e f = ap (λ (n : ℕ). cast_signed w32 n) (e ∙ sym f)
 
 int_same : (x y : _) → value.Int x ≡ value.Int y → x ≡ y
 int_same x y e = let o = sym (outs-Int x) ∙ ap out-Value e ∙ outs-Int y in cc
-
-bool_same : (x y : Bool) → value.Bool x ≡ value.Bool y → x ≡ y
-bool_same x y e = let o = sym (outs-Bool x) ∙ ap out-Value e ∙ outs-Bool y in cc
 
 first_same : (v w : Value) (vs ws : List Value) → v ∷ vs ≡ w ∷ ws → v ≡ w
 first_same v w vs ws e = cc

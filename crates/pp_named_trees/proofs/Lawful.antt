@@ -1,5 +1,5 @@
 -- The laws of the domain of named trees, and a domain without trees.
-use Rattle.std.proofs.Common.{◌≡◌, ℕ, true, List, [], Some, refl, subst, slice_get, ap, inl}
+use Rattle.std.proofs.Common.{◌≡◌, true, List, [], refl, ap, inl}
 use Rattle.pp_prog.specs.declared.types.TypeTable.{TypeTable}
 use Rattle.pp_gate.specs.declared.gate.Gate.{Gate}
 use Rattle.pp_gate.specs.Circuit.{IsOf, IsCircuit}
@@ -9,12 +9,10 @@ use Rattle.pp_named_trees.specs.declared.arena.NamedTrees.{NamedTrees}
 use Rattle.pp_named_trees.specs.Arena.{looked}
 use Rattle.pp_named_trees.specs.Laws.{named_laws}
 use Rattle.pp_named_trees.specs.Meaning.{named_sense}
+use Rattle.pp_list.proofs.Lists.{nothing}
 
 pub named_lawful : Lawful named_sense
 named_lawful = named_laws
-
-nothing : {X : Type 0} {Y : Type 0} (xs : List X) (i : ℕ) (x : X) → xs ≡ [] → slice_get xs i ≡ Some x → Y
-nothing xs i x none at = let no : slice_get [] i ≡ Some x = subst (λ ys. slice_get ys i ≡ Some x) none at in cc
 
 pub named_fresh : (types : TypeTable) (d : NamedTrees) (gs : List Gate) → IsCircuit gs → IsOf gs d.ok
     → d.ok ≡ record { var = 1; positive = true } → d.nodes ≡ [] → d.expansions ≡ [] → d.levels ≡ [] → d.groups ≡ []

@@ -10,9 +10,6 @@ use Rattle.pp_translation.specs.Numbers.{rank_of}
 use Rattle.pp_typed.specs.Sorted.{ctors_of}
 use Rattle.pp_typed.specs.declared.typed.TypedCtor.{TypedCtor}
 
-pub same_some : (n m : ℕ) → Some n ≡ Some m → n ≡ m
-same_some n m e = cc
-
 below_or_last : (c i : ℕ) → c < i + 1 → (c ≡ i) ⊎ (c < i)
 below_or_last zero zero h = inl refl
 below_or_last zero (suc i) h = inr (omega arith)

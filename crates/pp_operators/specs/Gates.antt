@@ -1,5 +1,6 @@
 -- How many gates operators on numbers of 32 bits may take: sums and orders eight for each bit, shifts sixteen,
--- operators on bits and equality two; products eight for each pair of bits, quotients sixteen. Source: own.
+-- operators on bits and equality two; products eight for each pair of bits, quotients sixteen. `!` turns a literal and
+-- takes none; `&&` and `||` aren't on numbers. Source: own.
 use Rattle.std.specs.Prelude.{ℕ}
 use Rattle.pp_operators.specs.declared.class.OperatorClass.{OperatorClass}
 use Rattle.pp_operators.specs.declared.class.OperatorClass.TheVariants as class

@@ -16,6 +16,7 @@ use Rattle.pp_instances.specs.Order.{IsListing, MemberOf, Precedes, member_of}
 use Rattle.pp_instances.specs.declared.member.Decl.TheVariants.{Function, Root}
 use Rattle.pp_instances.specs.declared.member.Instance.{Instance}
 use Rattle.pp_instances.specs.declared.member.Member.{Member}
+use Rattle.pp_instances.proofs.Decls.{one_function, one_root}
 use Rattle.pp_order.proofs.Listing.{AreProper}
 use Rattle.pp_order.specs.Laws.{ListedMembersDiffer, ListedNamesDiffer}
 use Rattle.pp_typed.specs.WellSorted.{IsWellSorted}
@@ -83,12 +84,6 @@ module _ (typed : Typed) (kind : MemberOf) (tells : (n m : ℕ) → kind n ≡ k
         let one = one_member i j a b there here same in
         places i j (λ lt. absurd (apart i j a b lt there here one))
         (λ lt. absurd (apart j i b a lt here there (sym one))) (λ is. is)
-
-one_function : (n m : ℕ) → Function n ≡ Function m → n ≡ m
-one_function n m is = cc
-
-one_root : (n m : ℕ) → Root n ≡ Root m → n ≡ m
-one_root n m is = cc
 
 pub listed_members_differ : ListedMembersDiffer
 listed_members_differ typed ms functions roots listed = (

@@ -8,6 +8,7 @@ use Rattle.std.proofs.lemmas.List.Elements.{All-contains_itself, All-weaker, Con
 use Rattle.std.proofs.lemmas.List.Elements.{Contains-append_left, Contains-append_right, Contains-push}
 use Rattle.std.proofs.lemmas.List.Elements.{Contains-push_cases, recursion_from_All}
 use Rattle.std.proofs.lemmas.Map.Keys.{IsDistinct-cons}
+use Rattle.std.proofs.lemmas.Option.{same_Some}
 use Rattle.pp_instance_names.specs.Laws.{AreOneKind, both_functions, both_roots}
 use Rattle.pp_instances.proofs.Kept.{nothing_in}
 use Rattle.pp_instances.specs.Closure.{Distinct}
@@ -28,16 +29,13 @@ pub record IsKind (kind : Decl → Option ℕ) (make : MemberOf) : Type 0 where
   pub finds : (n : ℕ) → kind (make n) ≡ Some n
   pub one_kind : (n m : ℕ) → AreOneKind (make n) (make m)
 
-some_is : {X : Type 0} (x y : X) → Some x ≡ Some y → x ≡ y
-some_is x y is = cc
-
 tells_function : (d : Decl) (n : ℕ) → as_function d ≡ Some n → d ≡ Function n
-tells_function (Function f) n is = ap Function (some_is f n is)
+tells_function (Function f) n is = ap Function (same_Some f n is)
 tells_function (Root r) n is = cc
 
 tells_root : (d : Decl) (n : ℕ) → as_root d ≡ Some n → d ≡ Root n
 tells_root (Function f) n is = cc
-tells_root (Root r) n is = ap Root (some_is r n is)
+tells_root (Root r) n is = ap Root (same_Some r n is)
 
 pub functions_are : IsKind as_function Function
 functions_are = record { tells = tells_function; finds = λ n. refl; one_kind = both_functions }

@@ -1,13 +1,13 @@
 -- The sites of a function weigh no more than its nodes, and sites that weigh at most 1 at each offset are apart.
 use Rattle.std.proofs.Common.{◌≡◌, ◌+◌, ◌≤◌, ℕ, zero, suc, List, [], ◌∷◌, ◌++◌, Option, Some, None, slice_get, ap}
 use Rattle.std.proofs.Common.{arith, refl, sym, Bool, true, false}
+use Rattle.std.proofs.lemmas.Option.{same_Some}
 use Rattle.pp_operators.specs.Classes.{is_division}
 use Rattle.pp_tree.specs.declared.operator.BinaryOp.{BinaryOp}
 use Rattle.pp_tree.specs.Plain.{CaseTrees, DefTree, PostTree, Tree, Trees, apply, assert_in, binary, bool, choice}
 use Rattle.pp_tree.specs.Plain.{field, guarded_case, int, matching, more_trees, name, no_cases, no_trees, plain_case}
 use Rattle.pp_tree.specs.Plain.{unary, val_in}
 use Rattle.pp_typed.specs.Apart.{Mark, a_call, a_match, an_assertion, division_mark, operator_mark}
-use Rattle.pp_types_laws.proofs.Ranges.{same_some}
 use Rattle.pp_types_laws.specs.Sites.{AreOnce, all_sites, case_sites, def_sites, list_sites, post_sites, sites}
 use Rattle.pp_ordinary.proofs.OneAt.{one_at, one_here}
 use Rattle.pp_ordinary.proofs.Weights.{weigh, weigh_all, weigh_cases, weigh_def, weigh_list, weigh_post}
@@ -124,7 +124,7 @@ module _ (mass : ℕ → ℕ) where
 some_weight : (ms : List Mark) (i : ℕ) (m : Mark) → slice_get ms i ≡ Some m → 1 ≤ marks_weight (one_at m.1.1) ms
 some_weight [] i m e = cc
 some_weight (n ∷ ms) zero m e =
-    omega (arith, one_here m.1.1 n.1.1 (ap (λ (x : Mark). x.1.1) (sym (same_some n m e))))
+    omega (arith, one_here m.1.1 n.1.1 (ap (λ (x : Mark). x.1.1) (sym (same_Some n m e))))
 some_weight (n ∷ ms) (suc i) m e = omega (arith, some_weight ms i m e)
 
 twice : (n : Mark) (ms : List Mark) (j : ℕ) (m : Mark) → n ≡ m → slice_get ms j ≡ Some m
@@ -135,6 +135,6 @@ twice n ms j m is e h =
 pub apart : (ms : List Mark) → ((x : ℕ) → marks_weight (one_at x) ms ≤ 1) → AreOnce ms
 apart [] h i j m e f = cc
 apart (n ∷ ms) h zero zero m e f = refl
-apart (n ∷ ms) h zero (suc j) m e f = absurd (twice n ms j m (same_some n m e) f (h m.1.1))
-apart (n ∷ ms) h (suc i) zero m e f = absurd (twice n ms i m (same_some n m f) e (h m.1.1))
+apart (n ∷ ms) h zero (suc j) m e f = absurd (twice n ms j m (same_Some n m e) f (h m.1.1))
+apart (n ∷ ms) h (suc i) zero m e f = absurd (twice n ms i m (same_Some n m f) e (h m.1.1))
 apart (n ∷ ms) h (suc i) (suc j) m e f = ap suc (apart ms (λ x. omega (arith, h x)) i j m e f)

@@ -4,11 +4,12 @@ use lib.Signed.{◌≤ℤ◌, ◌<ℤ◌}
 use mir.ValLaws.{to_z-Fits}
 use Rattle.std.proofs.Common.{◌≡◌, ◌^◌, ◌≤◌, ℕ, Bool, true, false, cond, Option, Some, None, refl, subst, arith}
 use Rattle.std.specs.Int.{w32, cast_signed}
-use Rattle.std.specs.Int.RustNames.{int_le, int_lt, FitsSigned}
+use Rattle.std.specs.Int.RustNames.{FitsSigned}
 use Rattle.std.specs.Prelude.{bytes_eq, codes, nat_le, nat_lt, neg_ℤ}
 use Rattle.std.proofs.lemmas.Bool.{and_from, ltb-true}
 use Rattle.std.proofs.lemmas.Int.{ints, SFits-int_wrap}
 use Rattle.pp_grammar.specs.Words.{bound_of, negated_of, negation_of_bits, negative_of, number_of, word_of_bits}
+use Rattle.pp_list.proofs.Integers.{at_most_true, less_true}
 use Rattle.pp_tokens.specs.declared.token.TokenKind.{TokenKind}
 use Rattle.pp_tokens.specs.declared.token.TokenKind.TheVariants.{Number, Hex}
 use Rattle.pp_tree.specs.Plain.{Word}
@@ -18,12 +19,6 @@ use Rattle.pp_typed.specs.Sorted.{is_int}
 abbrev pub IsNarrow : TokenKind → Type 0
 IsNarrow (Hex n) = n ≤ 0xFFFFFFFF
 IsNarrow _ = Unit {0}
-
-at_most_true : (a b : ℤ) → a ≤ℤ b → int_le a b ≡ true
-at_most_true a b h = grind (arith, ints)
-
-less_true : (a b : ℤ) → a <ℤ b → int_lt a b ≡ true
-less_true a b h = grind (arith, ints)
 
 fitting : (z : ℤ) → FitsSigned w32 z → is_int z ≡ true
 fitting z f =

@@ -1,6 +1,6 @@
 -- Units that texts spell are ordinary.
-use Rattle.std.proofs.Common.{ℕ, List, All, Contains}
-use Rattle.std.proofs.lemmas.List.Elements.{All-contains_itself}
+use Rattle.std.proofs.Common.{ℕ, List, Contains}
+use Rattle.std.proofs.lemmas.List.Elements.{All-contains_itself, All-weaker}
 use Rattle.pp_declared.specs.Listed.{DefIn, decls_in}
 use Rattle.pp_plain_names.proofs.Names.{declared_names_are_plain}
 use Rattle.pp_plain_names.specs.Laws.{declared_name}
@@ -12,10 +12,6 @@ use Rattle.pp_ordinary.proofs.DefInts.{DeclInts, spelled_ints}
 use Rattle.pp_ordinary.proofs.Listed.{IfClass, IfDef, OfEachUnit, each_decl, each_def, each_root}
 use Rattle.pp_ordinary.specs.Ordinary.{AreOrdinary}
 use Rattle.pp_ordinary.specs.Spelled.{EachSpells, Spells}
-
--- what follows for each of a list from what holds of each
-each : {X : Type 0} (P Q : X → Type 0) (xs : List X) → ((x : X) → P x → Q x) → All P xs → All Q xs
-each P Q xs follows h k d lt = follows _ (h k d lt)
 
 abbrev PlainClass : ClassTree → Type 0
 PlainClass c = IsPlain c.name
@@ -50,17 +46,18 @@ plain_names text u s d here = declared_names_are_plain text s.tokens u d s.utf8 
 
 classes_plain : OfEachUnit (IfClass PlainClass)
 classes_plain n text u s =
-    each (Contains u.decls) (IfClass PlainClass n) u.decls (λ d here. plain_class n d (plain_names text u s d here))
+    All-weaker (Contains u.decls) (IfClass PlainClass n)
+    (λ d here. plain_class n d (plain_names text u s d here)) u.decls
     (All-contains_itself u.decls)
 
 defs_plain : OfEachUnit (IfDef PlainDef)
 defs_plain n text u s =
-    each (Contains u.decls) (IfDef PlainDef n) u.decls (λ d here. plain_def n d (plain_names text u s d here))
+    All-weaker (Contains u.decls) (IfDef PlainDef n) (λ d here. plain_def n d (plain_names text u s d here)) u.decls
     (All-contains_itself u.decls)
 
 defs_ints : OfEachUnit (IfDef IntsOf)
 defs_ints n text u s =
-    each DeclInts (IfDef IntsOf n) u.decls (ints_def n)
+    All-weaker DeclInts (IfDef IntsOf n) (ints_def n) u.decls
     (all_of DeclInts u.decls (spelled_ints text s.tokens s.cut u s.spells))
 
 pub ordinary : (texts : List (List ℕ)) (units : List UnitTree) → EachSpells texts units → AreOrdinary units

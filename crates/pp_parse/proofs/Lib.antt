@@ -1,4 +1,3 @@
-mod Lists
 mod Runs
 mod Roots
 mod Spelled

@@ -13,10 +13,10 @@ use Rattle.pp_grammar.specs.Frames.{Frame, Parsed, State, Fault, failed, syntax_
 use Rattle.pp_grammar.specs.LeftOut.{first_unused, is_unused}
 use Rattle.pp_parse_state.specs.declared.fault.Stop.{Stop}
 use Rattle.pp_parse_state.specs.declared.fault.Stop.TheVariants.{Memory, Syntax, Unsupported}
-use Rattle.pp_parse.specs.declared.place.Place.{Place}
-use Rattle.pp_parse.specs.declared.place.Place.TheVariants.{Between, Within, Done}
+use Rattle.pp_parse_items.specs.declared.place.Place.{Place}
+use Rattle.pp_parse_items.specs.declared.place.Place.TheVariants.{Between, Within, Done}
 use Rattle.pp_parse.specs.Answers.{IsLast, IsOpen}
-use Rattle.pp_parse.specs.Shown.{Fails, state_of}
+use Rattle.pp_parse_items.specs.Shown.{Fails, state_of}
 
 -- ---- the first unused word is a token
 

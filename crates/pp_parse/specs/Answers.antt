@@ -11,7 +11,7 @@ use Rattle.pp_parse_state.specs.declared.fault.Stop.{Stop}
 use Rattle.pp_parse_state.specs.declared.fault.Stop.TheVariants as stop
 use Rattle.pp_parse.specs.declared.fault.ParseFault.{ParseFault}
 use Rattle.pp_parse.specs.declared.fault.ParseFault.TheVariants.{Syntax, TooDeep, Unsupported, Memory}
-use Rattle.pp_parse.specs.Shown.{Fails}
+use Rattle.pp_parse_items.specs.Shown.{Fails}
 
 -- the automaton neither stopped nor came to the end of a unit
 abbrev pub IsOpen : State → Type 0

@@ -18,10 +18,10 @@ ghost use Rattle.pp_parse.specs.Answers.{IsAnswer, IsLast, IsRefusal, IsStop, Is
 ghost use Rattle.pp_parse.specs.Spelled.{AnswersUnit, HasFewNodes, IsWhy, RefusesWord, StandsAtToken};
 
 use crate::fault::ParseFault;
-use crate::place::{ItemMode, Parsed, Place};
 use crate::steps::step;
 use crate::unused::first_unused;
 use bumpalo::Bump;
+use pp_parse_items::place::{ItemMode, Parsed, Place};
 use pp_parse_state::{Current, Stack, Stop};
 use pp_text::{Name, Text};
 use pp_tokens::Token;

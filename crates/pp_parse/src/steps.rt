@@ -5,18 +5,18 @@ ghost use Rattle.pp_tokens.specs.Spans.{IsSpan};
 ghost use Rattle.pp_grammar.specs.Frames.{Frame as plain_frame};
 ghost use Rattle.pp_grammar.specs.Automaton.{moved, on_item_mode, step};
 ghost use Rattle.pp_parse_state.specs.Shown.{frames, move_of};
-ghost use Rattle.pp_parse.specs.Shown.{Steps, item_mode_of, parsed_of, state_of};
+ghost use Rattle.pp_parse_items.specs.Shown.{Steps, item_mode_of, parsed_of, state_of};
 
-use crate::declarations::{
+use crate::modes::on_mode;
+use pp_parse_items::declarations::{
     on_after_at, on_after_case, on_annotation, on_declaration, on_item, on_modifiers, on_start,
 };
-use crate::items::{
+use pp_parse_items::items::{
     on_after_import, on_after_item, on_after_object, on_after_package, on_chosen, on_object_line,
     on_object_title, on_package_name, on_path_dot, on_path_name, on_want_chosen,
 };
-use crate::place::{ItemMode, Parsed, Place};
+use pp_parse_items::place::{ItemMode, Parsed, Place};
 use pp_parse_state::{Current, Move, Stack, Stop};
-use pp_parse_steps::on_mode;
 
 /// The token stands between declarations.
 fn on_item_mode<'a>(

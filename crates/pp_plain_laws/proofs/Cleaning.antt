@@ -31,11 +31,11 @@ use Rattle.pp_prog.proofs.PartSorts.{bool_then}
 use Rattle.pp_checks.specs.Marks.{CaseDescents, Seen, case_step, in_guard, marks_of, seen_step}
 use Rattle.pp_plain_laws.proofs.Counts.{count_append, places_append}
 use Rattle.pp_plain_laws.proofs.Patterns.{pattern_marked}
-use Rattle.pp_plain_laws.proofs.Scope.{IsClean, clean_then, clean_value, more_in_scope}
+use Rattle.pp_plain_laws.proofs.Scope.{IsClean, clean_then, clean_value, more_in_scope, truth_clean}
 use Rattle.pp_plain_laws.proofs.Setting.{Setting, below_trans, Sorted, Placed, Meant, Looked, SortedArm, PlacedArm}
 use Rattle.pp_plain_laws.proofs.Setting.{MeantArm, LookedArm, found_in, carried_by, InScope, IsLive, IsExpr, IsCase, E}
 use Rattle.pp_plain_laws.proofs.Setting.{K}
-use Rattle.pp_plain_laws.proofs.Levels.{level_clean, level_few, level_variable, looked, truth_clean, under}
+use Rattle.pp_plain_laws.proofs.Levels.{level_clean, level_few, level_variable, looked, under}
 
 module _ (x : Setting) where
   abbrev p : Program
@@ -116,7 +116,7 @@ module _ (x : Setting) where
       clean_then _
       (clean_then _ (g.1.clean (scope ++ ts) sort.Bool are.0 (met_left _ _ met) (env ++ vs) have marks inside
       (omega (arith, fg, fb, d, f, tight)))
-      (λ v at. (truth_clean x) v))
+      (λ v at. truth_clean c v))
       (λ t at. taken_clean t _ (b.1.clean (scope ++ ts) u are.1 (met_right _ _ met) (env ++ vs) have marks inside
       (omega (arith, fg, fb, d, f, tight))))
 

@@ -26,7 +26,6 @@ use Rattle.pp_prog.specs.Values.{IsBelow}
 use Rattle.pp_eval.specs.Meaning.{CallMeaning, Frame, Meaning, all_from, arm, attempt, attempt_with, binary, field}
 use Rattle.pp_eval.specs.Meaning.{first_case, guarded, meaning, meaning_step, or_next, taken}
 use Rattle.pp_eval.specs.Meaning as mean
-use Rattle.pp_eval.specs.Operators.{truth}
 use Rattle.pp_eval.specs.Part.{found}
 use Rattle.pp_sound.proofs.Cases.{each_arm}
 use Rattle.pp_prog.proofs.ValueSorts.{Have, have_more, have_one}
@@ -35,10 +34,10 @@ use Rattle.pp_prog.proofs.PartSorts.{alike_are, binary_parts, bool_then, call_so
 use Rattle.pp_prog.proofs.PartSorts.{tree_then, unary_part}
 use Rattle.pp_checks.specs.Marks.{CaseDescents, Seen, as_check, first_param_of, goes_down, in_all, in_cases, inside_at}
 use Rattle.pp_checks.specs.Marks.{is_inside, is_live, seen_step, when}
-use Rattle.pp_run_laws.proofs.Stops.{MayDivide, field_stops, found_stops, operated_stops, truth_stops, unary_stops}
+use Rattle.pp_run_laws.proofs.Stops.{MayDivide, field_stops, found_stops, operated_stops, unary_stops}
 use Rattle.pp_plain_laws.proofs.Counts.{count_append, ids, uncounted, places_append}
 use Rattle.pp_plain_laws.proofs.Scope.{IsClean, IsOther, clean_either, clean_stop, clean_then, clean_value, found_some}
-use Rattle.pp_plain_laws.proofs.Scope.{one_in_scope, other_stuck}
+use Rattle.pp_plain_laws.proofs.Scope.{one_in_scope, other_stuck, truth_clean}
 use Rattle.pp_plain_laws.proofs.Setting.{GoesBelow, Setting, Sorted, Placed, Meant, Looked, SortedArm, PlacedArm}
 use Rattle.pp_plain_laws.proofs.Setting.{MeantArm, LookedArm, found_in, carried_by, InScope, IsLive, E, K, exprs, cases}
 use Rattle.pp_plain_laws.proofs.Setting.{with_sites, with_case_sites, list_few, list_clean, list_sorted, variable_at}
@@ -201,9 +200,6 @@ module _ (x : Setting) where
             (precondition g pre ∷ measure g down ∷ []),
       )
 
-  pub truth_clean : (v : Value) → IsClean c (truth v)
-  truth_clean v = record { told = truth_stops (IsOther c) (other_stuck c) v }
-
   may_fail : (op : BinaryOp) (check : Option CheckId) → (carried_by x) (operator_site op check ∷ []) ≡ 0
       → MayDivide (IsOther c) (other_stuck c) op check
   may_fail Div check none = (other_fails x) check (uncounted c.0 kind.Division check c refl (omega (arith, none)))
@@ -214,9 +210,9 @@ module _ (x : Setting) where
       → (a b : Meaning) (env : List Value) → IsClean c (a old env) → IsClean c (b old env)
       → IsClean c (binary op a b check old env)
   binary_clean AndAlso check may a b env ka kb =
-      clean_then _ ka (λ x at. clean_then _ (truth_clean x) (λ t is. clean_either t kb clean_value))
+      clean_then _ ka (λ x at. clean_then _ (truth_clean c x) (λ t is. clean_either t kb clean_value))
   binary_clean OrElse check may a b env ka kb =
-      clean_then _ ka (λ x at. clean_then _ (truth_clean x) (λ t is. clean_either t clean_value kb))
+      clean_then _ ka (λ x at. clean_then _ (truth_clean c x) (λ t is. clean_either t clean_value kb))
   binary_clean op check may a b env ka kb =
       clean_then _ ka (λ x at. clean_then _ kb (λ y is. record {
         told = operated_stops (IsOther c) (other_stuck c) op
@@ -324,7 +320,7 @@ module _ (x : Setting) where
       let g = places_append c.0 ((Placed x) t.0 scope) ((Placed x) a.0 scope) in
       clean_then _ (t.1.clean scope sort.Bool k.0 (met_left _ _ (met_left _ _ met)) env have marks inside
       (omega (arith, ft, fa, fb, d, e, f, g, tight)))
-      (λ v at. clean_then _ (truth_clean v) (λ q is. clean_either q
+      (λ v at. clean_then _ (truth_clean c v) (λ q is. clean_either q
       (a.1.clean scope s both.0 (met_right _ _ (met_left _ _ met)) env have marks inside
       (omega (arith, ft, fa, fb, d, e, f, g, tight)))
       (b.1.clean scope s both.1 (met_right _ _ met) env have marks inside
@@ -384,7 +380,7 @@ module _ (x : Setting) where
       let other = uncounted c.0 kind.Assertion (Some check) c refl (omega (arith, ft, fr, d, f, tight)) in
       clean_then _ (t.1.clean scope sort.Bool k.0 (met_left _ _ met) env have marks inside
       (omega (arith, ft, fr, d, f, tight)))
-      (λ v at. clean_then _ (truth_clean v) (λ q is. clean_either q
+      (λ v at. clean_then _ (truth_clean c v) (λ q is. clean_either q
       (rest.1.clean scope s k.1 (met_tail met_after) env have marks inside (omega (arith, ft, fr, d, f, tight)))
       (clean_stop ((other_fails x) (Some check) other check refl))))
   level_clean (layer.Call g args pre down) scope s h met env have marks inside tight =

@@ -28,12 +28,11 @@ use Rattle.pp_sound.proofs.Sites.{AreMet, met_left, met_right}
 use Rattle.pp_prog.proofs.PartSorts.{has_the_sort_is, some_sort}
 use Rattle.pp_checks.specs.Marks.{descents_from, in_all, post_descents, pre_descents, seen}
 use Rattle.pp_run_laws.proofs.MeasureSorts.{told_value}
-use Rattle.pp_run_laws.proofs.Stops.{truth_stops}
 use Rattle.pp_plain_laws.proofs.Cleaning.{expr_clean}
 use Rattle.pp_plain_laws.proofs.Setting.{CallsClean, IsExpr, Setting}
 use Rattle.pp_plain_laws.proofs.Counts.{count, count_append, places, places_append, uncounted}
-use Rattle.pp_plain_laws.proofs.Scope.{AreInScope, IsClean, IsOther, clean_either, clean_stop, clean_then, clean_value}
-use Rattle.pp_plain_laws.proofs.Scope.{one_in_scope, other_stuck}
+use Rattle.pp_plain_laws.proofs.Scope.{AreInScope, IsClean, clean_either, clean_stop, clean_then, clean_value}
+use Rattle.pp_plain_laws.proofs.Scope.{one_in_scope, truth_clean}
 use Rattle.pp_plain_laws.proofs.Tight.{AreTight, are_tight, measure_few}
 
 none_marked : (n k : ℕ) → marked (replicate n false) k ≡ true → ⊥
@@ -100,9 +99,6 @@ module _ (p : Program) (i : ℕ) (f : Function) (args : List Value) (called : Is
     below = λ k w m at. absurd (none_marked (length f.params) k m);
   }
 
-  truth_clean : (v : Value) → IsClean c (truth v)
-  truth_clean v = record { told = truth_stops (IsOther c) (other_stuck c) v }
-
   allowed_clean : (pre : Option Expr) → is_sorted_pre p.types p.functions pre scope ≡ true
       → AreMet p i (pre_sites p.types p.functions pre scope)
       → count c.0 (pre_descents p.functions pp pre marks) ≡ places c.0 (pre_sites p.types p.functions pre scope)
@@ -111,7 +107,7 @@ module _ (p : Program) (i : ℕ) (f : Function) (args : List Value) (called : Is
   allowed_clean (Some pre) sorted met tight =
       clean_then truth ((none_expr pre).clean scope sort.Bool (has_the_sort_is p.types p.functions sort.Bool _ sorted)
       met args called.arguments marks inside tight)
-      (λ v at. truth_clean v)
+      (λ v at. truth_clean c v)
 
   measures_clean : (es : List Expr) → is_sorted_measure p.types p.functions es scope ≡ true
       → AreMet p i (measure_sites p.types p.functions es scope)
@@ -162,7 +158,7 @@ module _ (p : Program) (i : ℕ) (f : Function) (args : List Value) (called : Is
         (have_more p.types.ctors scope (f.result ∷ []) args (v ∷ []) called.arguments
         (have_one p.types.ctors f.result v has))
         (marks ++ false ∷ []) (one_in_scope pp v0 marks args v inside) (omega (arith, few, b, tight)))
-        (λ x at. clean_then _ (truth_clean x) (λ t is. clean_either t clean_value
+        (λ x at. clean_then _ (truth_clean c x) (λ t is. clean_either t clean_value
         (clean_stop (λ e. let one : post.0 ≡ c = cc in other (ap Some one)))))
 
     body_clean : IsClean c (and_then (meaning calls f.body frame args) (λ v. finished calls f.post frame args v))

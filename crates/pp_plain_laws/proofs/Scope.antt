@@ -10,7 +10,9 @@ use Rattle.pp_eval.specs.declared.outcome.Stop.{Stop}
 use Rattle.pp_eval.specs.declared.outcome.Stop.TheVariants.{Deep, Fails, Stuck}
 use Rattle.pp_eval.specs.Meaning.{Frame, Meaning, all_from}
 use Rattle.pp_eval.specs.Part.{Part, and_then, either, found}
+use Rattle.pp_eval.specs.Operators.{truth}
 use Rattle.pp_run_laws.proofs.Follows.{Stops}
+use Rattle.pp_run_laws.proofs.Stops.{truth_stops}
 use Rattle.pp_guess_runs.proofs.Truth.{then_value}
 use Rattle.pp_plain_laws.proofs.Patterns.{split_at}
 
@@ -29,6 +31,10 @@ module _ (c : CheckId) where
 
   pub other_stuck : IsOther Stuck
   other_stuck e = cc
+
+-- a value that is taken for a truth doesn't stop at the check
+pub truth_clean : (c : CheckId) (v : Value) → IsClean c (truth v)
+truth_clean c v = record { told = truth_stops (IsOther c) (other_stuck c) v }
 
 pub clean_value : {c : CheckId} {A : Type 0} {a : A} → IsClean c (Ok a)
 clean_value = record { told = tt }

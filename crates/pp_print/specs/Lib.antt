@@ -1,4 +1,5 @@
 pub mod Values
+pub mod Pending
 pub mod Lines
 pub mod Refusals
 pub mod Puts

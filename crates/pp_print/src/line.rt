@@ -42,7 +42,7 @@ pub fn invalid_line(
 {
     let mut out = format!(in alloc; "{name}: invalid, ")?;
     push_check(&mut out, kind, place)?;
-    push_arguments(&mut out, ctors, params, values)?;
+    push_arguments(alloc, &mut out, ctors, params, values)?;
     out.push_str("\n")?;
     Ok(out)
 }

@@ -19,7 +19,7 @@ pub fn done_line(
     ensures { IfOk result (λ s. string_bytes s ≡ done_text ctors.now name.now value.now) }
 {
     let mut out = format!(in alloc; "{name} = ")?;
-    push_value(&mut out, ctors, value)?;
+    push_value(alloc, &mut out, ctors, value)?;
     out.push_str("\n")?;
     Ok(out)
 }

@@ -1,7 +1,7 @@
 -- What the calls of several parts are together.
 use Rattle.std.proofs.Common.{◌≡◌, ℕ, ◌+◌, ◌<◌, List, [], ◌∷◌, ◌++◌, map, take, length, get_or}
-use Rattle.std.proofs.Common.{refl, sym, ap, ◌∙◌, append_assoc}
-use Rattle.std.proofs.lemmas.List.{append-nil, take_more}
+use Rattle.std.proofs.Common.{sym, ap, ◌∙◌, append_assoc}
+use Rattle.std.proofs.lemmas.List.{append-nil, map_push, take_more}
 use Rattle.pp_prog.specs.Calls.{joined}
 
 -- two parts, one after the other
@@ -13,10 +13,6 @@ two_parts start a b p q r =
 pub joined_push : {A : Type 0} (xss : List (List A)) (xs : List A) → joined (xss ++ xs ∷ []) ≡ joined xss ++ xs
 joined_push [] xs = append-nil xs
 joined_push (ys ∷ yss) xs = ap (λ l. ys ++ l) (joined_push yss xs) ∙ sym (append_assoc ys (joined yss) xs)
-
-map_push : {A B : Type 0} (f : A → B) (xs : List A) (x : A) → map f (xs ++ x ∷ []) ≡ map f xs ++ f x ∷ []
-map_push f [] x = refl
-map_push f (y ∷ ys) x = ap (λ l. f y ∷ l) (map_push f ys x)
 
 -- the parts of one more item
 pub one_more : {A : Type 0} (f : A → List ℕ) (xs : List A) (i : ℕ) (x : A) (start : List ℕ) {mid end : List ℕ}

@@ -1,6 +1,7 @@
 -- Where an expression has a sort, it is the one that is read off its form.
 use Rattle.std.proofs.Common.{◌≡◌, ℕ, nat_eq, Bool, true, false, if◌then◌else◌, List, [], ◌∷◌, ◌++◌, map, Option, Some}
 use Rattle.std.proofs.Common.{None, slice_get, refl, sym, ap, ◌∙◌, subst, ◌&&◌}
+use Rattle.std.proofs.lemmas.Option.{same_Some}
 use Rattle.pp_tree.specs.declared.operator.BinaryOp.{BinaryOp}
 use Rattle.pp_operators.specs.Classes.{class_of}
 use Rattle.pp_operators.specs.declared.class.OperatorClass.{OperatorClass}
@@ -35,11 +36,8 @@ use Rattle.pp_prog.specs.Results.{Binds, Body, Result, bind_each, binds, binds_s
 use Rattle.pp_prog.specs.Results.{class_result, field_result, fields_of_ctor, first_ctor, first_result, operator_result}
 use Rattle.pp_prog.specs.Results.{or_int, result_of, result_step, sort_at, tree_result, unary_result}
 
-same_some : (s t : Sort) → Some s ≡ Some t → s ≡ t
-same_some s t e = cc
-
 if_sort : (b : Bool) (t s : Sort) → sort_if b t ≡ Some s → t ≡ s
-if_sort true t s e = same_some t s e
+if_sort true t s e = same_Some t s e
 if_sort false t s e = let no : None ≡ Some s = e in cc
 
 after_int : (a : Option Sort) (o : Option Sort) (s : Sort) → an_int a o ≡ Some s → o ≡ Some s
@@ -60,28 +58,28 @@ left_alike (Some t) None s e = let no : None ≡ Some s = e in cc
 left_alike (Some t) (Some u) s e = ap Some (if_sort _ t s e)
 
 pub unary_is : (op : UnaryOp) (a : Option Sort) (s : Sort) → unary_sort op a ≡ Some s → unary_result op ≡ s
-unary_is Neg a s e = same_some sort.Int s (after_int a (Some sort.Int) s e)
-unary_is Not a s e = same_some sort.Bool s (after_bool a (Some sort.Bool) s e)
-unary_is Flip a s e = same_some sort.Int s (after_int a (Some sort.Int) s e)
+unary_is Neg a s e = same_Some sort.Int s (after_int a (Some sort.Int) s e)
+unary_is Not a s e = same_Some sort.Bool s (after_bool a (Some sort.Bool) s e)
+unary_is Flip a s e = same_Some sort.Int s (after_int a (Some sort.Int) s e)
 
 number_is : (a b : Option Sort) (s : Sort) → number_sort a b ≡ Some s → sort.Int ≡ s
 number_is a b s e =
-    same_some sort.Int s (after_int b (Some sort.Int) s (after_int a (an_int b (Some sort.Int)) s e))
+    same_Some sort.Int s (after_int b (Some sort.Int) s (after_int a (an_int b (Some sort.Int)) s e))
 
 order_is : (a b : Option Sort) (s : Sort) → order_sort a b ≡ Some s → sort.Bool ≡ s
 order_is a b s e =
-    same_some sort.Bool s (after_int b (Some sort.Bool) s (after_int a (an_int b (Some sort.Bool)) s e))
+    same_Some sort.Bool s (after_int b (Some sort.Bool) s (after_int a (an_int b (Some sort.Bool)) s e))
 
 truth_is : (a b : Option Sort) (s : Sort) → truth_sort a b ≡ Some s → sort.Bool ≡ s
 truth_is a b s e =
-    same_some sort.Bool s (after_bool b (Some sort.Bool) s (after_bool a (a_bool b (Some sort.Bool)) s e))
+    same_Some sort.Bool s (after_bool b (Some sort.Bool) s (after_bool a (a_bool b (Some sort.Bool)) s e))
 
 equality_is : (a b : Option Sort) (s : Sort) → equality_sort a b ≡ Some s → sort.Bool ≡ s
 equality_is a b s e = by (alike a b) e
   where
     by : (o : Option Sort) → then_sort o (λ t. Some sort.Bool) ≡ Some s → sort.Bool ≡ s
     by None e = let no : None ≡ Some s = e in cc
-    by (Some t) e = same_some sort.Bool s e
+    by (Some t) e = same_Some sort.Bool s e
 
 bits_are : (a b : Option Sort) (s : Sort) → bits_sort a b ≡ Some s → a ≡ Some s
 bits_are None b s e = let no : None ≡ Some s = e in cc
@@ -255,7 +253,7 @@ module _ (types : TypeTable) (functions : List Function) where
       Some s → result_step types functions
       (map-Expr Expr Case Result Body (result_of types functions) (body types functions) (under y)) scope ≡ s
   level (layer.Int n) scope s e = if_sort (is_int n) sort.Int s e
-  level (layer.Bool b) scope s e = same_some sort.Bool s e
+  level (layer.Bool b) scope s e = same_Some sort.Bool s e
   level (layer.Var i) scope s e = ap or_int e
   level (layer.Unary op a) scope s e = unary_is op (sort_of types functions a.0 scope) s e
   level (layer.Binary op a b check) scope s e =

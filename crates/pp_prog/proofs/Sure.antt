@@ -14,16 +14,19 @@ use Rattle.pp_prog.specs.Calls.{call_table}
 use Rattle.pp_prog.specs.Listing.{Site, plain, division, assertion, precondition, measure, matching, postcondition}
 use Rattle.pp_prog.specs.Valid.{Carries, Entry, IsValid}
 
-true_prop : {b : Bool} → IsProp (IsTrue b)
+-- that a test is true holds in one way
+pub true_prop : {b : Bool} → IsProp (IsTrue b)
 true_prop = hlevel props
 
-⊥_prop : IsProp ⊥
+-- what never holds holds in one way
+pub ⊥_prop : IsProp ⊥
 ⊥_prop = hlevel
 
 nat_prop : {n m : ℕ} → IsProp (n ≡ m)
 nat_prop = hlevel props
 
-bool_prop : {a b : Bool} → IsProp (a ≡ b)
+-- two truths are equal in one way
+pub bool_prop : {a b : Bool} → IsProp (a ≡ b)
 bool_prop = hlevel props
 
 module _ (types : TypeTable) (functions : List Function) where

@@ -5,14 +5,18 @@
 //! In the sources `\n`, `\r` and `\t` stand for what they stand for in Rust, `\x` for the byte 255, and `\s` stands
 //! between sources. The answer is the exit status and then what is put, where `\n` stands for a line feed. It is
 //! `no case` where a source is too long or there are more than 16, and `no words` where the words are refused before
-//! any source is read.
+//! any source is read. A run that the plain evaluator can make is made by it and by the machine, and the answer is `the
+//! evaluators differ` where their outcomes do.
 #![tactic(auto)]
+
+mod evaluators;
 
 ghost use Rattle.std.specs.Prelude.{◌↔◌, All, IsTrue};
 ghost use Rattle.pp_front.specs.Programs.{IsShort};
 ghost use Rattle.pp_modes.specs.Answers.{IsInRange};
 ghost use Rattle.pp_words.specs.Told.{task_told};
 
+use crate::evaluators::agree;
 use anyhow::Result;
 use pp_answers::{Response, respond};
 use pp_text::MOST_BYTES;
@@ -108,6 +112,9 @@ fn told(alloc: Global, task: Task, sources: &[Vec<u8>]) -> Result<String>
 {
     if sources.len() > 16 || !are_short(sources) {
         return Ok(String::from_str(alloc, "no case")?);
+    }
+    if !agree(alloc, &task, sources)? {
+        return Ok(String::from_str(alloc, "the evaluators differ")?);
     }
     shown(alloc, &respond(alloc, task, sources)?)
 }

@@ -1,6 +1,7 @@
 -- Lists of symbols that stand for values in trees up to a height.
 use Rattle.std.proofs.Common.{◌≡◌, ℕ, ◌+◌, List, [], ◌∷◌, ◌++◌, take, Bool, All, Some, slice_get, sym, ◌∙◌}
 use Rattle.std.proofs.lemmas.List.Elements.{All-cons, All-nil}
+use Rattle.std.proofs.lemmas.Option.{same_Some}
 use Rattle.pp_prog.specs.declared.sort.Sort.{Sort}
 use Rattle.pp_prog.specs.declared.types.TypeTable.{TypeTable}
 use Rattle.pp_prog.specs.declared.value.Value.{Value}
@@ -16,14 +17,11 @@ use Rattle.pp_bounded_trees.specs.Readable.{IsReadable}
 use Rattle.pp_bounded_trees.proofs.Candidates.{take_next}
 use Rattle.pp_bounded_trees.proofs.Known.{fields_are, symbol_is}
 
-some_same : {X : Type 0} (x y : X) → Some x ≡ Some y → x ≡ y
-some_same x y e = cc
-
 -- symbols stand for one list of values at most
 pub stand_single : (d : Trees) (n k : Naming) (a : ℕ → Bool) (xs : List (Symbol BoundedTree)) (vs ws : List Value)
     → SymbolsStand bounded_sense d a n xs vs → SymbolsStand bounded_sense d a k xs ws → vs ≡ ws
 stand_single d n k a xs vs ws one other =
-    some_same vs ws (sym (fields_are d n a xs vs one) ∙ fields_are d k a xs ws other)
+    same_Some vs ws (sym (fields_are d n a xs vs one) ∙ fields_are d k a xs ws other)
 
 -- symbols of the circuit that stand for values can be read
 pub stand_readable : (types : TypeTable) (d : Trees) (gs : List Gate) (n : Naming) (a : ℕ → Bool)

@@ -1,6 +1,6 @@
 -- A run is sound as far as those calls are answered that it can make.
-use Rattle.std.proofs.Common.{◌≡◌, ◌⊎◌, ◌==◌, ℕ, Bool, true, false, List, Option, Some, None, Ok, Err, Contains}
-use Rattle.std.proofs.Common.{Decides, slice_get, refl, sym, subst, inl, inr}
+use Rattle.std.proofs.Common.{◌≡◌, ◌⊎◌, ◌==◌, ℕ, List, Option, Some, None, Ok, Err, Contains}
+use Rattle.std.proofs.Common.{slice_get, refl, sym, subst, inl, inr}
 use Rattle.std.proofs.lemmas.Bool.Decides.{Decides-eqb}
 use Rattle.std.proofs.lemmas.Map.Made.{is_member-Decides}
 use Rattle.std.proofs.Math.Logic.{∥∥₁_elim}
@@ -31,10 +31,7 @@ use Rattle.pp_sound.proofs.Runs.{IsEnd, run_fine}
 use Rattle.pp_sound.proofs.Sites.{IsMet}
 use Rattle.pp_run_laws.specs.Laws.{AnsweredCallsSuffice, CallsAnswered, IsAnswered, IsAnsweredRun, IsOwnCheck, SameAt}
 use Rattle.pp_run_laws.proofs.Depends.{run_same}
-
-or_not : {P : Type 0} (b : Bool) → Decides b P → P ⊎ (P → ⊥)
-or_not true d = inl (d.0 refl)
-or_not false d = inr (λ p. let e : false ≡ true = d.1 p in cc)
+use Rattle.pp_graph.proofs.Decided.{or_not}
 
 pub contains_or_not : (gs : List ℕ) (g : ℕ) → Contains gs g ⊎ (Contains gs g → ⊥)
 contains_or_not gs g = or_not (is_member (λ x y. x == y) gs g) (is_member-Decides Decides-eqb gs g)

@@ -3,7 +3,7 @@ use Rattle.std.proofs.Common.{◌≡◌, ◌⊎◌, ℕ, zero, suc, Bool, true, 
 use Rattle.std.proofs.Common.{slice_get, Option, Some, None, refl, sym, ap, ◌∙◌, subst, inl, inr}
 use Rattle.std.specs.Prelude.{if◌then◌else◌, nat_eq}
 use Rattle.std.proofs.lemmas.Bool.{eqb-true}
-use Rattle.std.proofs.lemmas.Option.{same_Some}
+use Rattle.std.proofs.lemmas.Option.{none-some, same_Some}
 use Rattle.pp_prog.specs.declared.id.CtorId.{CtorId}
 use Rattle.pp_steps.specs.declared.step.Step.{Step}
 use Rattle.pp_steps.specs.declared.step.Step.TheVariants as steps
@@ -52,9 +52,6 @@ pub record IsField (news : List Step) (t : Step) (n : ℕ) : Type 0 where
 abbrev pub IsSource : List Step → Step → ℕ → Type 0
 IsSource news t n = IsChosen t n ⊎ IsField news t n
 
-none_some : {X : Type 0} (x : X) → None ≡ Some x → ⊥
-none_some x e = absurd (cc)
-
 module _ (news : List Step) where
   is_chosen : (c a b n : ℕ) (t : Bool) → nat_eq a b ≡ t → (if t then Some a else None) ≡ Some n
       → IsSource news (steps.Choose c a b) n
@@ -62,7 +59,7 @@ module _ (news : List Step) where
       let left = same_Some a n is in
       let right = sym (eqb-true a b e) ∙ left in
       inl (record { test = c; is = ap (λ x. steps.Choose c x b) left ∙ ap (λ x. steps.Choose c n x) right })
-  is_chosen c a b n false e is = absurd (none_some n is)
+  is_chosen c a b n false e is = absurd (none-some n is)
 
   is_part : (c d : CtorId) (i a n : ℕ) (fields : List ℕ) (t : Bool) → nat_eq c.0 d.0 ≡ t
       → slice_get news a ≡ Some (steps.Construct d fields) → (if t then slice_get fields i else None) ≡ Some n
@@ -78,18 +75,18 @@ module _ (news : List Step) where
     at = at;
     there = is;
   })
-  is_part c d i a n fields false e at is = absurd (none_some n is)
+  is_part c d i a n fields false e at is = absurd (none-some n is)
 
   is_field : (c : CtorId) (i a n : ℕ) (o : Option Step) → slice_get news a ≡ o → field_of c i o ≡ Some n
       → IsSource news (steps.CtorField c i a) n
   is_field c i a n (Some (steps.Construct d fields)) at is =
       is_part c d i a n fields (nat_eq c.0 d.0) refl at is
-  is_field c i a n o at is = absurd (none_some n is)
+  is_field c i a n o at is = absurd (none-some n is)
 
   pub is_source : (t : Step) (n : ℕ) → source news t ≡ Some n → IsSource news t n
   is_source (steps.Choose c a b) n is = is_chosen c a b n (nat_eq a b) refl is
   is_source (steps.CtorField c i a) n is = is_field c i a n (slice_get news a) refl is
-  is_source t n is = absurd (none_some n is)
+  is_source t n is = absurd (none-some n is)
 
   -- what holds of a step's own number, and of each source, holds of the number that stands for it
   pub source_or : (P : ℕ → Type 0) (k : ℕ) (t : Step) → P k → ((n : ℕ) → IsSource news t n → P n)

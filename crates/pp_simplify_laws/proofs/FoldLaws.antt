@@ -6,7 +6,7 @@ use Rattle.pp_prog.specs.declared.id.CtorId.{CtorId}
 use Rattle.pp_prog.specs.declared.sort.Sort.{Sort}
 use Rattle.pp_prog.specs.declared.types.TypeTable.{TypeTable}
 use Rattle.pp_prog.specs.Sizes.{height_at}
-use Rattle.pp_steps.proofs.Counting.{zero_plus}
+use Rattle.pp_steps.proofs.Counting.{plus_none, plus_suc, zero_plus}
 use Rattle.pp_steps.specs.declared.step.Step.{Step}
 use Rattle.pp_steps.specs.declared.step.Step.TheVariants as steps
 use Rattle.pp_steps.specs.Frames.{open_step}
@@ -76,19 +76,13 @@ nothing_made [] i d fields at = absurd (cc)
 nothing_made (p ∷ ps) zero d fields at = absurd (cc)
 nothing_made (p ∷ ps) (suc i) d fields at = nothing_made ps i d fields at
 
-plus_zero : (k : ℕ) → k ≡ k + 0
-plus_zero k = omega arith
-
-add_suc : (k n : ℕ) → suc k + n ≡ k + suc n
-add_suc k n = omega arith
-
 opens_read : (k : ℕ) (params : List Sort) → AllRead k (map open_step params)
 opens_read k [] = tt
 opens_read k (p ∷ ps) = (tt, opens_read (suc k) ps)
 
 reads_behind : (k : ℕ) (xs ys : List Step) → AllRead k (xs ++ ys) → AllRead (k + length xs) ys
-reads_behind k [] ys r = subst (λ n. AllRead n ys) (plus_zero k) r
-reads_behind k (x ∷ xs) ys r = subst (λ n. AllRead n ys) (add_suc k (length xs)) (reads_behind (suc k) xs ys r.1)
+reads_behind k [] ys r = subst (λ n. AllRead n ys) (plus_none k) r
+reads_behind k (x ∷ xs) ys r = subst (λ n. AllRead n ys) (plus_suc k (length xs)) (reads_behind (suc k) xs ys r.1)
 
 module _ (types : TypeTable) (σ : Sorts) where
   sorted_front : (k : ℕ) (xs ys : List Step) → AllSorted types σ k (xs ++ ys) → AllSorted types σ k xs
@@ -96,9 +90,9 @@ module _ (types : TypeTable) (σ : Sorts) where
   sorted_front k (x ∷ xs) ys r = (r.0, sorted_front (suc k) xs ys r.1)
 
   sorted_behind : (k : ℕ) (xs ys : List Step) → AllSorted types σ k (xs ++ ys) → AllSorted types σ (k + length xs) ys
-  sorted_behind k [] ys r = subst (λ n. AllSorted types σ n ys) (plus_zero k) r
+  sorted_behind k [] ys r = subst (λ n. AllSorted types σ n ys) (plus_none k) r
   sorted_behind k (x ∷ xs) ys r =
-      subst (λ n. AllSorted types σ n ys) (add_suc k (length xs)) (sorted_behind (suc k) xs ys r.1)
+      subst (λ n. AllSorted types σ n ys) (plus_suc k (length xs)) (sorted_behind (suc k) xs ys r.1)
 
 -- they make nothing, so each is known with all that it makes where it is known
 opens_make : (params : List Sort) (k : ℕ) → made_of (slice_get (map open_step params) k) ≡ []

@@ -1,6 +1,7 @@
 -- Folded steps do what the old ones do.
 use Rattle.std.proofs.Common.{◌≡◌, ℕ, zero, suc, ◌+◌, Bool, true, false, List, [], ◌∷◌, ◌++◌, length, map}
 use Rattle.std.proofs.Common.{slice_get, Option, Some, None, refl, sym, ap, ◌∙◌, subst, arith}
+use Rattle.std.proofs.Math.Bool.{and-false}
 use Rattle.std.specs.Prelude.{if◌then◌else◌, not, ◌&&◌, nat_eq}
 use Rattle.std.proofs.lemmas.Bool.{false≢true}
 use Rattle.std.proofs.lemmas.List.{length-map}
@@ -30,10 +31,6 @@ bool_is o b e = absurd (cc)
 
 truth_bit : (b : Bool) → bit (Truth b) ≡ b
 truth_bit b = ap bit_in (outs-Bool b)
-
-and_false : (b : Bool) → (b && false) ≡ false
-and_false true = refl
-and_false false = refl
 
 module _ (ctors : List Ctor) (missing : Missing) (ρ : Values) where
   does_at : (k : ℕ) (ss : List Step) (i : ℕ) (s : Step) → Obeys ctors missing ρ k ss → slice_get ss i ≡ Some s
@@ -80,7 +77,7 @@ module _ (ctors : List Ctor) (missing : Missing) (ρ : Values) where
         d ∙ ap (λ i. Truth (i && bit (ρ b))) (bit_at a true e) ∙ ap Truth (bit_at b w f)
     both_does a b v (Some true) None e f d = d
     both_does a b v None (Some false) e f d =
-        d ∙ ap (λ i. Truth (bit (ρ a) && i)) (bit_at b false f) ∙ ap Truth (and_false (bit (ρ a)))
+        d ∙ ap (λ i. Truth (bit (ρ a) && i)) (bit_at b false f) ∙ ap Truth (and-false (bit (ρ a)))
     both_does a b v None (Some true) e f d = d
     both_does a b v None None e f d = d
 

@@ -17,6 +17,7 @@ use Rattle.pp_steps.specs.Gates.{Heights, binary_gates, choice_gates, descent_ga
 use Rattle.pp_steps.specs.Gates.{height_of}
 use Rattle.pp_steps.specs.Reads.{Below, Reads}
 use Rattle.pp_steps.specs.Sorted.{Sorts}
+use Rattle.pp_steps.proofs.Counting.{le_trans}
 use Rattle.pp_simplify.specs.Folded.{both, bool_at, chosen, folded, taken, tested, turned}
 use Rattle.pp_simplify.specs.Literals.{computed}
 use Rattle.pp_simplify.specs.Operands.{renamed}
@@ -24,9 +25,6 @@ use Rattle.pp_simplify.proofs.Stating.{stated_by}
 
 none : (n : ℕ) → 0 ≤ n
 none n = omega arith
-
-le_trans : (a b c : ℕ) → a ≤ b → b ≤ c → a ≤ c
-le_trans a b c h g = omega arith
 
 max_grows : (a b c d : ℕ) → a ≤ c → b ≤ d → max a b ≤ max c d
 max_grows a b c d h g =

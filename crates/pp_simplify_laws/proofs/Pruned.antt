@@ -16,6 +16,7 @@ use Rattle.pp_steps.specs.Known.{AllTell, Tells}
 use Rattle.pp_steps.specs.Meaning.{Does, Missing, Obeys, Values}
 use Rattle.pp_steps.specs.Reads.{AllRead, Reads}
 use Rattle.pp_steps.specs.Sorted.{AllSorted, IsSorted, Sorts}
+use Rattle.pp_steps.proofs.Counting.{plus_suc, plus_zero}
 use Rattle.pp_simplify.specs.Operands.{Each, operands}
 use Rattle.pp_simplify.specs.Pruned.{pruned}
 use Rattle.pp_simplify_laws.specs.Kept.{kept_heights, kept_known, kept_sorts, kept_values}
@@ -134,12 +135,6 @@ module _ (kept : ℕ → Bool) where
   length_pruned k [] = refl
   length_pruned k (s ∷ ss) = ap suc (length_pruned (suc k) ss)
 
-  plus_zero : (k : ℕ) → k + 0 ≡ k
-  plus_zero k = omega arith
-
-  add_suc : (k n : ℕ) → suc k + n ≡ k + suc n
-  add_suc k n = omega arith
-
   pub opens_pruned : (k : ℕ) (params : List Sort) (rest : List Step)
       → ((i : ℕ) → i < k + length params → IsOn i)
       → pruned kept k (map open_step params ++ rest) ≡ map open_step params ++ pruned kept (k + length params) rest
@@ -148,4 +143,4 @@ module _ (kept : ℕ → Bool) where
       ap (λ b. (if b then open_step p else steps.Bool false) ∷ pruned kept (suc k) (map open_step ps ++ rest))
       (on k (omega arith))
       ∙ ap (λ l. open_step p ∷ l) (opens_pruned (suc k) ps rest (λ i lt. on i (omega arith))
-      ∙ ap (λ n. map open_step ps ++ pruned kept n rest) (add_suc k (length ps)))
+      ∙ ap (λ n. map open_step ps ++ pruned kept n rest) (plus_suc k (length ps)))

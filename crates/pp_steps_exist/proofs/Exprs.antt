@@ -11,7 +11,7 @@ use Rattle.pp_prog.specs.declared.expr.Expr.TheViews.{roll-Case, roll-Expr}
 use Rattle.pp_prog.specs.declared.expr.Function.{Function}
 use Rattle.pp_prog.specs.declared.expr.Pattern.{Pattern}
 use Rattle.pp_prog.specs.declared.id.CheckId.{CheckId}
-use Rattle.pp_steps.proofs.Counting.{less_suc, plus_zero, self_less}
+use Rattle.pp_steps.proofs.Counting.{first_two, less_suc, plus_zero, self_less}
 use Rattle.pp_steps.specs.declared.step.Step.TheVariants as steps
 use Rattle.pp_steps.specs.Compile.{Arm, Compiling, Site, all, arm, arm_step, compile, compile_step, one}
 use Rattle.pp_steps.specs.Frames.{Frame, admitting, allowing, any_of, descending, entering, falling, finishing, inlined}
@@ -126,9 +126,6 @@ Frames k (Some ns) = Below k ns
 
 end_two : (k : ℕ) → suc k < k + 2
 end_two k = omega arith
-
-first_two : (k : ℕ) → k < k + 2
-first_two k = omega arith
 
 falling_within : (new old : List ℕ) (k alive : ℕ) → Below k new → Below k old → alive < k
     → IsWithin LessOne k (falling new old k alive)

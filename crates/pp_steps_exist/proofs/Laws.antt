@@ -10,7 +10,7 @@ use Rattle.pp_prog.specs.declared.types.Ctor.{Ctor}
 use Rattle.pp_prog.specs.declared.value.Value.{Value}
 use Rattle.pp_prog.specs.declared.value.Value.TheVariants.{Bool as Truth}
 use Rattle.pp_prog.specs.Sorts.{has_sort, have_sorts, param_sorts}
-use Rattle.pp_steps.proofs.Counting.{zero_plus}
+use Rattle.pp_steps.proofs.Counting.{plus_zero, zero_plus}
 use Rattle.pp_steps.specs.declared.step.Step.{Step}
 use Rattle.pp_steps.specs.declared.step.Step.TheVariants as steps
 use Rattle.pp_steps.specs.Frames.{any_of, arguments, inlined, numbers, open_step, run_steps, running}
@@ -126,9 +126,6 @@ module _ (ctors : List Ctor) (missing : Missing) (chosen : Values) where
       → AllOpen ctors missing chosen ρ k xs
   open_left ρ k [] ys h = tt
   open_left ρ k (x ∷ xs) ys h = (h.0, open_left ρ (suc k) xs ys h.1)
-
-  plus_zero : (k : ℕ) → k + 0 ≡ k
-  plus_zero k = omega arith
 
   some_first : (n : ℕ) → 0 < suc n
   some_first n = omega arith

@@ -15,15 +15,13 @@ use Rattle.pp_steps.specs.declared.step.Step.TheVariants as steps
 use Rattle.pp_steps.specs.Meaning.{Does, Missing, Obeys, Values, answer_of, applied, bit, ctor_field, has_ctor}
 use Rattle.pp_steps.specs.Meaning.{is_answered, value_or}
 use Rattle.pp_steps.specs.Reads.{AllRead, Below, Reads}
+use Rattle.pp_steps.proofs.Counting.{less_suc, nat_eq_less, self_less}
 
 abbrev pub set : Values → ℕ → Value → Values
 set ρ k v i = if nat_eq i k then v else ρ i
 
 nat_eq_self : (k : ℕ) → nat_eq k k ≡ true
 nat_eq_self k = grind arith
-
-nat_eq_less : (i k : ℕ) → i < k → nat_eq i k ≡ false
-nat_eq_less i k h = grind arith
 
 pub set_here : (ρ : Values) (k : ℕ) (v : Value) → set ρ k v k ≡ v
 set_here ρ k v = rw (nat_eq_self k) refl
@@ -58,12 +56,6 @@ module _ (ctors : List Ctor) (missing : Missing) (chosen : Values) where
   abbrev pub solved : ℕ → List Step → Values → Values
   solved k [] ρ = ρ
   solved k (s ∷ ss) ρ = solved (suc k) ss (set ρ k (value ρ k s))
-
-  less_suc : (i k : ℕ) → i < k → i < suc k
-  less_suc i k h = omega arith
-
-  self_less : (k : ℕ) → k < suc k
-  self_less k = omega arith
 
   pub solved_keeps : (k : ℕ) (ss : List Step) (ρ : Values) (i : ℕ) → i < k → solved k ss ρ i ≡ ρ i
   solved_keeps k [] ρ i h = refl

@@ -1,7 +1,7 @@
 -- Pieces whose steps look at earlier ones alone, and whose numbers are those of steps that stand.
 use Rattle.std.proofs.Common.{◌≡◌, ℕ, suc, ◌+◌, ◌<◌, ◌≤◌, Bool, true, false, List, [], ◌∷◌, ◌++◌, length, Option, Some}
 use Rattle.std.proofs.Common.{None, sym, ap, ◌∙◌, subst, arith, length-append}
-use Rattle.pp_steps.proofs.Counting.{add_suc, plus_zero}
+use Rattle.pp_steps.proofs.Counting.{add_suc, plus_zero, two_up}
 use Rattle.pp_steps.specs.declared.step.Step.{Step}
 use Rattle.pp_steps.specs.declared.step.Step.TheVariants as steps
 use Rattle.pp_steps.specs.Compile.{one, unless, when}
@@ -77,9 +77,6 @@ end_one k = omega arith
 end_two : (k : ℕ) → suc k < k + 2
 end_two k = omega arith
 
-first_two : (k : ℕ) → k < k + 2
-first_two k = omega arith
-
 next_one : (a k : ℕ) → a < k → a < suc k
 next_one a k h = omega arith
 
@@ -103,9 +100,6 @@ end_three k = omega arith
 
 first_three : (k : ℕ) → k < k + 3
 first_three k = omega arith
-
-two_up : (a k : ℕ) → a < k → a < suc (suc k)
-two_up a k h = omega arith
 
 pub demand_within : (b : Bool) (k alive test : ℕ) → alive < k → test < k → IsWithin LessOne k (demand b k alive test)
 demand_within true k alive test a t = record {

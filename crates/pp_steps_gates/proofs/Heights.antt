@@ -9,7 +9,7 @@ use Rattle.pp_prog.specs.declared.sort.Sort.TheVariants as sort
 use Rattle.pp_prog.specs.declared.types.TypeTable.{TypeTable}
 use Rattle.pp_prog.specs.Sizes.{height_at}
 use Rattle.pp_prog.specs.Values.{greatest}
-use Rattle.pp_steps.proofs.Counting.{less_suc, self_less}
+use Rattle.pp_steps.proofs.Counting.{less_suc, nat_eq_less, self_less}
 use Rattle.pp_steps.specs.declared.step.Step.{Step}
 use Rattle.pp_steps.specs.declared.step.Step.TheVariants as steps
 use Rattle.pp_steps.specs.Gates.{AllHigh, Heights, height_of}
@@ -19,9 +19,6 @@ use Rattle.pp_steps.specs.Sorted.{AllSorted, Constructs, IsSorted, Sorts}
 -- the heights, with this one at number k
 abbrev set : Heights → ℕ → ℕ → Heights
 set η k h i = if nat_eq i k then h else η i
-
-nat_eq_less : (i k : ℕ) → i < k → nat_eq i k ≡ false
-nat_eq_less i k h = grind arith
 
 set_here : (η : Heights) (k h : ℕ) → set η k h k ≡ h
 set_here η k h = rw (eq-eqb k k refl) refl

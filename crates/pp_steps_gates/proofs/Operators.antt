@@ -44,8 +44,20 @@ pub operated_binary : (op : BinaryOp) (o q : Option Sort) (s : Sort) → operate
     → binary_sort op o q ≡ Some s
 operated_binary op o q s h = class_binary (class_of op) o q s h
 
-le_more : (n : ℕ) → n ≤ n + 64
+-- a node has room for more
+pub le_more : (n : ℕ) → n ≤ n + 64
 le_more n = omega arith
+
+-- bit by bit takes at most a gate a bit
+pub bits_within : (s : Sort) (n : ℕ) → by_sort 64 1 (λ d. 0) s ≤ n + 64
+bits_within sort.Int n = omega arith
+bits_within sort.Bool n = omega arith
+bits_within (sort.Tree d) n = omega arith
+
+-- the result's sort is that of the operands' sorts
+pub result_is : (op : BinaryOp) (o q : Option Sort) (r a s : Sort) → o ≡ Some a → r ≡ a → binary_sort op o q ≡ Some s
+    → operator_result op r ≡ s
+result_is op o q r a s oa ra h = binary_is op o q r s (λ t e. ra ∙ same_Some a t (sym oa ∙ e)) h
 
 module _ (types : TypeTable) where
   pub equality_fits : (s : Sort) (g h : ℕ) → g ≤ h → equality_gates types g s ≤ 4 * (32 + bits types h s)
@@ -62,11 +74,6 @@ module _ (types : TypeTable) where
       let most = max p.height e.height in
       subst (λ t. equality_gates types (min g h) s ≤ 4 * (32 + bits types most t) + 64) (sym is)
       (le_then _ _ _ (equality_fits s (min g h) most low) (le_more (4 * (32 + bits types most s))))
-
-  bits_within : (s : Sort) (n : ℕ) → by_sort 64 1 (λ d. 0) s ≤ n + 64
-  bits_within sort.Int n = omega arith
-  bits_within sort.Bool n = omega arith
-  bits_within (sort.Tree d) n = omega arith
 
   class_fits : (c : OperatorClass) (s : Sort) (g h : ℕ) (p e : Shape) → p.sort ≡ s → g ≤ p.height
       → class_gates types c (min g h) s ≤ class_extra types c p e + 64
@@ -114,10 +121,6 @@ module _ (types : TypeTable) (σ : Sorts) (η : Heights) (old : List Shape) wher
       → binary_gates types op (min (η x) (η y)) (σ x) ≤ binary_extra types op p e + 64
   step_fits op x y p e a hx is =
       operator_fits types op (σ x) (η x) (η y) p e (is ∙ sym hx.sort) hx.height
-
-  result_is : (op : BinaryOp) (o q : Option Sort) (r a s : Sort) → o ≡ Some a → r ≡ a → binary_sort op o q ≡ Some s
-      → operator_result op r ≡ s
-  result_is op o q r a s oa ra h = binary_is op o q r s (λ t e. ra ∙ same_Some a t (sym oa ∙ e)) h
 
   module _ (op : BinaryOp) (a b : Compiling) (v w : Visiting) (t u : Sorting) (ha : C a v t) (hb : C b w u) where
     -- an operator that is one step

@@ -54,6 +54,11 @@ inside_told ρ asked g x (Ok b) h = record { told = h.told }
 inside_told ρ asked g x (Err s) h =
     record { told = (h.told.0, subst (λ b. Flags ρ b x.fails) (sym (inner_looked asked g s)) h.told.1) }
 
+-- numbers stand for the values that are assigned to them
+pub values_at : (ρ : Values) (ks : List ℕ) → AreValues ρ ks (map ρ ks)
+values_at ρ [] = tt
+values_at ρ (k ∷ ks) = (refl, values_at ρ ks)
+
 abbrev pub IsAny : ℕ → ⊤ → Type 0
 IsAny n u = Unit {0}
 
@@ -61,14 +66,10 @@ module _ (ctors : List Ctor) (missing : Missing) (ρ : Values) where
   abbrev Made : {A : Type 0} → ℕ → Piece A → Type 0
   Made k x = IsMade ctors missing ρ k x
 
-  values_at : (ks : List ℕ) → AreValues ρ ks (map ρ ks)
-  values_at [] = tt
-  values_at (k ∷ ks) = (refl, values_at ks)
-
   -- the numbers stand for some frame
   pub some_frame : (ks : code.Frame) → (frame : Frame) × IsFrame ctors missing ρ ks frame
   some_frame None = (None, tt)
-  some_frame (Some ks) = (Some (map ρ ks), values_at ks)
+  some_frame (Some ks) = (Some (map ρ ks), values_at ρ ks)
 
   -- the steps of calls are right in each frame where this check is asked
   pub record AreSites (asked : Option CheckId) (sites : code.Frame → Site) (c d : CallMeaning) : Type 0 where

@@ -3,7 +3,6 @@ use Rattle.std.proofs.Common.{◌≡◌, ℕ, Bool, true, false, List, [], ◌�
 use Rattle.std.proofs.Common.{◌∙◌}
 use Rattle.std.specs.Prelude.{◌↔◌, nat_eq}
 use Rattle.std.proofs.Math.Logic.{∥∥₁_elim}
-use Rattle.std.proofs.Props.{props}
 use Rattle.std.proofs.lemmas.Bool.{eq-eqb, eqb-true}
 use Rattle.pp_prog.specs.declared.expr.Expr.{Expr}
 use Rattle.pp_prog.specs.declared.expr.Function.{Function}
@@ -12,6 +11,7 @@ use Rattle.pp_prog.specs.declared.program.Program.{Program}
 use Rattle.pp_prog.specs.declared.types.Ctor.{Ctor}
 use Rattle.pp_prog.specs.declared.value.Value.{Value}
 use Rattle.pp_prog.specs.Sorts.{param_sorts}
+use Rattle.pp_prog.proofs.Sure.{bool_prop}
 use Rattle.pp_eval.specs.declared.outcome.Outcome.{Outcome}
 use Rattle.pp_eval.specs.declared.outcome.Outcome.TheVariants.{Done, Outside}
 use Rattle.pp_eval.specs.declared.outcome.Outcome.TheVariants as end
@@ -34,9 +34,6 @@ use Rattle.pp_steps_run.proofs.Calls.{inlined_right}
 use Rattle.pp_steps_run.proofs.Lasting.{Lasts}
 use Rattle.pp_steps_run.proofs.Pieces.{bit_truth, obeys_left, obeys_right}
 use Rattle.pp_steps_run.proofs.Runs.{any_is, fails_in, running_fails}
-
-bool_prop : {a b : Bool} → IsProp (a ≡ b)
-bool_prop = hlevel props
 
 -- ---- a run that has an outcome fails no check
 

@@ -1,6 +1,7 @@
 -- The steps that compare measure values.
 use Rattle.std.proofs.Common.{◌≡◌, ℕ, suc, Bool, true, false, List, [], ◌∷◌, ◌++◌, Option, Some, None, Ok, Err, refl}
 use Rattle.std.proofs.Common.{sym, ap, ◌∙◌, subst}
+use Rattle.std.proofs.Math.Bool.{and-false, and_assoc}
 use Rattle.std.specs.Prelude.{◌&&◌, ◌||◌, if◌then◌else◌}
 use Rattle.pp_tree.specs.declared.operator.BinaryOp.TheVariants.{Equal}
 use Rattle.pp_prog.specs.declared.id.CheckId.{CheckId}
@@ -29,10 +30,6 @@ pub bit_if : (ρ : Values) (a b : ℕ) (t : Bool) → bit (if t then ρ a else �
 bit_if ρ a b true = refl
 bit_if ρ a b false = refl
 
-and_false : (a : Bool) → (a && false) ≡ false
-and_false true = refl
-and_false false = refl
-
 or_false : (a : Bool) → (a || false) ≡ a
 or_false true = refl
 or_false false = refl
@@ -42,10 +39,6 @@ and_swap true true = refl
 and_swap true false = refl
 and_swap false true = refl
 and_swap false false = refl
-
-and_assoc : (a b c : Bool) → ((a && b) && c) ≡ (a && (b && c))
-and_assoc true b c = refl
-and_assoc false b c = refl
 
 module _ (ctors : List Ctor) (missing : Missing) (ρ : Values) where
   abbrev Made : {A : Type 0} → ℕ → Piece A → Type 0
@@ -58,7 +51,7 @@ module _ (ctors : List Ctor) (missing : Missing) (ρ : Values) where
   falling_is (x ∷ xs) [] (v ∷ vs) [] a b k alive h = ap bit h.steps.0 ∙ bit_truth false
   falling_is (x ∷ []) (y ∷ ys) (v ∷ []) (w ∷ ws) a b k alive h =
       ap bit h.steps.0 ∙ bit_truth _ ∙ ap (λ u. goes_down u (ρ y)) a.0 ∙ ap (goes_down v) b.0
-      ∙ sym (ap (λ z. goes_down v w || z) (and_false (equal v w)) ∙ or_false (goes_down v w))
+      ∙ sym (ap (λ z. goes_down v w || z) (and-false (equal v w)) ∙ or_false (goes_down v w))
   falling_is (x ∷ z ∷ xs) (y ∷ ys) (v ∷ u ∷ vs) (w ∷ ws) a b k alive h =
       let one : Piece ℕ = plain (steps.GoesDown x y ∷ steps.Binary Equal x y ∷ []) k alive in
       let n = after k one in
@@ -89,9 +82,9 @@ module _ (ctors : List Ctor) (missing : Missing) (ρ : Values) where
       → bit (ρ (shaped new old k test alive).out) ≡ (bit (ρ test) && of_one_shape ctors vs ws)
   shaped_is [] [] [] [] a b k test alive h = sym (and_swap (bit (ρ test)) true)
   shaped_is [] (y ∷ ys) [] (w ∷ ws) a b k test alive h =
-      ap bit h.steps.0 ∙ bit_truth false ∙ sym (and_false (bit (ρ test)))
+      ap bit h.steps.0 ∙ bit_truth false ∙ sym (and-false (bit (ρ test)))
   shaped_is (x ∷ xs) [] (v ∷ vs) [] a b k test alive h =
-      ap bit h.steps.0 ∙ bit_truth false ∙ sym (and_false (bit (ρ test)))
+      ap bit h.steps.0 ∙ bit_truth false ∙ sym (and-false (bit (ρ test)))
   shaped_is (x ∷ xs) (y ∷ ys) (v ∷ vs) (w ∷ ws) a b k test alive h =
       let one : Piece ℕ = plain (steps.IsAlike x y ∷ steps.Both test k ∷ []) (suc k) alive in
       let n = after k one in

@@ -1,6 +1,6 @@
 -- The sorts that steps have by themselves: the sort of each follows from those of its operands. Steps that look at
 -- earlier ones alone have such sorts.
-use Rattle.std.proofs.Common.{◌≡◌, ℕ, suc, ◌+◌, ◌<◌, false, List, [], ◌∷◌, ◌++◌, length, Option, Some, None, slice_get}
+use Rattle.std.proofs.Common.{◌≡◌, ℕ, suc, ◌+◌, ◌<◌, List, [], ◌∷◌, ◌++◌, length, Option, Some, None, slice_get}
 use Rattle.std.proofs.Common.{refl, sym, ap, ◌∙◌, subst, arith}
 use Rattle.std.specs.Prelude.{nat_eq, if◌then◌else◌}
 use Rattle.std.proofs.lemmas.Bool.{eq-eqb}
@@ -9,7 +9,7 @@ use Rattle.pp_prog.specs.declared.sort.Sort.TheVariants as sort
 use Rattle.pp_prog.specs.declared.types.Ctor.{Ctor}
 use Rattle.pp_prog.specs.declared.types.TypeTable.{TypeTable}
 use Rattle.pp_prog.specs.ExprSorts.{a_tree, field_of_ctor, field_sort, unary_sort}
-use Rattle.pp_steps.proofs.Counting.{less_suc, self_less}
+use Rattle.pp_steps.proofs.Counting.{less_suc, nat_eq_less, self_less}
 use Rattle.pp_steps.specs.declared.step.Step.{Step}
 use Rattle.pp_steps.specs.declared.step.Step.TheVariants as steps
 use Rattle.pp_steps.specs.Reads.{AllRead, Reads}
@@ -63,9 +63,6 @@ module _ (types : TypeTable) where
 
 abbrev updated : Sorts → ℕ → Sort → Sorts
 updated σ k s i = if nat_eq i k then s else σ i
-
-nat_eq_less : (i k : ℕ) → i < k → nat_eq i k ≡ false
-nat_eq_less i k h = grind arith
 
 updated_here : (σ : Sorts) (k : ℕ) (s : Sort) → updated σ k s k ≡ s
 updated_here σ k s = rw (eq-eqb k k refl) refl

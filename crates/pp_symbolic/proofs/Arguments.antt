@@ -5,6 +5,7 @@ use Rattle.std.specs.Prelude.{slice_get, All, IsTrue}
 use Rattle.std.proofs.lemmas.Bool.{and_parts}
 use Rattle.std.proofs.lemmas.List.{take-append-drop}
 use Rattle.std.proofs.lemmas.List.Elements.{All-cons, All-nil}
+use Rattle.std.proofs.lemmas.Option.{same_Some}
 use Rattle.pp_prog.specs.declared.sort.Sort.{Sort}
 use Rattle.pp_prog.specs.declared.types.TypeTable.{TypeTable}
 use Rattle.pp_prog.specs.declared.value.Value.{Value}
@@ -52,10 +53,7 @@ sorts_from σ k (s ∷ ss) e = (
 pub sort_at : (σ : Sorts) (k : ℕ) (ss : List Sort) (j : ℕ) (s : Sort) → SortsFrom σ k ss → slice_get ss j ≡ Some s
     → σ (k + j) ≡ s
 sort_at σ k [] j s h e = absurd (cc)
-sort_at σ k (t ∷ ss) zero s h e = rw (plus_zero k) (h.0 ∙ some_same t s e)
-  where
-    some_same : (x y : Sort) → Some x ≡ Some y → x ≡ y
-    some_same x y q = cc
+sort_at σ k (t ∷ ss) zero s h e = rw (plus_zero k) (h.0 ∙ same_Some t s e)
 sort_at σ k (t ∷ ss) (suc j) s h e = rw (add_suc k j) (sort_at σ (suc k) ss j s h.1 e)
 
 seam : {X : Type 0} (pre : List X) (x : X) (xs : List X) → slice_get (pre ++ x ∷ xs) (length pre) ≡ Some x

@@ -2,6 +2,7 @@
 use Rattle.std.proofs.Common.{◌≡◌, ℕ, ◌+◌, ◌≤◌, ◌<◌, ◌^◌, ◌&&◌, List, [], ◌∷◌, ◌++◌, length, Bool, true, false, refl}
 use Rattle.std.proofs.Common.{sym, ap, ◌∙◌}
 use Rattle.std.proofs.Common.{subst, arith, take}
+use Rattle.std.proofs.Math.Bool.{and_assoc}
 use Rattle.std.specs.Prelude.{slice_get, get_or}
 use Rattle.std.proofs.lemmas.List.{take_more}
 use Rattle.pp_clause.specs.Literal.{Literal, lit_value}
@@ -16,10 +17,6 @@ use Rattle.pp_symbolic.specs.Guessed.{HaveLiterals, all_bits, register_bit}
 and_true : (b : Bool) → b ≡ (b && true)
 and_true true = refl
 and_true false = refl
-
-and_assoc : (a b c : Bool) → ((a && b) && c) ≡ (a && (b && c))
-and_assoc true b c = refl
-and_assoc false b c = refl
 
 module _ {T : Type 0} (s : ℕ → Bool) (rs : List (Symbol T)) where
   bits_push : (ks : List ℕ) (k : ℕ)

@@ -13,7 +13,6 @@ use Rattle.pp_prog.specs.Sorts.{have_sorts}
 use Rattle.pp_clause.specs.Literal.{Literal}
 use Rattle.pp_gate.specs.declared.gate.Gate.{Gate}
 use Rattle.pp_gate.specs.Circuit.{IsOf}
-use Rattle.pp_gate.specs.Laws.{AgreeUpTo}
 use Rattle.pp_gate.proofs.Agreement.{agree_along}
 use Rattle.pp_gate.proofs.Growing.{length-Grows}
 use Rattle.pp_domain.specs.declared.symbol.Symbol.{Symbol}
@@ -23,7 +22,7 @@ use Rattle.pp_domain.specs.Moves.{Moves}
 use Rattle.pp_domain.specs.Naming.{Naming}
 use Rattle.pp_domain.specs.Sense.{Sense, Good}
 use Rattle.pp_domain.specs.Symbols.{IsSymbol, SymbolsStand}
-use Rattle.pp_domain.proofs.Composition.{Moves_more, Moves_weaker}
+use Rattle.pp_domain.proofs.Composition.{Moves_more, Moves_weaker, agree_self}
 use Rattle.pp_domain.proofs.Symbols.{AreSymbols_later, SymbolsStand_later}
 use Rattle.pp_steps.proofs.Counting.{zero_plus}
 use Rattle.pp_steps.specs.declared.step.Step.{Step}
@@ -44,9 +43,6 @@ use Rattle.pp_symbolic.proofs.Arguments.{sorts_from, symbol_of}
 
 same_most : (a b c : ℕ) → a ≡ b → b ≤ c → a ≤ c
 same_most a b c e h = omega arith
-
-agree_self : (n : ℕ) (a : ℕ → Bool) → AgreeUpTo n a a
-agree_self n a = record { agree = λ x low high. refl }
 
 -- a register of the sort Boolean is a literal of the circuit
 pub record LiteralAt {T : Type 0} (rs : List (Symbol T)) (k : ℕ) (hs : List Gate) : Type 0 where

@@ -1,7 +1,7 @@
 -- The steps of a guess run, built on nothing over a domain that isn't exact: that they can be, and that the literal is
 -- true where values that obey them say so.
 use Rattle.std.proofs.Common.{◌≡◌, ℕ, ◌+◌, ◌≤◌, ◌^◌, ◌&&◌, List, [], length, false}
-use Rattle.std.proofs.Common.{Some, sym, subst, arith}
+use Rattle.std.proofs.Common.{sym, subst, arith}
 use Rattle.std.specs.Prelude.{slice_get}
 use Rattle.pp_prog.specs.declared.sort.Sort.{Sort}
 use Rattle.pp_prog.specs.declared.sort.Sort.TheVariants as sort
@@ -30,9 +30,7 @@ use Rattle.pp_build.specs.StepGates.{all_step_gates}
 use Rattle.pp_guess_gates.specs.Measure.{round_gates}
 use Rattle.pp_symbolic.specs.Guessed.{CanGuess, HaveLiterals, IsGuessed, all_bits, guess_gates, register_bit}
 use Rattle.pp_symbolic.proofs.GuessGates.{guess_steps_most}
-
-no_register : {X : Type 0} (k : ℕ) (x : X) → slice_get [] k ≡ Some x → ⊥
-no_register k x at = cc
+use Rattle.pp_list.proofs.Lists.{no_item}
 
 -- ---- registers
 
@@ -60,8 +58,8 @@ module _ {D T : Type 0} (m : Sense D T) (types : TypeTable) (inexact : m.exact �
       reads = can.reads.reads;
       sorted = can.have.sorted;
       registers = record {
-        of = λ k r at. absurd (no_register k r at);
-        high = λ k r at. absurd (no_register k r at);
+        of = λ k r at. absurd (no_item k r at);
+        high = λ k r at. absurd (no_item k r at);
       };
       fewer = omega arith;
       high = solved_high types can.have.sorts 0 g.steps (λ k. 0) can.reads.reads;

@@ -50,6 +50,7 @@ use Rattle.pp_symbolic.proofs.GuessWords.{word_model_fails}
 use Rattle.pp_symbolic.proofs.FlatFields.{fields_flat}
 use Rattle.pp_symbolic.proofs.GuessGates.{names_paid}
 use Rattle.pp_symbolic.proofs.RunFrame.{first_good}
+use Rattle.pp_list.proofs.Lists.{no_item}
 
 -- a step of those that values obey
 does_at : (ctors : List Ctor) (missing : Missing) (ρ : Values) (j : ℕ) (ss : List Step) (i k : ℕ) (s : Step)
@@ -60,9 +61,6 @@ does_at ctors missing ρ j (x ∷ ss) zero k s all at is =
     subst (λ n. Does ctors missing ρ s (ρ n)) e (subst (λ y. Does ctors missing ρ y (ρ j)) (same_Some x s at) all.0)
 does_at ctors missing ρ j (x ∷ ss) (suc i) k s all at is =
     does_at ctors missing ρ (suc j) ss i k s all.1 at (omega arith)
-
-no_register : {X : Type 0} (k : ℕ) (x : X) → slice_get [] k ≡ Some x → ⊥
-no_register k x at = cc
 
 -- a check belongs to one function
 same_owner : (p : Program) (i j c : ℕ) → IsCheckOf p i c → IsCheckOf p j c → i ≡ j
@@ -178,7 +176,7 @@ module _ {D T : Type 0} (m : Sense D T) (law : Lawful m) (inexact : m.exact ≡ 
               let follow : CanFollowAll m p.types d gs [] G.steps can.have.sorts v.naming (λ x. true) v.values v.missing
               = record {
                 good = first_good m p d gs law fresh one v.naming v.admitted;
-                stand = λ k x at. absurd (no_register k x at);
+                stand = λ k x at. absurd (no_item k x at);
                 are = v.are;
                 looked = λ k s le at. v.looked k s at;
                 does = λ k s le at.

@@ -1,7 +1,8 @@
 -- In a word function an assignment that says that the check fails is that of a guess run that fails it: the values
 -- are those of the registers.
-use Rattle.std.proofs.Common.{◌≡◌, ℕ, ◌&&◌, List, [], ◌∷◌, length, Bool, true, false, Option, None, Some, refl, sym}
+use Rattle.std.proofs.Common.{◌≡◌, ℕ, List, [], ◌∷◌, length, Bool, true, Option, None, Some, refl, sym}
 use Rattle.std.proofs.Common.{◌∙◌, subst, arith}
+use Rattle.std.proofs.lemmas.Bool.{and_parts}
 use Rattle.std.specs.Prelude.{slice_get}
 use Rattle.pp_prog.specs.declared.expr.Function.{Function}
 use Rattle.pp_prog.specs.declared.id.CheckId.{CheckId}
@@ -31,10 +32,6 @@ use Rattle.pp_symbolic.specs.Guessed.{IsGuessed, all_bits, register_bit}
 use Rattle.pp_symbolic.proofs.RunFrame.{nothing_open}
 use Rattle.pp_symbolic.proofs.WordRegisters.{registers_fail, value_of}
 
-both_parts : (a b : Bool) → (a && b) ≡ true → (a ≡ true) × (b ≡ true)
-both_parts true b h = (refl, h)
-both_parts false b h = absurd (cc)
-
 module _ {D T : Type 0} (m : Sense D T) (e : D) (hs : List Gate) (a : ℕ → Bool) where
   -- a register of a truth value that is true stands for a true value
   true_value : (r : Option (Symbol T)) → ((x : Symbol T) → r ≡ Some x → IsSymbol m e hs sort.Bool x)
@@ -56,7 +53,7 @@ module _ {D T : Type 0} (m : Sense D T) (law : Lawful m) (p : Program) (i : ℕ)
 
     holds : (lit_value a (m.ok e) ≡ true) × (all_bits a is.registers (guess_steps p.functions f c n).supposed ≡ true)
     holds =
-        both_parts (lit_value a (m.ok e)) (all_bits a is.registers (guess_steps p.functions f c n).supposed)
+        and_parts (lit_value a (m.ok e)) (all_bits a is.registers (guess_steps p.functions f c n).supposed)
         (sym (is.ok.value a model.gates) ∙ model.ok)
 
     some : AdmittedFor m p.types []
@@ -83,7 +80,7 @@ module _ {D T : Type 0} (m : Sense D T) (law : Lawful m) (p : Program) (i : ℕ)
         → AllOf (λ k. bit (value_of a (slice_get is.registers k)) ≡ true) ks
     all_own [] sorted on = tt
     all_own (k ∷ ks) sorted on =
-        let parts = both_parts (register_bit a (slice_get is.registers k)) (all_bits a is.registers ks) on in
+        let parts = and_parts (register_bit a (slice_get is.registers k)) (all_bits a is.registers ks) on in
         (on_own k sorted.0 parts.0, all_own ks sorted.1 parts.1)
 
     fails_before : register_bit a (slice_get is.registers (guess_steps p.functions f c n).fails) ≡ true

@@ -2,7 +2,7 @@
 use Rattle.std.proofs.Common.{◌≡◌, ℕ, ◌+◌, ◌<◌, List, length, Bool, true, false}
 use Rattle.std.proofs.Common.{None, Some, sym, ap, ◌∙◌, subst, arith}
 use Rattle.std.specs.Prelude.{slice_get}
-use Rattle.std.proofs.lemmas.Option.{slice_get_within}
+use Rattle.std.proofs.lemmas.Option.{same_Some, slice_get_within}
 use Rattle.pp_prog.specs.declared.check.Check.{Check}
 use Rattle.pp_prog.specs.declared.expr.Function.{Function}
 use Rattle.pp_prog.specs.declared.id.CheckId.{CheckId}
@@ -42,9 +42,6 @@ use Rattle.pp_symbolic.proofs.Simplified.{known_first, values_first}
 pub nothing_open : Missing
 nothing_open = record { field = λ c k. Truth false; answer = λ wait g params result args. None }
 
-some_same : {X : Type 0} (x y : X) → Some x ≡ Some y → x ≡ y
-some_same x y e = cc
-
 -- ---- the first assignment
 
 at_most_first : (k n : ℕ) → k < n → n ≡ 1 → k ≡ 0
@@ -59,7 +56,7 @@ module _ {D T : Type 0} (m : Sense D T) (p : Program) (d : D) (gs : List Gate) (
           let here = at_most_first k (length gs) (slice_get_within gs k g at) one in
           let is = (law.circuit p.types d gs fresh.fits).first in
           let constant : Constant ≡ g =
-          some_same Constant g (sym is ∙ ap (λ j. slice_get gs j) (sym here) ∙ at) in
+          same_Some Constant g (sym is ∙ ap (λ j. slice_get gs j) (sym here) ∙ at) in
           ap (λ h. gate_value (λ x. true) h) constant;
     }
 
@@ -95,7 +92,7 @@ module _ {D T : Type 0} (m : Sense D T) (p : Program) (c : CheckId) (round depth
           → bit (ρ next) ≡ lit_value a frame.fails
       literal_tells ρ known =
           let same : known.register ≡ symbol.Bit frame.fails =
-          some_same known.register (symbol.Bit frame.fails) (sym known.at ∙ ev.fails) in
+          same_Some known.register (symbol.Bit frame.fails) (sym known.at ∙ ev.fails) in
           let stands : ρ next ≡ Truth (lit_value a frame.fails) =
           subst (λ r. SymbolStands m e a n r (ρ next)) same known.stands in
           ap bit stands ∙ bit_truth (lit_value a frame.fails)
@@ -152,11 +149,11 @@ module _ {D T : Type 0} (m : Sense D T) (p : Program) (c : CheckId) (round depth
       circuit_ok = subst (λ l. IsOf hs l) (sym ev.ok) ev.ok_of;
       ok = λ a h. ap (λ l. lit_value a l) (sym ev.ok) ∙ h;
       of_function = λ j g other at.
-          let check = some_same owner.check other.check (sym owner.listed ∙ other.listed) in
+          let check = same_Some owner.check other.check (sym owner.listed ∙ other.listed) in
           let number : i ≡ j =
           sym owner.owner ∙ ap (λ (k : Check). k.function.0) check ∙ other.owner in
           let function : f ≡ g =
-          some_same f g (sym here ∙ ap (λ k. slice_get p.functions k) number ∙ at) in
+          same_Some f g (sym here ∙ ap (λ k. slice_get p.functions k) number ∙ at) in
           subst (λ k. IsFrameOf m p c round depth e hs frame k g) number
           (subst (λ h. IsFrameOf m p c round depth e hs frame i h) function is_frame_of);
     }

@@ -17,7 +17,7 @@ use pp_estimate::estimate;
 use pp_gate::Circuit;
 use pp_list::at;
 use pp_prog::{CheckId, Function, FunctionId, Program};
-use pp_symbolic::{Frame, Mode, NoMemory, symbolic};
+use pp_symbolic::{Mode, NoMemory, symbolic};
 use std::alloc::Global;
 use std::fs;
 
@@ -162,15 +162,33 @@ fn gates_of(
         4000000 }
 {
     let mut circuit = Circuit::new(alloc)?;
-    let mut domain = Bounded::fresh(&mut circuit)?;
-    let Frame {
-        arguments,
-        fails: _,
-        circuit_ok: _,
-    } = symbolic(
+    build(alloc, &mut circuit, program, plan, check, round, depth)?;
+    Ok(circuit.gates())
+}
+
+/// Builds the circuit of a round.
+fn build(
+    alloc: Global,
+    circuit: &mut Circuit,
+    program: &Program,
+    plan: &Plan,
+    check: CheckId,
+    round: u32,
+    depth: u32,
+) -> Result<(), NoMemory>
+    requires empty { length circuit.old ≡ 1 }
+    requires plan { IsPlanOf plan.now program.now }
+    requires check { check.0 < length program.now.checks }
+    requires round { round ≤ 12 }
+    requires depth { (1 ≤ depth) × (depth ≤ 6) }
+    requires size { spec.estimate program.now.types program.now.functions program.now.checks check.0 round depth ≤
+        4000000 }
+{
+    let mut domain = Bounded::fresh(circuit)?;
+    symbolic(
         alloc,
         &mut domain,
-        &mut circuit,
+        circuit,
         program,
         plan,
         check,
@@ -178,6 +196,5 @@ fn gates_of(
         round,
         depth,
     )?;
-    drop(arguments);
-    Ok(circuit.gates())
+    Ok(())
 }

@@ -3,9 +3,10 @@
 //! guess runs, the gates of their circuit beside what the estimate has for this round alone, the clauses of what is
 //! asked, the lemmas that were learnt, and how the proof ended. A round whose estimate is above 4,000,000 isn't built.
 
-ghost use Rattle.std.specs.Prelude.{◌<◌, ◌^◌, ◌≤◌, length, IfOk};
+ghost use Rattle.std.specs.Prelude.{◌≡◌, ◌<◌, ◌^◌, ◌≤◌, length, All, IfOk, OnOk};
 ghost use Rattle.pp_checks.specs.Plan.{IsPlanOf};
 ghost use Rattle.pp_estimate.specs.Estimates as spec;
+ghost use Rattle.pp_gate.specs.Circuit.{IsOf};
 
 use crate::accepted::accepted;
 use crate::circuits::numbered;
@@ -165,13 +166,34 @@ fn prove(
     requires lemmas { (1 ≤ lemmas) × (lemmas ≤ 1000000) }
     requires size { spec.estimate program.now.types program.now.functions program.now.checks check.0 round 1 ≤ 4000000 }
 {
-    let steps = steps_of(alloc, program, check, round)?;
     let mut circuit = Circuit::new(alloc)?;
-    let mut domain = Named::fresh(&mut circuit)?;
+    let asked = build(alloc, &mut circuit, program, plan, check, round)?;
+    let steps = steps_of(alloc, program, check, round)?;
+    take(alloc, &circuit, &asked, steps, lemmas)
+}
+
+/// Builds the round's circuit, and gives what is asked.
+fn build(
+    alloc: Global,
+    circuit: &mut Circuit,
+    program: &Program,
+    plan: &Plan,
+    check: CheckId,
+    round: u32,
+) -> Result<[Lit; 2], NoMemory>
+    requires empty { length circuit.old ≡ 1 }
+    requires plan { IsPlanOf plan.now program.now }
+    requires check { check.0 < length program.now.checks }
+    requires round { round ≤ 12 }
+    requires size { spec.estimate program.now.types program.now.functions program.now.checks check.0 round 1 ≤ 4000000 }
+    ensures size { OnOk result (length circuit.new ≤ 4000000) }
+    ensures of { IfOk result (λ asked. All (IsOf circuit.new) asked) }
+{
+    let mut domain = Named::fresh(circuit)?;
     let frame = symbolic(
         alloc,
         &mut domain,
-        &mut circuit,
+        circuit,
         program,
         plan,
         check,
@@ -179,9 +201,23 @@ fn prove(
         round,
         1,
     )?;
-    let asked = [frame.fails, frame.circuit_ok];
-    let clauses = circuit.clauses_of(&asked)?;
-    let end = ask(alloc, &clauses, &asked, lemmas)?;
+    Ok([frame.fails, frame.circuit_ok])
+}
+
+/// What the proof takes where this is asked of the circuit.
+fn take(
+    alloc: Global,
+    circuit: &Circuit,
+    asked: &[Lit],
+    steps: usize,
+    lemmas: u32,
+) -> Result<Taken, NoMemory>
+    requires size { length circuit.now ≤ 4000000 }
+    requires of { All (IsOf circuit.now) asked.now }
+    requires lemmas { (1 ≤ lemmas) × (lemmas ≤ 1000000) }
+{
+    let clauses = circuit.clauses_of(asked)?;
+    let end = ask(alloc, &clauses, asked, lemmas)?;
     Ok(Taken {
         steps,
         gates: circuit.gates(),

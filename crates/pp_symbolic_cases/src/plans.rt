@@ -10,7 +10,7 @@ mod lines;
 
 use crate::accepted::accepted;
 use anyhow::Result;
-use lines::lines;
+use lines::print_lines;
 use std::alloc::Global;
 use std::fs;
 
@@ -30,13 +30,6 @@ pub fn print_plans(rt: &HostRuntime, path: &str) -> Result<()> {
 
 /// Prints the lines on the program of a source.
 fn print_plan(rt: &impl Print, alloc: Global, source: &str) -> Result<()> {
-    for line in &lines_of(alloc, source)? {
-        println!(rt; "{line}")?;
-    }
-    Ok(())
-}
-
-fn lines_of(alloc: Global, source: &str) -> Result<Vec<String>> {
     let accepted = accepted(alloc, source)?;
-    lines(alloc, &accepted.program, &accepted.plan)
+    print_lines(rt, &accepted.program, &accepted.plan)
 }

@@ -2,6 +2,7 @@
 use Rattle.std.proofs.Common.{ℕ, suc, ◌+◌, ◌≡◌, ◌≢◌, ◌<◌, ◌≤◌, Bool, true, false, cond, List, [], ◌∷◌, Option, Some}
 use Rattle.std.proofs.Common.{None, sym, refl, ap, ◌∙◌, subst, inl, inr, arith, eqb, not}
 use Rattle.std.specs.Bool.{beq}
+use Rattle.std.specs.Option.{option_map}
 use Rattle.std.proofs.lemmas.Bool.{cond-true, cond-false, ne_eqb}
 use Rattle.std.proofs.lemmas.Bool.Decides.{eqb_tells}
 use Rattle.std.proofs.lemmas.List.Elements.{All-nil, All-cons, All-head, All-tail}
@@ -12,7 +13,7 @@ use Rattle.pp_clause.proofs.Has.{false_not_true}
 use Rattle.pp_trail.specs.declared.step.Step.{Step}
 use Rattle.pp_trail.specs.declared.marks.Mark.{Mark}
 use Rattle.pp_trail.specs.Trail.{lits, StandsAt, IsPlaceOf, IsTrail, value_in}
-use Rattle.pp_trail.specs.Marks.{mark_from, mark_value}
+use Rattle.pp_trail.specs.Marks.{mark_from, mark_value, sign_of}
 use Rattle.pp_trail.proofs.Places.{AreDistinct, IsAbsent, distinct_tail, distinct_head, absent_lits, absent_from_lits}
 
 pub mark_absent : (from : ℕ) (ss : List Step) (x : ℕ) → IsAbsent x ss → mark_from from ss x ≡ None
@@ -151,3 +152,8 @@ pub mark_past : (cs : List (List Literal)) (vars : ℕ) (ss : List Step) (x : �
 mark_past cs vars ss x t lt = mark_absent 0 ss x (absent_from_lits x ss (λ m h e.
     let le : m.var ≤ vars = has-All (λ l. l.var ≤ vars) (lits ss) m t.up_to h in
     absurd (omega arith)))
+
+-- a mark's sign says as much of a literal as the mark
+pub value_by_sign : (o : Option Mark) (p : Bool) → mark_value o p ≡ option_map (λ s. beq s p) (sign_of o)
+value_by_sign None p = refl
+value_by_sign (Some m) p = refl

@@ -23,12 +23,22 @@ pub record ArePlaces (marks : List (Option Mark)) (steps : List Step) : Type 0 w
 abbrev pub mark_value : Option Mark → Bool → Option Bool
 mark_value o positive = option_map (λ m. beq m.positive positive) o
 
+-- the sign of a mark
+abbrev pub sign_of : Option Mark → Option Bool
+sign_of o = option_map (λ m. m.positive) o
+
+-- the signs show the steps, variable by variable
+pub record AreSigns (signs : List (Option Bool)) (steps : List Step) : Type 0 where
+  pub shown : (x : ℕ) → x < length signs → slice_index_or signs x None ≡ sign_of (mark_from 0 steps x)
+
 -- what holds of the parts of a trail: no variable of the clauses is above `vars`, the steps are a trail over them,
--- the marks show it, and there is room for a step for each variable
-pub record IsSound (cs : List (List Literal)) (steps : List Step) (marks : List (Option Mark)) (vars capacity : ℕ) :
-    Type 0 where
+-- the marks and the signs show it, and there is room for a step for each variable
+pub record IsSound (cs : List (List Literal)) (steps : List Step) (marks : List (Option Mark))
+    (signs : List (Option Bool)) (vars capacity : ℕ) : Type 0 where
   pub clauses : All (IsUpTo vars) cs
   pub trail : IsTrail cs vars steps
   pub shows : ArePlaces marks steps
+  pub signed : AreSigns signs steps
   pub every : length marks ≡ vars + 1
+  pub every_sign : length signs ≡ vars + 1
   pub room : vars ≤ capacity

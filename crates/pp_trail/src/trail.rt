@@ -1,7 +1,7 @@
 //! A trail over clauses.
 ghost use Rattle.std.specs.Prelude.{ℕ, ◌≡◌, ◌≢◌, ◌+◌, ◌-◌, ◌^◌, ◌<◌, ◌≤◌, [], ◌∷◌, ◌++◌, None};
 ghost use Rattle.std.specs.Prelude.{length, take, All, IfSome, IfNone, IfOk, OnOk, OnErr};
-ghost use Rattle.pp_trail.specs.Marks.{mark_from, ArePlaces};
+ghost use Rattle.pp_trail.specs.Marks.{mark_from, sign_of, ArePlaces};
 ghost use Rattle.pp_clause.specs.Bound.{IsUpTo};
 ghost use Rattle.pp_trail.specs.Trail.{lits, IsReason, IsTrail, value_in, IsPlaceOf};
 
@@ -20,6 +20,8 @@ pub struct Trail {
     steps: Vec<Step>,
     // by variable; there are one more than the greatest variable
     marks: Vec<Option<Mark>>,
+    // by variable, the signs of the marks alone: propagation reads these, and they take a sixth of the memory
+    signs: Vec<Option<bool>>,
     vars: u32,
 }
 
@@ -33,7 +35,8 @@ impl Model for Trail {
     ghost use Rattle.std.specs.Prelude.{◌≡◌, ◌+◌, ◌≤◌, All, vec_len, vec_capacity};
     ghost use Rattle.pp_trail.specs.Marks.{IsSound};
 
-    ghost invariant = { λ s. IsSound s.clauses s.steps.items s.marks.items s.vars (vec_capacity s.steps) };
+    ghost invariant = { λ s. IsSound s.clauses s.steps.items s.marks.items s.signs.items s.vars
+        (vec_capacity s.steps) };
 }
 
 impl Trail {
@@ -45,10 +48,12 @@ impl Trail {
         let clauses = copy_of(alloc, clauses)?;
         let steps = Vec::with_capacity(alloc, vars as usize)?;
         let marks = vec![in alloc; None; vars as usize + 1]?;
+        let signs = vec![in alloc; None; vars as usize + 1]?;
         Ok(Trail {
             clauses,
             steps,
             marks,
+            signs,
             vars,
         })
     }
@@ -113,8 +118,8 @@ impl Trail {
     pub fn value(&self, lit: Lit) -> Option<bool>
         ensures { result ≡ value_in (lits self.now.steps) lit }
     {
-        match self.mark(lit.var()) {
-            Some(mark) => Some(mark.positive == lit.is_positive()),
+        match self.sign(lit.var()) {
+            Some(positive) => Some(positive == lit.is_positive()),
             None => None,
         }
     }
@@ -151,6 +156,18 @@ impl Trail {
         }
     }
 
+    /// Which sign the variable has in the trail.
+    fn sign(&self, var: u32) -> Option<bool>
+        ensures value { result ≡ sign_of (mark_from 0 self.now.steps var) }
+        ensures trail { IsTrail self.now.clauses self.now.vars self.now.steps }
+    {
+        if (var as usize) < self.signs.len() {
+            self.signs[var as usize]
+        } else {
+            None
+        }
+    }
+
     /// Adds a step. Its variable may be at most `vars`, and not in the trail; a reason must leave no other choice.
     /// There is room for it: there are no more steps than variables.
     pub fn push(&mut self, step: Step)
@@ -169,6 +186,7 @@ impl Trail {
         prove!(pushed.is_ok());
         let _ = pushed;
         self.marks[var as usize] = Some(mark);
+        self.signs[var as usize] = Some(mark.positive);
     }
 
     /// Takes the last step away.
@@ -177,7 +195,9 @@ impl Trail {
         ensures { self.new ≡ record self.old { steps = take (length self.old.steps - 1) self.old.steps } }
     {
         if let Some(step) = self.steps.pop() {
-            self.marks[step.lit.var() as usize] = None;
+            let var = step.lit.var();
+            self.marks[var as usize] = None;
+            self.signs[var as usize] = None;
         }
     }
 }

@@ -11,6 +11,7 @@ use Rattle.pp_declared.specs.Shown.{AreFewOfDefs, def_in, def_ins}
 use Rattle.pp_declared.specs.declared.listed.DefAt.{DefAt}
 use Rattle.pp_fault.specs.declared.Halt.{Halt}
 use Rattle.pp_fault.specs.Part.{Part, Tells, and_then}
+use Rattle.pp_fault.proofs.Parts.{goes, stops_as}
 use Rattle.pp_rules.specs.Bodies.{elab_def}
 use Rattle.pp_tree.specs.Plain.{UnitTree}
 use Rattle.pp_tree.specs.Shown.{def_of}
@@ -20,7 +21,6 @@ use Rattle.pp_typed.specs.declared.typed.TypedDef.{TypedDef}
 use Rattle.pp_types.proofs.Checked.{counted}
 use Rattle.pp_types.specs.Functions.{defs_after}
 use Rattle.pp_types_laws.proofs.Declarations.{DefHead, def_heads}
-use Rattle.pp_typing.proofs.Turns.{goes, stops_as}
 
 -- the rest of the functions after a turn, and where a turn stops
 module _ (declared : Declared) (whole : Part (List TypedDef)) (defs : List DefAt) (ss : List Signature) (i : ℕ)

@@ -4,7 +4,8 @@ use Rattle.std.proofs.Common.{List, [], ◌∷◌, ◌++◌, Option, Some, None,
 use Rattle.std.proofs.Common.{unwrap_or, refl, sym, ap, subst, arith}
 use Rattle.std.proofs.lemmas.Bool.{eqb-true}
 use Rattle.std.proofs.lemmas.List.{map-append, take_all, take_more}
-use Rattle.std.proofs.lemmas.Option.{slice_get-get_or}
+use Rattle.std.proofs.lemmas.Option.{same_Some, slice_get-get_or}
+use Rattle.pp_generic.proofs.Putting.{put_param}
 use Rattle.pp_names.specs.Find.{find_ctor, find_function, owners_of}
 use Rattle.pp_names.specs.Places.{Word, places_from}
 use Rattle.pp_rules.specs.declared.callee.Callee.{Callee}
@@ -20,9 +21,8 @@ use Rattle.pp_typed.specs.declared.sort.GenericSort.TheVariants as sort
 use Rattle.pp_typed.specs.declared.typed.TypedCtor.{TypedCtor}
 use Rattle.pp_typed.specs.declared.typed.TypedDef.{TypedDef}
 use Rattle.pp_typed.specs.declared.typed.TypedRoot.{TypedRoot}
-use Rattle.pp_types_laws.proofs.Layers.{put_param}
 use Rattle.pp_types_laws.proofs.Patterns.{HasFields}
-use Rattle.pp_types_laws.proofs.Ranges.{append_in_range, same_some}
+use Rattle.pp_types_laws.proofs.Ranges.{append_in_range}
 
 one_longer : (ss : List GenericSort) (s : GenericSort) → length (ss ++ s ∷ []) ≡ suc (length ss)
 one_longer [] s = refl
@@ -77,12 +77,12 @@ module _ (d : Declared) where
     where
       by : (o : Option Signature) → slice_get d.functions i ≡ o → option_map (function_callee i) o ≡ Some c → IsCallee c
       by None g h = cc
-      by (Some s) g h = subst IsCallee (same_some (function_callee i s) c h) (is_function i s g)
+      by (Some s) g h = subst IsCallee (same_Some (function_callee i s) c h) (is_function i s g)
 
   root_is : (i : ℕ) (k : TypedCtor) (c : Callee) → slice_get d.ctors i ≡ Some k
       → (o : Option TypedRoot) → slice_get d.roots k.root ≡ o → option_map (ctor_callee i k) o ≡ Some c → IsCallee c
   root_is i k c there None g h = cc
-  root_is i k c there (Some r) g h = subst IsCallee (same_some (ctor_callee i k r) c h) (is_constructor i k r there g)
+  root_is i k c there (Some r) g h = subst IsCallee (same_Some (ctor_callee i k r) c h) (is_constructor i k r there g)
 
   ctor_is : (o : Option ℕ) (c : Callee) → ctor_at d o ≡ Some c → IsCallee c
   ctor_is None c e = cc
@@ -95,7 +95,7 @@ module _ (d : Declared) where
   first_is : (a b : Option Callee) (c : Callee) → ((e : Callee) → a ≡ Some e → IsCallee e)
       → ((e : Callee) → b ≡ Some e → IsCallee e) → or_else d a b ≡ Some c → IsCallee c
   first_is None b c h k e = k c e
-  first_is (Some a) b c h k e = subst IsCallee (same_some a c e) (h a refl)
+  first_is (Some a) b c h k e = subst IsCallee (same_Some a c e) (h a refl)
 
   pub applied_is : (w : Word) (c : Callee) → applied_by d w ≡ Some c → IsCallee c
   applied_is w c e =
@@ -114,7 +114,7 @@ module _ (d : Declared) where
     callee_params (is_function i s there) = (functions i s there).params_in_range
     callee_params (is_constructor i c r there declared) =
         let own = ctors i c there in
-        let same = same_some own.owner r (sym own.there ∙ declared) in
+        let same = same_Some own.owner r (sym own.there ∙ declared) in
         subst (λ (x : TypedRoot). AreInRange d.roots x.type_params c.fields) same own.fields
 
     pub callee_result : {c : Callee} → IsCallee c → IsInRange d.roots c.type_params c.result
@@ -188,7 +188,7 @@ module _ (d : Declared) where
 
   the_only_is : (ns : List ℕ) (c : ℕ) → the_only ns ≡ Some c → ns ≡ c ∷ []
   the_only_is [] c e = cc
-  the_only_is (n ∷ []) c e = ap (λ x. x ∷ []) (same_some n c e)
+  the_only_is (n ∷ []) c e = ap (λ x. x ∷ []) (same_Some n c e)
   the_only_is (n ∷ k ∷ ns) c e = cc
 
   chosen_some : (b : Bool) (o : Option ℕ) (c : ℕ) → (if b then o else None) ≡ Some c → o ≡ Some c

@@ -6,7 +6,7 @@ use Rattle.std.proofs.lemmas.Bool.{eqb-true}
 use Rattle.std.proofs.lemmas.List.{append-nil, length-append}
 use Rattle.std.proofs.lemmas.List.Elements.{All-nil, All-cons, All-append, filter-append}
 use Rattle.std.proofs.lemmas.List.Sums.{sum_by-cons}
-use Rattle.std.proofs.lemmas.Option.{slice_get-map}
+use Rattle.std.proofs.lemmas.Option.{same_Some, slice_get-map}
 use Rattle.pp_declared.proofs.Steps.{all_first, all_rest}
 use Rattle.pp_declared.specs.Declares.{AreCtors, no_ctors, more_ctors, AreSignatures, no_signatures, more_signatures}
 use Rattle.pp_declared.specs.Declares.{IsCtor, IsOwner, itself, extended, IsSignature, class_names, param_types}
@@ -29,7 +29,6 @@ use Rattle.pp_types_laws.proofs.Callees.{IsFunctionAs}
 use Rattle.pp_types_laws.proofs.Defs.{params_sorts}
 use Rattle.pp_types_laws.proofs.Names.{found_at, names_differ}
 use Rattle.pp_types_laws.proofs.Patterns.{HasFields}
-use Rattle.pp_types_laws.proofs.Ranges.{same_some}
 use Rattle.pp_types_laws.proofs.WrittenTypes.{all_written_count, all_written_in_range, written_in_range}
 use Rattle.pp_types_laws.specs.Typing.{TypesDefs, no_defs, more_defs}
 
@@ -263,7 +262,7 @@ module _ (declared : Declared) where
       → TypesDefs declared ds ss ts → (i : ℕ) (s : Signature) → slice_get ss i ≡ Some s → IsDefAt declared.roots ts i s
   defs_at no_signatures no_defs i s e = cc
   defs_at (more_signatures one rest) (more_defs {d} {ds} {s} {ss} {t} {ts} first more) zero r e =
-      let same = same_some s r e in
+      let same = same_Some s r e in
       let q = def_parts d.source d s t first (signature_facts declared.roots d s one).count in
       subst (IsDefAt declared.roots (t ∷ ts) 0) same
       (record { def_is = q.def_is; there = q.there; type_params = q.type_params; params = q.params; result = q.result })
@@ -278,7 +277,7 @@ module _ (declared : Declared) where
   facts_at (more_signatures {d} {ds} {s} one rest) zero r e =
       let f = signature_facts declared.roots d s one in
       subst (λ x. AreInRange declared.roots x.type_params x.params × IsInRange declared.roots x.type_params x.result)
-      (same_some s r e) (f.params, f.result)
+      (same_Some s r e) (f.params, f.result)
   facts_at (more_signatures one rest) (suc i) r e = facts_at rest i r e
 
   -- each function is as its callers see it

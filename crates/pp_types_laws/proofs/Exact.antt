@@ -1,6 +1,6 @@
 -- What has a typing where a sort is expected has that sort.
-use Rattle.std.proofs.Common.{◌≡◌, ◌∙◌, ℕ, Bool, true, false, ◌&&◌, nat_eq, List, [], ◌∷◌, map, refl, sym, ap, subst}
-use Rattle.std.proofs.lemmas.Bool.{eqb-true}
+use Rattle.std.proofs.Common.{◌≡◌, ◌∙◌, ℕ, Bool, true, nat_eq, List, [], ◌∷◌, map, refl, sym, ap, subst}
+use Rattle.std.proofs.lemmas.Bool.{and_parts, eqb-true}
 use Rattle.pp_generic.specs.declared.expected.Expected.{Expected}
 use Rattle.pp_generic.specs.declared.expected.Expected.TheFolds.{fold-roll-Expected}
 use Rattle.pp_generic.specs.declared.expected.Expected.TheOpen as expected_layer
@@ -23,10 +23,6 @@ use Rattle.pp_typed.specs.declared.sort.GenericSort.TheVariants as sort
 use Rattle.pp_typed.specs.declared.sort.GenericSort.TheViews.{out-GenericSort, roll-GenericSort, roll-out-GenericSort}
 use Rattle.pp_typed.specs.declared.typed.TypedRoot.{TypedRoot}
 use Rattle.pp_types_laws.proofs.Layers.{exact_int, exact_bool, exact_param, exact_root}
-
-both_true : (a b : Bool) → (a && b) ≡ true → (a ≡ true) × (b ≡ true)
-both_true true b h = (refl, h)
-both_true false b h = cc
 
 -- the tests of each form
 fits_int : (v : GenericSort) → fits expected.Int v ≡ fits_layer expected_layer.Int (out-GenericSort v)
@@ -77,7 +73,7 @@ root_shown r tests ss layer.Int go h = cc
 root_shown r tests ss layer.Bool go h = cc
 root_shown r tests ss (layer.Param j) go h = cc
 root_shown r tests ss (layer.Root q vs) go h =
-    let p = both_true (nat_eq r q) (pass_all tests vs) h in
+    let p = and_parts (nat_eq r q) (pass_all tests vs) h in
     ap (λ n. layer.Root n vs) (sym (eqb-true r q p.0)) ∙ ap (layer.Root r) (go vs p.1)
 
 module _ (roots : List TypedRoot) (m : ℕ) where
@@ -108,7 +104,7 @@ module _ (roots : List TypedRoot) (m : ℕ) where
     exacts_are none_in_range (v ∷ vs) h = cc
     exacts_are (more_in_range s ss) [] h = cc
     exacts_are (more_in_range {s} {ss} k ks) (v ∷ vs) h =
-        let p = both_true (fits (exact s) v) (pass_all (map fits (map exact ss)) vs) h in
+        let p = and_parts (fits (exact s) v) (pass_all (map fits (map exact ss)) vs) h in
         let a = exact_is k v p.0 in let b = exacts_are ks vs p.1 in cc
 
 module _ (env : Env) where

@@ -1,8 +1,8 @@
 -- A list that is part of another one, in order.
 use Rattle.std.proofs.Common.{◌≡◌, ℕ, zero, suc, List, [], ◌∷◌, ◌++◌, All, Some, slice_get, refl, sym, ap, subst}
 use Rattle.std.proofs.lemmas.List.Elements.{All-nil, All-cons}
+use Rattle.std.proofs.lemmas.Option.{same_Some}
 use Rattle.pp_declared.proofs.Steps.{all_first, all_rest}
-use Rattle.pp_types_laws.proofs.Ranges.{same_some}
 
 module _ {X : Type 0} where
   pub data IsPart : List X → List X → Type 0 where
@@ -48,9 +48,9 @@ module _ {X : Type 0} where
   part_once (left_out {xs} {ys} y p) h i j x e f = part_once p (once_rest y ys h) i j x e f
   part_once (kept {xs} {ys} y p) h zero zero x e f = refl
   part_once (kept {xs} {ys} y p) h zero (suc j) x e f =
-      absurd (not_again y ys h (subst (IsAt ys) (sym (same_some y x e)) (stands p j x f)))
+      absurd (not_again y ys h (subst (IsAt ys) (sym (same_Some y x e)) (stands p j x f)))
   part_once (kept {xs} {ys} y p) h (suc i) zero x e f =
-      absurd (not_again y ys h (subst (IsAt ys) (sym (same_some y x f)) (stands p i x e)))
+      absurd (not_again y ys h (subst (IsAt ys) (sym (same_Some y x f)) (stands p i x e)))
   part_once (kept {xs} {ys} y p) h (suc i) (suc j) x e f = ap suc (part_once p (once_rest y ys h) i j x e f)
 
   pub part_all : (P : X → Type 0) {xs ys : List X} → IsPart xs ys → All P ys → All P xs

@@ -8,27 +8,10 @@ use Rattle.pp_generic.specs.declared.expected.Expected.TheViews.{out-Expected}
 use Rattle.pp_generic.specs.Expected.{Found, exact, exact_step, expect, expect_found, expect_step, every, whole}
 use Rattle.pp_generic.specs.Expected.{whole_root, whole_step}
 use Rattle.pp_generic.specs.Found.{Learning, learn, learn_root, learn_step, note}
-use Rattle.pp_typed.specs.Put.{put, put_at, put_step}
 use Rattle.pp_typed.specs.declared.sort.GenericSort.{GenericSort}
 use Rattle.pp_typed.specs.declared.sort.GenericSort.TheFolds.{fold-roll-GenericSort}
 use Rattle.pp_typed.specs.declared.sort.GenericSort.TheOpen as layer
 use Rattle.pp_typed.specs.declared.sort.GenericSort.TheVariants as sort
-
--- a sort with others in place of its parameters
-module _ (args : List GenericSort) where
-  pub put_int : put args sort.Int ≡ sort.Int
-  put_int = ap (put args) (sym sort.rolls-Int) ∙ fold-roll-GenericSort GenericSort (put_step args) layer.Int
-
-  pub put_bool : put args sort.Bool ≡ sort.Bool
-  put_bool = ap (put args) (sym sort.rolls-Bool) ∙ fold-roll-GenericSort GenericSort (put_step args) layer.Bool
-
-  pub put_param : (i : ℕ) → put args (sort.Param i) ≡ put_at args i
-  put_param i = ap (put args) (sym (sort.rolls-Param i))
-      ∙ fold-roll-GenericSort GenericSort (put_step args) (layer.Param i)
-
-  pub put_root : (r : ℕ) (parts : List GenericSort) → put args (sort.Root r parts) ≡ sort.Root r (map (put args) parts)
-  put_root r parts = ap (put args) (sym (sort.rolls-Root r parts))
-      ∙ fold-roll-GenericSort GenericSort (put_step args) (layer.Root r parts)
 
 -- exactly a sort
 pub exact_int : exact sort.Int ≡ expected.Int

@@ -4,7 +4,7 @@ use Rattle.std.proofs.Common.{get_or, nat_eq, slice_get, refl, sym, ap, subst}
 use Rattle.std.proofs.lemmas.Bool.{eqb-false}
 use Rattle.std.proofs.lemmas.List.Folds.{list_any-append, list_any_at}
 use Rattle.std.proofs.lemmas.List.Quantifiers.{position-Some}
-use Rattle.std.proofs.lemmas.Option.{slice_get-get_or}
+use Rattle.std.proofs.lemmas.Option.{same_Some, slice_get-get_or}
 use Rattle.std.proofs.lemmas.Slice.Eq.{bytes_eq-Decides}
 use Rattle.std.specs.List.{list_any}
 use Rattle.std.specs.Str.{bytes_eq}
@@ -12,7 +12,6 @@ use Rattle.pp_declared.specs.WellFormed.{AreNewAfter, is_barred, is_mark, is_tak
 use Rattle.pp_names.specs.Places.{Word, has, place_of}
 use Rattle.pp_names.specs.Reserved.{is_reserved}
 use Rattle.pp_typed.specs.WellSorted.{IsPlain}
-use Rattle.pp_types_laws.proofs.Ranges.{same_some}
 
 equal_words : (v w : Word) → bytes_eq v w ≡ true → v ≡ w
 equal_words v w h = (bytes_eq-Decides v w).0 h
@@ -45,7 +44,7 @@ new_isnt_last before w h =
 pub name_is_new : (before ws : List Word) → AreNewAfter before ws → (i : ℕ) (w : Word) → slice_get ws i ≡ Some w
     → is_taken before w ≡ false
 name_is_new before [] h i w e = cc
-name_is_new before (x ∷ ws) h zero w e = subst (λ y. is_taken before y ≡ false) (same_some x w e) h.0
+name_is_new before (x ∷ ws) h zero w e = subst (λ y. is_taken before y ≡ false) (same_Some x w e) h.0
 name_is_new before (x ∷ ws) h (suc i) w e = new_after_fewer before x w (name_is_new (before ++ x ∷ []) ws h.1 i w e)
 
 -- no two of them are one name
@@ -55,11 +54,11 @@ names_differ before [] h i j w e f = cc
 names_differ before (x ∷ ws) h zero zero w e f = refl
 names_differ before (x ∷ ws) h zero (suc j) w e f =
     absurd (new_isnt_last before w
-    (subst (λ y. is_taken (before ++ y ∷ []) w ≡ false) (same_some x w e) (name_is_new
+    (subst (λ y. is_taken (before ++ y ∷ []) w ≡ false) (same_Some x w e) (name_is_new
     (before ++ x ∷ []) ws h.1 j w f)))
 names_differ before (x ∷ ws) h (suc i) zero w e f =
     absurd (new_isnt_last before w
-    (subst (λ y. is_taken (before ++ y ∷ []) w ≡ false) (same_some x w f) (name_is_new
+    (subst (λ y. is_taken (before ++ y ∷ []) w ≡ false) (same_Some x w f) (name_is_new
     (before ++ x ∷ []) ws h.1 i w e)))
 names_differ before (x ∷ ws) h (suc i) (suc j) w e f =
     ap suc (names_differ (before ++ x ∷ []) ws h.1 i j w e f)

@@ -2,6 +2,7 @@
 use Rattle.std.proofs.Common.{◌≡◌, ◌∙◌, ℕ, List, [], ◌∷◌, ◌++◌, Option, Some, length, map, slice_get, is_some, refl}
 use Rattle.std.proofs.Common.{sym, ap, subst, append_assoc}
 use Rattle.std.proofs.lemmas.List.{append-nil, map-append}
+use Rattle.std.proofs.lemmas.Option.{same_Some}
 use Rattle.pp_names.specs.Places.{Word}
 use Rattle.pp_rules.specs.Scope.{Env, Scope}
 use Rattle.pp_rules.specs.Typing.{Binds, binds_nothing, binds_a_name, TypesPattern, a_wildcard, a_number, a_truth}
@@ -22,7 +23,7 @@ use Rattle.pp_typed.specs.declared.typed.Typed.{Typed}
 use Rattle.pp_typed.specs.declared.typed.TypedCtor.{TypedCtor}
 use Rattle.pp_typed.specs.declared.typed.TypedDef.{TypedDef}
 use Rattle.pp_typed.specs.declared.typed.TypedRoot.{TypedRoot}
-use Rattle.pp_types_laws.proofs.Ranges.{append_in_range, puts_in_range, same_some}
+use Rattle.pp_types_laws.proofs.Ranges.{append_in_range, puts_in_range}
 use Rattle.pp_types_laws.specs.Literals.{PatternInts, PatternsInts}
 
 -- the sorts of the values in scope
@@ -141,7 +142,7 @@ module _ (env : Env) (defs : List TypedDef) (m : ℕ)
         (a_ctor {mid = mid} {n = n} {ts = ts} at w i c args found there is b rest) h ok ints =
         let own = ctors i c there in
         let parts = root_parts env.declared.roots m c.root args h is in
-        let same = same_some own.owner parts.root (sym own.there ∙ parts.there) in
+        let same = same_Some own.owner parts.root (sym own.there ∙ parts.there) in
         let count = parts.count ∙ ap (λ (r : TypedRoot). r.type_params) (sym same) in
         let all = patterns_bound rest
         (puts_in_range env.declared.roots own.owner.type_params m args parts.all count own.fields)

@@ -3,27 +3,25 @@ use Rattle.std.proofs.Common.{◌≡◌, ◌∙◌, ◌⊎◌, inl, inr, ℕ, ze
 use Rattle.std.proofs.Common.{List, [], ◌∷◌, ◌++◌, Option, Some, None, map, length, get_or, slice_get, slice_set}
 use Rattle.std.proofs.Common.{unwrap_or, refl, sym, ap, subst, arith}
 use Rattle.std.proofs.lemmas.List.{append-nil, length-map}
-use Rattle.std.proofs.lemmas.Option.{slice_get-get_or}
+use Rattle.std.proofs.lemmas.Option.{same_Some, slice_get-get_or}
 use Rattle.pp_generic.specs.declared.expected.Expected.{Expected}
 use Rattle.pp_generic.specs.declared.expected.Expected.TheVariants as expected
 use Rattle.pp_generic.specs.declared.expected.Expected.TheViews.{out-Expected}
 use Rattle.pp_generic.specs.Expected.{Found, exact, expect, expect_found, every, every_from, known, whole, whole_root}
 use Rattle.pp_generic.specs.Found.{learn, learn_all, learn_root, none_found, noted}
+use Rattle.pp_generic.proofs.Putting.{put_bool, put_int, put_param, put_root}
 use Rattle.pp_typed.specs.InRange.{IsInRange, int_in_range, bool_in_range, param_in_range, root_in_range, AreInRange}
 use Rattle.pp_typed.specs.InRange.{none_in_range, more_in_range}
 use Rattle.pp_typed.specs.Put.{put}
 use Rattle.pp_typed.specs.declared.sort.GenericSort.{GenericSort}
 use Rattle.pp_typed.specs.declared.sort.GenericSort.TheVariants as sort
 use Rattle.pp_typed.specs.declared.typed.TypedRoot.{TypedRoot}
-use Rattle.pp_types_laws.proofs.Layers.{put_int, put_bool, put_param, put_root, exact_int, exact_bool, exact_param}
+use Rattle.pp_types_laws.proofs.Layers.{exact_int, exact_bool, exact_param}
 use Rattle.pp_types_laws.proofs.Layers.{exact_root, expect_int, expect_bool, expect_param, expect_root, whole_open}
 use Rattle.pp_types_laws.proofs.Layers.{whole_int, whole_bool, whole_param, whole_of_root, learn_int, learn_bool}
 use Rattle.pp_types_laws.proofs.Layers.{learn_param, learn_of_root}
 use Rattle.pp_types_laws.specs.Ranges.{IsExpectable, open_expectable, int_expectable, bool_expectable, param_expectable}
 use Rattle.pp_types_laws.specs.Ranges.{root_expectable, AreExpectable, none_expectable, more_expectable, FoundInRange}
-
-pub same_some : {A : Type 0} (a b : A) → Some a ≡ Some b → a ≡ b
-same_some a b h = cc
 
 one_more : (done : List GenericSort) (s : GenericSort) (rest : List GenericSort)
     → (done ++ s ∷ []) ++ rest ≡ done ++ s ∷ rest
@@ -39,7 +37,7 @@ pub record AreThere (done : List GenericSort) (found : Found) (sorts : List Gene
 every_there : (done : List GenericSort) (found : Found) (sorts : List GenericSort) → every_from done found ≡ Some sorts
     → AreThere done found sorts
 every_there done [] sorts e =
-    record { rest = []; all = sym (same_some done sorts e) ∙ sym (append-nil done); are = refl }
+    record { rest = []; all = sym (same_Some done sorts e) ∙ sym (append-nil done); are = refl }
 every_there done (None ∷ found) sorts e = cc
 every_there done (Some s ∷ found) sorts e =
     let t = every_there (done ++ s ∷ []) found sorts e in
@@ -59,13 +57,13 @@ record IsWholeRoot (r : ℕ) (o : Option (List GenericSort)) (s : GenericSort) :
 
 root_whole : (r : ℕ) (o : Option (List GenericSort)) (s : GenericSort) → whole_root r o ≡ Some s → IsWholeRoot r o s
 root_whole r None s e = cc
-root_whole r (Some parts) s e = record { parts = parts; there = refl; is = sym (same_some (sort.Root r parts) s e) }
+root_whole r (Some parts) s e = record { parts = parts; there = refl; is = sym (same_Some (sort.Root r parts) s e) }
 
 -- what stands at a place of what is found, where one more is set
 set_range : (found : Found) (i j : ℕ) (t s : GenericSort) → slice_get (slice_set found i (Some t)) j ≡ Some (Some s)
     → (slice_get found j ≡ Some (Some s)) ⊎ (t ≡ s)
 set_range [] i j t s e = inl e
-set_range (f ∷ fs) zero zero t s e = inr (same_some t s (same_some (Some t) (Some s) e))
+set_range (f ∷ fs) zero zero t s e = inr (same_Some t s (same_Some (Some t) (Some s) e))
 set_range (f ∷ fs) zero (suc j) t s e = inl e
 set_range (f ∷ fs) (suc i) zero t s e = inl e
 set_range (f ∷ fs) (suc i) (suc j) t s e = set_range fs i j t s e
@@ -90,7 +88,7 @@ Extends found sorts = (i : ℕ) (s : GenericSort) → slice_get found i ≡ Some
 some_at : (sorts : List GenericSort) (i : ℕ) (s : GenericSort) → slice_get (map Some sorts) i ≡ Some (Some s)
     → slice_get sorts i ≡ Some s
 some_at [] i s e = cc
-some_at (t ∷ ts) zero s e = same_some (Some t) (Some s) e
+some_at (t ∷ ts) zero s e = same_Some (Some t) (Some s) e
 some_at (t ∷ ts) (suc i) s e = some_at ts i s e
 
 pub every_extends : (found : Found) (sorts : List GenericSort) → every found ≡ Some sorts → Extends found sorts
@@ -129,11 +127,11 @@ module _ (roots : List TypedRoot) (m : ℕ) where
         → IsInRange roots m s
     whole_in_range (open_expectable e) s w = let f : None ≡ Some s = sym (ap whole e ∙ whole_open) ∙ w in cc
     whole_in_range (int_expectable e) s w =
-        int_in_range (same_some s sort.Int (sym w ∙ ap whole e ∙ whole_int))
+        int_in_range (same_Some s sort.Int (sym w ∙ ap whole e ∙ whole_int))
     whole_in_range (bool_expectable e) s w =
-        bool_in_range (same_some s sort.Bool (sym w ∙ ap whole e ∙ whole_bool))
+        bool_in_range (same_Some s sort.Bool (sym w ∙ ap whole e ∙ whole_bool))
     whole_in_range (param_expectable i e lt) s w =
-        param_in_range i (same_some s (sort.Param i) (sym w ∙ ap whole e ∙ whole_param i)) lt
+        param_in_range i (same_Some s (sort.Param i) (sym w ∙ ap whole e ∙ whole_param i)) lt
     whole_in_range (root_expectable r root args e there n all) s w =
         let q = root_whole r (every (map whole args)) s (sym (ap whole e ∙ whole_of_root r args) ∙ w) in
         let same = every_is (map whole args) q.parts q.there in
@@ -171,7 +169,7 @@ module _ (roots : List TypedRoot) (m : ℕ) where
       → slice_get ss i ≡ Some s
       → IsInRange roots m s
   at_in_range none_in_range i s e = cc
-  at_in_range (more_in_range h hs) zero s e = subst (IsInRange roots m) (same_some _ s e) h
+  at_in_range (more_in_range h hs) zero s e = subst (IsInRange roots m) (same_Some _ s e) h
   at_in_range (more_in_range h hs) (suc i) s e = at_in_range hs i s e
 
   -- each place below the number of sorts has one in range
@@ -314,10 +312,10 @@ module _ (roots : List TypedRoot) (n m : ℕ) where
           → put sorts p ≡ s
       known_put {p} (int_in_range e) s k =
           ap (put sorts) e ∙ put_int sorts
-          ∙ same_some sort.Int s (sym (ap (known found) e ∙ ap whole (expect_int found) ∙ whole_int) ∙ k)
+          ∙ same_Some sort.Int s (sym (ap (known found) e ∙ ap whole (expect_int found) ∙ whole_int) ∙ k)
       known_put {p} (bool_in_range e) s k =
           ap (put sorts) e ∙ put_bool sorts
-          ∙ same_some sort.Bool s (sym (ap (known found) e ∙ ap whole (expect_bool found) ∙ whole_bool) ∙ k)
+          ∙ same_Some sort.Bool s (sym (ap (known found) e ∙ ap whole (expect_bool found) ∙ whole_bool) ∙ k)
       known_put {p} (param_in_range i e lt) s k =
           ap (put sorts) e ∙ put_param sorts i
           ∙ ap (λ o. unwrap_or o (sort.Param i)) (param_known i (slice_get found i) s refl

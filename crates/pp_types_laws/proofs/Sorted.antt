@@ -2,10 +2,11 @@
 use Rattle.std.proofs.Common.{◌≡◌, ◌∙◌, ℕ, zero, suc, Bool, true, false, List, [], ◌∷◌, ◌++◌, Option, Some, None}
 use Rattle.std.proofs.Common.{length, map, slice_get, option_map, refl, sym, ap, subst}
 use Rattle.std.proofs.lemmas.List.{length-map}
-use Rattle.std.proofs.lemmas.Option.{slice_get-map}
+use Rattle.std.proofs.lemmas.Option.{same_Some, slice_get-map}
 use Rattle.pp_generic.specs.declared.expected.Expected.{Expected}
 use Rattle.pp_generic.specs.Expected.{Found, exact}
 use Rattle.pp_generic.specs.Found.{learn, none_found}
+use Rattle.pp_generic.proofs.Putting.{put_root}
 use Rattle.pp_names.specs.Places.{Word}
 use Rattle.pp_rules.specs.declared.callee.Callee.{Callee}
 use Rattle.pp_rules.specs.Elab.{arm, typed}
@@ -43,13 +44,12 @@ use Rattle.pp_typed.specs.declared.typed.TypedDef.{TypedDef}
 use Rattle.pp_typed.specs.declared.typed.TypedRoot.{TypedRoot}
 use Rattle.pp_types_laws.proofs.Callees.{IsFunctionAs, IsCallee, is_function, is_constructor, applied_is, callee_params}
 use Rattle.pp_types_laws.proofs.Callees.{callee_result, named_is, only_of_root, put_own}
-use Rattle.pp_types_laws.proofs.Layers.{put_root}
 use Rattle.pp_types_laws.proofs.Operators.{operates, same_unary}
 use Rattle.pp_types_laws.proofs.Patterns.{HasFields, pattern_bound, root_parts, sorts_append, sorts_in, typed_of}
 use Rattle.pp_types_laws.proofs.Ranges.{Extends, IsLearnt, all_of_found, append_in_range, at_in_range, every_extends}
 use Rattle.pp_types_laws.proofs.Ranges.{every_is, every_length, exact_in_range, expect_in_range, known_put}
 use Rattle.pp_types_laws.proofs.Ranges.{learn_in_range, learnt_more, learnt_nothing, none_in_found, none_length}
-use Rattle.pp_types_laws.proofs.Ranges.{put_in_range, same_some}
+use Rattle.pp_types_laws.proofs.Ranges.{put_in_range}
 use Rattle.pp_types_laws.proofs.WrittenTypes.{all_written_count, all_written_in_range, written_in_range}
 use Rattle.pp_types_laws.specs.Literals.{ExprInts, ExprsInts, CasesInts}
 use Rattle.pp_types_laws.specs.Ranges.{IsExpectable, open_expectable, FoundInRange}
@@ -90,7 +90,7 @@ module _ (declared : Declared) (defs : List TypedDef) (type_params : List Word) 
 
   all_found : (sorts : List GenericSort) → AreInRange roots m sorts → FoundInRange roots m (map Some sorts)
   all_found [] none_in_range i s e = cc
-  all_found (x ∷ xs) (more_in_range h hs) zero s e = subst (IsInRange roots m) (same_some x s (same_some (Some x)
+  all_found (x ∷ xs) (more_in_range h hs) zero s e = subst (IsInRange roots m) (same_Some x s (same_Some (Some x)
       (Some s) e)) h
   all_found (x ∷ xs) (more_in_range h hs) (suc i) s e = all_found xs hs i s e
 
@@ -180,7 +180,7 @@ module _ (declared : Declared) (defs : List TypedDef) (type_params : List Word) 
         let one = only_of_root declared r c only in
         let own = ctors c one.ctor one.there in
         let parts = root_parts roots m r args b.in_range is in
-        let owner = same_some own.owner parts.root (sym own.there ∙ ap (slice_get roots) one.root ∙ parts.there) in
+        let owner = same_Some own.owner parts.root (sym own.there ∙ ap (slice_get roots) one.root ∙ parts.there) in
         let count = parts.count ∙ ap (λ (x : TypedRoot). x.type_params) (sym owner) in
         let field = sym (ap (field_of declared j) one.there) ∙ has in
         record {

@@ -5,6 +5,7 @@ use Rattle.std.proofs.lemmas.List.{get_or_default}
 use Rattle.pp_fault.specs.declared.Halt.{Halt}
 use Rattle.pp_fault.specs.declared.Rule.TheVariants.{Arity}
 use Rattle.pp_fault.specs.Part.{Part, and_then}
+use Rattle.pp_fault.proofs.Parts.{goes}
 use Rattle.pp_generic.specs.declared.expected.Expected.{Expected}
 use Rattle.pp_generic.specs.Expected.{Found}
 use Rattle.pp_rules.specs.declared.callee.Callee.{Callee}
@@ -18,7 +19,6 @@ use Rattle.pp_typed.specs.declared.expr.TypedExpr.{TypedExpr}
 use Rattle.pp_typed.specs.declared.sort.GenericSort.{GenericSort}
 use Rattle.pp_typing.proofs.Parts.{args_stop, args_turn, count_trees}
 use Rattle.pp_typing.proofs.Told.{differ, unless_false, unless_true}
-use Rattle.pp_typing.proofs.Turns.{goes}
 use Rattle.pp_typing.specs.declared.context.Context.{Context}
 use Rattle.pp_typing.specs.declared.scope.Local.{Local}
 use Rattle.pp_typing.specs.Views.{TellsBoth, arg_typing, args_typing, env_of, part_typing}

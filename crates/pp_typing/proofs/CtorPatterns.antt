@@ -2,12 +2,12 @@
 use Rattle.std.proofs.Common.{◌≡◌, ◌∙◌, ℕ, List, [], length, map, Ok, Err, Result, Option, Some}
 use Rattle.std.proofs.Common.{sym, ap, subst, nat_eq, eq-eqb}
 use Rattle.std.specs.Prelude.{slice_get}
-use Rattle.pp_fault.specs.declared.Fault.{Fault}
 use Rattle.pp_fault.specs.declared.Halt.{Halt}
 use Rattle.pp_fault.specs.declared.Halt.TheVariants.{Memory, Broken}
 use Rattle.pp_fault.specs.declared.Rule.{Rule}
 use Rattle.pp_fault.specs.declared.Rule.TheVariants.{Arity}
 use Rattle.pp_fault.specs.Part.{Part, Tells, and_then}
+use Rattle.pp_fault.proofs.Parts.{goes, same_err}
 use Rattle.pp_typed.specs.Put.{put}
 use Rattle.pp_names.specs.Find.{find_ctor}
 use Rattle.pp_names.specs.Places.{Word}
@@ -22,11 +22,8 @@ use Rattle.pp_typed.specs.declared.sort.GenericSort.TheViews.{out-GenericSort}
 use Rattle.pp_typed.specs.declared.typed.TypedCtor.{TypedCtor}
 use Rattle.pp_typing.proofs.Parts.{count_parts}
 use Rattle.pp_typing.proofs.Told.{differ, unless_false, unless_true}
-use Rattle.pp_typing.proofs.Turns.{goes, stops_both}
+use Rattle.pp_typing.proofs.Turns.{stops_both}
 use Rattle.pp_typing.specs.Views.{Leaves, TellsBoth}
-
-same_err : {A : Type 0} (f g : Fault) → let p : Part A = Err f in let q : Part A = Err g in p ≡ q → f ≡ g
-same_err f g h = cc
 
 pub flaw_both : {A S : Type 0} (env : Env) (r : Result A Halt) (s : S) (rule : Rule) (w : Word) (at : ℕ)
     (whole : Part (A × S))

@@ -29,11 +29,6 @@ use Rattle.pp_typed.specs.declared.sort.GenericSort.TheViews.{out-GenericSort}
 use Rattle.pp_typed.specs.declared.typed.TypedRoot.{TypedRoot}
 use Rattle.pp_typing.specs.Views.{TellsBoth}
 
-pub tells_along : {A : Type 0} (r : Result A Halt) (p q : Part A) → q ≡ p → Tells r p → Tells r q
-tells_along (Ok a) p q e told = e ∙ told
-tells_along (Err Memory) p q e told = tt
-tells_along (Err (Broken s)) p q e told = e ∙ told
-
 pub both_along : {A B : Type 0} (r : Result A Halt) (b : B) (p q : Part (A × B)) → q ≡ p → TellsBoth r b p
     → TellsBoth r b q
 both_along (Ok a) b p q e told = e ∙ told
@@ -114,6 +109,3 @@ module _ (env : Env) where
       ap (selected env at x w e) (ap out-GenericSort is ∙ sort.outs-Root r args)
       ∙ ap (field_of_ctor env at x w args e) f
       ∙ ap (field_placed env at x w args e c) g ∙ ap (field_typed env at x w args e j) h
-
-pub same_ok : {A : Type 0} (a b : A) → let p : Part A = Ok a in let q : Part A = Ok b in p ≡ q → a ≡ b
-same_ok a b h = cc

@@ -4,19 +4,9 @@ use Rattle.std.proofs.Common.{sym, ap, subst}
 use Rattle.pp_fault.specs.declared.Halt.{Halt}
 use Rattle.pp_fault.specs.declared.Halt.TheVariants.{Memory, Broken}
 use Rattle.pp_fault.specs.Part.{Part, Tells, and_then}
-use Rattle.pp_typing.proofs.Lists.{rest_at}
+use Rattle.pp_fault.proofs.Parts.{goes, stops}
+use Rattle.pp_list.proofs.Lists.{rest_at}
 use Rattle.pp_typing.specs.Views.{TellsBoth}
-
--- a part that stops stops the whole
-pub stops : {A B : Type 0} (h : Halt) (part : Part A) (whole : Part B) (go : A → Part B)
-    → whole ≡ and_then part go → Tells (Err h) part → Tells (Err h) whole
-stops Memory part whole go e told = tt
-stops (Broken f) part whole go e told = e ∙ ap (λ r. and_then r go) told
-
-pub stops_as : {A B : Type 0} (r : Result B Halt) (h : Halt) (part : Part A) (whole : Part B) (go : A → Part B)
-    → r ≡ Err h
-    → whole ≡ and_then part go → Tells (Err h) part → Tells r whole
-stops_as r h part whole go is e told = subst (λ q. Tells q whole) (sym is) (stops h part whole go e told)
 
 pub stops_both : {A B S T : Type 0} (h : Halt) (s : S) (t : T) (part : Part (A × S)) (whole : Part (B × T))
     (go : A × S → Part (B × T))
@@ -30,9 +20,6 @@ pub first_stops : {A B S : Type 0} (r : Result B Halt) (h : Halt) (s : S) (part 
 first_stops r Memory s part whole go is e told = subst (λ q. Tells q whole) (sym is) tt
 first_stops r (Broken f) s part whole go is e told = subst (λ q. Tells q whole) (sym is) (e
     ∙ ap (λ p. and_then p go) told)
-
-pub goes : {A B : Type 0} (p : Part A) (go : A → Part B) (a : A) → p ≡ Ok a → and_then p go ≡ go a
-goes p go a e = ap (λ r. and_then r go) e
 
 -- two lists side by side, with a state that each element changes
 module _ {X P S A : Type 0} (F : List A → List X → List P → S → Part (List A × S)) (G : X → P → S → Part (A × S))

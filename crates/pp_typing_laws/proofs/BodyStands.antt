@@ -19,7 +19,7 @@ use Rattle.pp_typed.specs.declared.declared.Declared.{Declared}
 use Rattle.pp_typed.specs.declared.declared.Signature.{Signature}
 use Rattle.pp_typed.specs.declared.expr.TypedExpr.{TypedExpr}
 use Rattle.pp_typed.specs.declared.sort.GenericSort.{GenericSort}
-use Rattle.pp_typing_laws.proofs.Faulty.{then_err, unless_err, fresh_err, differs, same_err}
+use Rattle.pp_typing_laws.proofs.Faulty.{then_err, unless_err, fresh_err, differs}
 use Rattle.pp_typing_laws.proofs.Stands.{stands_expr, condition_err, written_err}
 use Rattle.pp_typing_laws.proofs.WrittenSorts.{sound_written}
 use Rattle.pp_typing_laws.specs.BodyFaults.{BreaksConditions, this_condition, later_condition, BreaksMeasure}

@@ -5,6 +5,7 @@ use Rattle.std.specs.Prelude.{slice_get}
 use Rattle.std.proofs.lemmas.List.{append-nil}
 use Rattle.pp_fault.specs.declared.Rule.TheVariants.{Mismatch, Arity}
 use Rattle.pp_fault.specs.Part.{Part, and_then}
+use Rattle.pp_fault.proofs.Parts.{goes}
 use Rattle.pp_generic.specs.declared.expected.Expected.{Expected}
 use Rattle.pp_generic.specs.declared.expected.Expected.TheVariants.{Open}
 use Rattle.pp_generic.specs.Equal.{equal}
@@ -38,7 +39,7 @@ use Rattle.pp_typed.specs.declared.sort.GenericSort.TheVariants as sort
 use Rattle.pp_typed.specs.declared.sort.GenericSort.TheViews.{out-GenericSort}
 use Rattle.pp_typing_laws.proofs.Patterns.{shows_root, complete_pattern}
 use Rattle.pp_typing_laws.proofs.Sound.{arm_sort}
-use Rattle.pp_typing_laws.proofs.Steps.{goes, unless_true, fresh_false, agreed_suits, of_sort_is, condition_is}
+use Rattle.pp_typing_laws.proofs.Steps.{unless_true, fresh_false, agreed_suits, of_sort_is, condition_is}
 use Rattle.pp_typing_laws.proofs.Steps.{equal_of, is_sort_is}
 use Rattle.pp_typing_laws.proofs.WrittenSorts.{complete_written, complete_all_written}
 

@@ -6,6 +6,7 @@ use Rattle.pp_fault.specs.declared.Fault.{Fault}
 use Rattle.pp_fault.specs.declared.Rule.{Rule}
 use Rattle.pp_fault.specs.declared.Rule.TheVariants.{Mismatch, NotABoolean}
 use Rattle.pp_fault.specs.Part.{Part, and_then}
+use Rattle.pp_fault.proofs.Parts.{same_err}
 use Rattle.pp_generic.specs.declared.expected.Expected.{Expected}
 use Rattle.pp_generic.specs.Equal.{equal}
 use Rattle.pp_generic.specs.Expected.{fits}
@@ -17,9 +18,6 @@ use Rattle.pp_typed.specs.declared.sort.GenericSort.{GenericSort}
 use Rattle.pp_typed.specs.declared.sort.GenericSort.TheVariants as sort
 use Rattle.pp_typing_laws.proofs.Steps.{equal_of}
 use Rattle.pp_typing_laws.specs.Faults.{flawed, Misfits}
-
-pub same_err : {A : Type 0} (f g : Fault) → let p : Part A = Err f in let q : Part A = Err g in p ≡ q → f ≡ g
-same_err f g h = cc
 
 pub then_err : {A B C : Type 0} (p : Part A) (go : A → Part B) (f : Fault) → and_then p go ≡ Err f
     → (p ≡ Err f → C) → ((a : A) → p ≡ Ok a → go a ≡ Err f → C) → C

@@ -4,6 +4,7 @@ use Rattle.std.proofs.Common.{ap, subst, length, append_assoc}
 use Rattle.std.proofs.lemmas.List.{append-nil}
 use Rattle.pp_fault.specs.declared.Rule.TheVariants.{Mismatch}
 use Rattle.pp_fault.specs.Part.{Part, and_then}
+use Rattle.pp_fault.proofs.Parts.{goes, same_ok}
 use Rattle.pp_generic.proofs.Equal.{equal_same}
 use Rattle.pp_generic.specs.declared.expected.Expected.TheVariants.{Open}
 use Rattle.pp_generic.specs.Equal.{equal}
@@ -27,7 +28,7 @@ use Rattle.pp_typed.specs.declared.typed.TypedDef.{TypedDef}
 use Rattle.pp_typed.specs.declared.typed.TypedPost.{TypedPost}
 use Rattle.pp_typing_laws.proofs.Complete.{complete}
 use Rattle.pp_typing_laws.proofs.Sound.{sound}
-use Rattle.pp_typing_laws.proofs.Steps.{same_ok, then_ok, goes, unless_ok, unless_true, fresh_ok, fresh_false}
+use Rattle.pp_typing_laws.proofs.Steps.{then_ok, unless_ok, unless_true, fresh_ok, fresh_false}
 use Rattle.pp_typing_laws.proofs.Steps.{condition_ok, condition_is, equal_of}
 use Rattle.pp_typing_laws.proofs.WrittenSorts.{sound_written, complete_written}
 

@@ -6,6 +6,7 @@ use Rattle.std.proofs.lemmas.Bool.{eqb-true}
 use Rattle.std.proofs.lemmas.List.{append-nil, length-map}
 use Rattle.pp_fault.specs.declared.Rule.TheVariants.{Mismatch, Arity}
 use Rattle.pp_fault.specs.Part.{Part, and_then}
+use Rattle.pp_fault.proofs.Parts.{goes, same_ok}
 use Rattle.pp_generic.proofs.Equal.{equal_same}
 use Rattle.pp_generic.specs.Equal.{equal}
 use Rattle.pp_typed.specs.Put.{put}
@@ -25,7 +26,7 @@ use Rattle.pp_typed.specs.declared.sort.GenericSort.TheOpen as layer
 use Rattle.pp_typed.specs.declared.sort.GenericSort.TheVariants as sort
 use Rattle.pp_typed.specs.declared.sort.GenericSort.TheViews.{out-GenericSort, roll-GenericSort, roll-out-GenericSort}
 use Rattle.pp_typed.specs.declared.typed.TypedCtor.{TypedCtor}
-use Rattle.pp_typing_laws.proofs.Steps.{same_ok, then_ok, goes, unless_ok, unless_true, fresh_ok, fresh_false, equal_of}
+use Rattle.pp_typing_laws.proofs.Steps.{then_ok, unless_ok, unless_true, fresh_ok, fresh_false, equal_of}
 
 -- a sort that shows a root is that root
 pub root_of : (s : GenericSort) (r : ℕ) (args : List GenericSort) → out-GenericSort s ≡ layer.Root r args

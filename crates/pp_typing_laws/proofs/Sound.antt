@@ -6,6 +6,7 @@ use Rattle.std.proofs.lemmas.Bool.{eqb-true}
 use Rattle.std.proofs.lemmas.List.{append-nil}
 use Rattle.pp_fault.specs.declared.Rule.TheVariants.{Mismatch, Arity}
 use Rattle.pp_fault.specs.Part.{Part, and_then}
+use Rattle.pp_fault.proofs.Parts.{same_ok}
 use Rattle.pp_generic.proofs.Equal.{equal_same}
 use Rattle.pp_generic.specs.declared.expected.Expected.{Expected}
 use Rattle.pp_generic.specs.declared.expected.Expected.TheVariants.{Open}
@@ -42,7 +43,7 @@ use Rattle.pp_typed.specs.declared.sort.GenericSort.TheOpen as layer
 use Rattle.pp_typed.specs.declared.sort.GenericSort.TheVariants as sort
 use Rattle.pp_typed.specs.declared.sort.GenericSort.TheViews.{out-GenericSort}
 use Rattle.pp_typing_laws.proofs.Patterns.{root_of, sound_pattern}
-use Rattle.pp_typing_laws.proofs.Steps.{same_ok, then_ok, unless_ok, fresh_ok, agreed_ok, of_sort_ok, condition_ok}
+use Rattle.pp_typing_laws.proofs.Steps.{then_ok, unless_ok, fresh_ok, agreed_ok, of_sort_ok, condition_ok}
 use Rattle.pp_typing_laws.proofs.Steps.{is_sort_some, nothing_left}
 use Rattle.pp_typing_laws.proofs.WrittenSorts.{sound_written, sound_all_written}
 

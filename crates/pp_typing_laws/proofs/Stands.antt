@@ -6,6 +6,7 @@ use Rattle.std.proofs.lemmas.Bool.{eqb-true}
 use Rattle.pp_fault.specs.declared.Fault.{Fault}
 use Rattle.pp_fault.specs.declared.Rule.TheVariants.{Unknown, Duplicate, Mismatch, Arity, CannotInfer, NotABoolean}
 use Rattle.pp_fault.specs.Part.{Part, and_then}
+use Rattle.pp_fault.proofs.Parts.{same_err, same_ok}
 use Rattle.pp_generic.specs.declared.expected.Expected.{Expected}
 use Rattle.pp_generic.specs.declared.expected.Expected.TheVariants.{Open}
 use Rattle.pp_generic.specs.Equal.{equal}
@@ -46,11 +47,11 @@ use Rattle.pp_typed.specs.declared.sort.GenericSort.TheOpen as layer
 use Rattle.pp_typed.specs.declared.sort.GenericSort.TheVariants as sort
 use Rattle.pp_typed.specs.declared.sort.GenericSort.TheViews.{out-GenericSort}
 use Rattle.pp_typed.specs.declared.typed.TypedCtor.{TypedCtor}
-use Rattle.pp_typing_laws.proofs.Faulty.{same_err, then_err, uneven, differs, unless_err, fresh_err, agreed_err}
+use Rattle.pp_typing_laws.proofs.Faulty.{then_err, uneven, differs, unless_err, fresh_err, agreed_err}
 use Rattle.pp_typing_laws.proofs.Faulty.{of_sort_err}
 use Rattle.pp_typing_laws.proofs.Patterns.{root_of, shows_root, bind_ok, arguments_ok, sound_pattern}
 use Rattle.pp_typing_laws.proofs.Sound.{sound, sound_args, sound_cases, started_ok, wanted_ok, taken_ok, arm_sort}
-use Rattle.pp_typing_laws.proofs.Steps.{then_ok, of_sort_ok, condition_ok, is_sort_is, nothing_left, same_ok}
+use Rattle.pp_typing_laws.proofs.Steps.{then_ok, of_sort_ok, condition_ok, is_sort_is, nothing_left}
 use Rattle.pp_typing_laws.specs.Faults.{at_of, flawed, Misfits, BreaksBinding, bound_again, BreaksPattern, any_bound}
 use Rattle.pp_typing_laws.specs.Faults.{int_bound, int_unfit, bool_bound, bool_unfit, ctor_unknown, ctor_absent}
 use Rattle.pp_typing_laws.specs.Faults.{ctor_of_other, ctor_arity, ctor_bound as binder_of_ctor, ctor_parts}

@@ -5,6 +5,7 @@ use Rattle.std.specs.Prelude.{if◌then◌else◌}
 use Rattle.pp_fault.specs.declared.Rule.{Rule}
 use Rattle.pp_fault.specs.declared.Rule.TheVariants.{NotABoolean}
 use Rattle.pp_fault.specs.Part.{Part, and_then}
+use Rattle.pp_fault.proofs.Parts.{goes, same_ok}
 use Rattle.pp_generic.proofs.Equal.{equal_same, equal_self}
 use Rattle.pp_generic.specs.declared.expected.Expected.{Expected}
 use Rattle.pp_generic.specs.Equal.{equal}
@@ -17,16 +18,10 @@ use Rattle.pp_typed.specs.declared.expr.TypedExpr.{TypedExpr}
 use Rattle.pp_typed.specs.declared.sort.GenericSort.{GenericSort}
 use Rattle.pp_typed.specs.declared.sort.GenericSort.TheVariants as sort
 
-pub same_ok : {A : Type 0} (a b : A) → let p : Part A = Ok a in let q : Part A = Ok b in p ≡ q → a ≡ b
-same_ok a b h = cc
-
 pub then_ok : {A B : Type 0} (p : Part A) (go : A → Part B) (b : B) → and_then p go ≡ Ok b
     → (a : A) × (p ≡ Ok a) × (go a ≡ Ok b)
 then_ok (Ok a) go b h = (a, refl, h)
 then_ok (Err f) go b h = cc
-
-pub goes : {A B : Type 0} (p : Part A) (go : A → Part B) (a : A) → p ≡ Ok a → and_then p go ≡ go a
-goes p go a e = ap (λ r. and_then r go) e
 
 module _ (env : Env) where
   pub unless_ok : {A : Type 0} (b : Bool) (rule : Rule) (w : Word) (at : ℕ) (x : Part A) (e : A)

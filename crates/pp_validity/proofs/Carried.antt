@@ -3,9 +3,9 @@
 use Rattle.std.proofs.Common.{◌≡◌, ℕ, Bool, true, false, not, ◌&&◌, List, [], ◌∷◌, ◌++◌, map, length, refl, sym, ap}
 use Rattle.std.proofs.Common.{◌∙◌, subst, append_assoc}
 use Rattle.std.specs.Prelude.{◌↔◌, IsTrue, Option, Some, None, is_none, is_some, slice_get, Contains}
-use Rattle.std.proofs.lemmas.List.{append-nil, map-append}
+use Rattle.std.proofs.lemmas.List.{append-nil, map-append, map_push}
 use Rattle.std.proofs.lemmas.List.Elements.{Contains-push, Contains-append_left}
-use Rattle.pp_instances.proofs.Parts.{map_push, joined_push as members_push}
+use Rattle.pp_instances.proofs.Parts.{joined_push as members_push}
 use Rattle.pp_instances.specs.Same.{joined as joined_members}
 use Rattle.pp_instances.specs.Uses.{case_mentions, function_at, guard_mentions, mentions, types_of}
 use Rattle.pp_instances.specs.declared.member.Member.{Member}

@@ -2,9 +2,8 @@
 use Rattle.std.proofs.Common.{◌≡◌, ℕ, suc, true, ◌&&◌, List, [], ◌∷◌, ◌++◌, map, length, refl, sym, ap, ◌∙◌}
 use Rattle.std.proofs.Common.{append_assoc, subst, arith}
 use Rattle.std.specs.Prelude.{Option, Some, None, is_some, Contains, All}
-use Rattle.std.proofs.lemmas.List.{append-nil}
+use Rattle.std.proofs.lemmas.List.{append-nil, map_push}
 use Rattle.std.proofs.lemmas.Bool.{and_from}
-use Rattle.pp_instances.proofs.Parts.{map_push}
 use Rattle.pp_instances.specs.Same.{joined as joined_members}
 use Rattle.pp_instances.specs.Uses.{mentions, post_mentions, text_mentions}
 use Rattle.pp_instances.specs.declared.member.Instance.{Instance}

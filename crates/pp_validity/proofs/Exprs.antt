@@ -3,12 +3,11 @@ use Rattle.std.proofs.Common.{◌≡◌, ⊎_elim, ℕ, true, ◌&&◌, if◌the
 use Rattle.std.proofs.Common.{subst, eq-eqb}
 use Rattle.std.specs.Prelude.{Option, Some, None, slice_get, Contains}
 use Rattle.std.specs.Option.{option_map}
-use Rattle.std.proofs.lemmas.List.{length-map, map-append}
+use Rattle.std.proofs.lemmas.List.{length-map, map-append, map_push}
 use Rattle.std.proofs.lemmas.List.Elements.{Contains-get_or, Contains-push, Contains-push_cases, Contains-append_left}
 use Rattle.std.proofs.lemmas.List.Elements.{Contains-append_right}
 use Rattle.std.proofs.lemmas.Option.{slice_get-map, slice_get_within, get_or_from_slice_get}
 use Rattle.pp_instances.proofs.Kept.{nothing_in}
-use Rattle.pp_instances.proofs.Parts.{map_push}
 use Rattle.pp_instances.specs.Same.{joined, place_of}
 use Rattle.pp_instances.specs.Uses.{case_mentions, function_at, guard_mentions, mentions, root_at, types_of}
 use Rattle.pp_instances.specs.declared.member.Member.{Member}

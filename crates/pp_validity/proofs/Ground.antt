@@ -5,33 +5,17 @@ use Rattle.std.specs.Option.{option_map}
 use Rattle.std.proofs.lemmas.Option.{slice_get-get_or}
 use Rattle.std.proofs.lemmas.Option.{slice_get-map}
 use Rattle.std.proofs.lemmas.List.Elements.{Contains-push_cases, Contains-append_cases}
+use Rattle.pp_generic.proofs.Putting.{put_bool, put_int, put_param, put_root}
 use Rattle.pp_instances.proofs.Kept.{nothing_in}
 use Rattle.pp_instances.specs.declared.member.Member.{Member}
 use Rattle.pp_prog.specs.declared.sort.Sort.TheVariants as prog
 use Rattle.pp_translation.specs.Numbers.{args_in_layer, args_of, data_number, program_sort, sort_at, sort_of_layer}
 use Rattle.pp_typed.specs.InRange.{IsInRange, AreInRange, int_in_range, bool_in_range, param_in_range, root_in_range}
 use Rattle.pp_typed.specs.InRange.{none_in_range, more_in_range}
-use Rattle.pp_typed.specs.Put.{put, put_at, put_step}
+use Rattle.pp_typed.specs.Put.{put, put_at}
 use Rattle.pp_typed.specs.declared.sort.GenericSort.{GenericSort}
-use Rattle.pp_typed.specs.declared.sort.GenericSort.TheFolds.{fold-roll-GenericSort}
-use Rattle.pp_typed.specs.declared.sort.GenericSort.TheOpen as layer
 use Rattle.pp_typed.specs.declared.sort.GenericSort.TheVariants as sort
 use Rattle.pp_typed.specs.declared.typed.TypedRoot.{TypedRoot}
-
-pub put_int : (args : List GenericSort) → put args sort.Int ≡ sort.Int
-put_int args = ap (put args) (sym sort.rolls-Int) ∙ fold-roll-GenericSort GenericSort (put_step args) layer.Int
-
-pub put_bool : (args : List GenericSort) → put args sort.Bool ≡ sort.Bool
-put_bool args = ap (put args) (sym sort.rolls-Bool) ∙ fold-roll-GenericSort GenericSort (put_step args) layer.Bool
-
-pub put_param : (args : List GenericSort) (i : ℕ) → put args (sort.Param i) ≡ put_at args i
-put_param args i = ap (put args) (sym (sort.rolls-Param i))
-    ∙ fold-roll-GenericSort GenericSort (put_step args) (layer.Param i)
-
-pub put_root : (args : List GenericSort) (r : ℕ) (ss : List GenericSort)
-    → put args (sort.Root r ss) ≡ sort.Root r (map (put args) ss)
-put_root args r ss = ap (put args) (sym (sort.rolls-Root r ss))
-    ∙ fold-roll-GenericSort GenericSort (put_step args) (layer.Root r ss)
 
 -- arguments put twice are put at once, where the inner ones are all there
 module _ (outer args : List GenericSort) where

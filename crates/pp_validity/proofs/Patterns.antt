@@ -5,6 +5,7 @@ use Rattle.std.specs.Prelude.{Option, Some, None, slice_get, Contains}
 use Rattle.std.proofs.lemmas.List.{append-nil, length-map, map-append}
 use Rattle.std.proofs.lemmas.List.Elements.{Contains-push, Contains-push_cases, Contains-append_cases}
 use Rattle.std.proofs.lemmas.List.Elements.{Contains-append_left, Contains-append_right}
+use Rattle.pp_generic.proofs.Putting.{put_root}
 use Rattle.pp_instances.proofs.Kept.{nothing_in}
 use Rattle.pp_instances.proofs.Mentioned.{types_root}
 use Rattle.pp_instances.specs.Same.{place_of}
@@ -36,7 +37,7 @@ use Rattle.pp_typed.specs.declared.sort.GenericSort.{GenericSort}
 use Rattle.pp_typed.specs.declared.sort.GenericSort.TheVariants as sort
 use Rattle.pp_typed.specs.declared.typed.Typed.{Typed}
 use Rattle.pp_typed.specs.declared.typed.TypedCtor.{TypedCtor}
-use Rattle.pp_validity.proofs.Ground.{args_of_root, each_put, puts_puts, put_root, sort_at_bool, sort_at_int}
+use Rattle.pp_validity.proofs.Ground.{args_of_root, each_put, puts_puts, sort_at_bool, sort_at_int}
 use Rattle.pp_validity.proofs.Ground.{sort_at_root}
 use Rattle.pp_validity.proofs.Known.{HasTypes, IsKnown}
 use Rattle.pp_validity.proofs.Operators.{same_self}

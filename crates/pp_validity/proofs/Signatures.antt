@@ -2,7 +2,7 @@
 use Rattle.std.proofs.Common.{◌≡◌, ⊎_elim, ℕ, true, List, [], ◌∷◌, ◌++◌, map, length, refl, sym, ap, ◌∙◌, subst, arith}
 use Rattle.std.proofs.Common.{length-append}
 use Rattle.std.specs.Prelude.{Some, is_some, slice_get}
-use Rattle.std.proofs.lemmas.Option.{same_Some}
+use Rattle.std.proofs.lemmas.Option.{none-some, same_Some}
 use Rattle.pp_instances.specs.declared.member.Instance.{Instance}
 use Rattle.pp_prog.specs.Sorts.{param_sorts as sorts_of_params, sort_of_param as sort_of_prog_param}
 use Rattle.pp_prog.specs.Valid.{is_written as is_written_prog}
@@ -23,7 +23,7 @@ use Rattle.pp_typed.specs.declared.typed.Typed.{Typed}
 use Rattle.pp_typed.specs.declared.typed.TypedDef.{TypedDef}
 use Rattle.pp_validity.proofs.Patterns.{map_map}
 use Rattle.pp_validity.proofs.Placed.{before}
-use Rattle.pp_validity.proofs.Whole.{at_last, last_or_before, none_some}
+use Rattle.pp_validity.proofs.Whole.{at_last, last_or_before}
 
 written_push : {A : Type 0} (xs : List A) (x : A) → is_written (xs ++ x ∷ []) ≡ true
 written_push [] x = refl
@@ -89,7 +89,7 @@ module _ (typed : Typed) (set : Setting) (texts : List (List ℕ)) where
       → TranslatesDefs typed set texts is fs start cs → Declared is → length fs ≡ length is
   even no_defs h = refl
   even (none_more {is = is} i missing earlier) h = let d = h (length is) i (at_last is i) in
-      absurd (none_some (sym missing ∙ d.1))
+      absurd (none-some _ (sym missing ∙ d.1))
   even (more_defs {is = is} {i = i} {fs = fs} {f = f} own d number args measured at_def earlier t) h =
       let e = even earlier (declared_before is i h) in
       let p = length-append fs (f ∷ []) in
@@ -100,9 +100,9 @@ module _ (typed : Typed) (set : Setting) (texts : List (List ℕ)) where
       → TranslatesDefs typed set texts is fs start cs → Declared is
       → (n : ℕ) (i : Instance) (d : TypedDef) → slice_get is n ≡ Some i → slice_get typed.defs i.number ≡ Some d
       → IsSignature fs n i d
-  signatures no_defs h n i d at at_def = absurd (none_some at)
+  signatures no_defs h n i d at at_def = absurd (none-some _ at)
   signatures (none_more {is = is} j missing earlier) h n i d at at_def = let e = h (length is) j (at_last is j) in
-      absurd (none_some (sym missing ∙ e.1))
+      absurd (none-some _ (sym missing ∙ e.1))
   signatures (more_defs {is = is} {i = j} {fs = fs} {f = f} own e number args measured j_def earlier t) h n i d at
       at_def =
       let even_here = even earlier (declared_before is j h) in

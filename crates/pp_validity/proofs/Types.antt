@@ -4,6 +4,7 @@ use Rattle.std.specs.Prelude.{Option, Some, None, slice_get, unwrap_or, Contains
 use Rattle.std.proofs.lemmas.List.Elements.{Contains-push, Contains-push_cases, Contains-append_cases}
 use Rattle.std.proofs.lemmas.List.Elements.{Contains-append_left, Contains-append_right, Contains-get_or}
 use Rattle.std.proofs.lemmas.Option.{slice_get_within, get_or_from_slice_get}
+use Rattle.pp_generic.proofs.Putting.{put_bool, put_int, put_param, put_root}
 use Rattle.pp_instances.proofs.Kept.{nothing_in}
 use Rattle.pp_instances.proofs.Mentioned.{types_int, types_bool, types_param, types_root}
 use Rattle.pp_instances.specs.Uses.{root_at, types_in, types_of}
@@ -14,7 +15,6 @@ use Rattle.pp_typed.specs.declared.sort.GenericSort.TheFolds.{ind-GenericSort, m
 use Rattle.pp_typed.specs.declared.sort.GenericSort.TheOpen as layer
 use Rattle.pp_typed.specs.declared.sort.GenericSort.TheVariants as sort
 use Rattle.pp_typed.specs.declared.sort.GenericSort.TheViews.{roll-GenericSort}
-use Rattle.pp_validity.proofs.Ground.{put_int, put_bool, put_param, put_root}
 use Rattle.pp_validity.proofs.Known.{HasTypes}
 use Rattle.pp_validity.proofs.Within.{Within}
 

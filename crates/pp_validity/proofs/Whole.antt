@@ -4,10 +4,9 @@ use Rattle.std.proofs.Common.{◌≡◌, ⊎_elim, inl, inr, ◌⊎◌, ℕ, zer
 use Rattle.std.proofs.Common.{◌++◌, map, length, refl, sym, ap, ◌∙◌, subst, arith, append_assoc, length-append}
 use Rattle.std.specs.Prelude.{Some, None, slice_get, Contains}
 use Rattle.std.specs.List.{list_all}
-use Rattle.std.proofs.lemmas.List.{append-nil, map-append}
+use Rattle.std.proofs.lemmas.List.{append-nil, map-append, map_push}
 use Rattle.std.proofs.lemmas.List.Elements.{Contains-push, Contains-append_left, Contains-append_right}
-use Rattle.std.proofs.lemmas.Option.{same_Some}
-use Rattle.pp_instances.proofs.Parts.{map_push}
+use Rattle.std.proofs.lemmas.Option.{none-some, same_Some}
 use Rattle.pp_instances.specs.Uses.{text_mentions}
 use Rattle.pp_instances.specs.declared.member.Instance.{Instance}
 use Rattle.pp_instances.specs.declared.member.Member.{Member}
@@ -49,9 +48,6 @@ all_push : {A : Type 0} (p : A → Bool) (xs : List A) (x : A) → list_all p xs
 all_push p [] x h t = ap (λ b. b && true) t
 all_push p (y ∷ xs) x h t = and_both (p y) (list_all p xs) (list_all p (xs ++ x ∷ [])) h
     (λ more. all_push p xs x more t)
-
-pub none_some : {A : Type 0} {x : A} → None ≡ Some x → ⊥
-none_some h = cc
 
 pub at_last : {A : Type 0} (xs : List A) (x : A) → slice_get (xs ++ x ∷ []) (length xs) ≡ Some x
 at_last [] x = refl
@@ -159,7 +155,7 @@ module _ (typed : Typed) (set : Setting) (texts : List (List ℕ)) (all : List F
     whole rest (none_more {is = is} i {fs = fs} missing earlier) none at =
         let here = ap (λ l. slice_get l (length is)) at ∙ before (is ++ i ∷ []) rest (length is) i (at_last is i) in
         let d = declared (length is) i here in
-        absurd (none_some (sym missing ∙ d.1))
+        absurd (none-some _ (sym missing ∙ d.1))
     whole rest (more_defs {is = is} {i = i} {fs = fs} {f = f} {mid = mid} {new = new} own d number args measured at_def
         earlier t) none at =
         let w = whole (i ∷ rest) earlier none (at ∙ append_assoc is (i ∷ []) rest) in

@@ -2,7 +2,8 @@
 use Rattle.std.proofs.Common.{◌≡◌, ℕ, List, [], ◌∷◌, ◌++◌, map, sym, ap, ◌∙◌, subst}
 use Rattle.std.specs.Prelude.{Option, Some, None, Contains}
 use Rattle.std.proofs.lemmas.List.Elements.{Contains-append_left, Contains-append_right}
-use Rattle.pp_instances.proofs.Parts.{joined_push, map_push}
+use Rattle.std.proofs.lemmas.List.{map_push}
+use Rattle.pp_instances.proofs.Parts.{joined_push}
 use Rattle.pp_instances.specs.Same.{joined}
 use Rattle.pp_instances.specs.Uses.{at_args, case_mentions, case_step, expr_step, function_at, guard_mentions}
 use Rattle.pp_instances.specs.Uses.{kind_mentions, kind_step, mentions, types_in, types_of}

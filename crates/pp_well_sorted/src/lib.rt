@@ -1,4 +1,4 @@
-//! Typed units that are well sorted: what typing answers, and what the concrete program is made of.
+//! Typed units that are known to be well sorted: what the concrete program is made of.
 #![tactic(auto)]
 
 mod well_sorted;

@@ -1,6 +1,7 @@
 -- What the command's own contract says of the words, in the words of this crate.
-use Rattle.std.proofs.Common.{◌≡◌, ◌≢◌, ◌&&◌, ◌==◌, ◌∷◌, List, [], ℕ, Bool, Option, Some, None, false, true}
+use Rattle.std.proofs.Common.{◌≡◌, ◌≢◌, ◌==◌, ◌∷◌, List, [], ℕ, Option, Some, None, false, true}
 use Rattle.std.proofs.Common.{if◌then◌else◌, not, length, option_map, refl, subst, inl, inr, rules}
+use Rattle.std.proofs.Math.Bool.{and-false}
 use Rattle.clap.specs.Values.{kind_of}
 use Rattle.clap.specs.declared.error.Error.{Error}
 use Rattle.clap.specs.declared.error.kind.ErrorKind.TheVariants as kind
@@ -51,10 +52,6 @@ pub no_line_of_hyphen : (words : List (List ℕ)) → true ≡ has_lone_hyphen w
 unfolding line_of
 no_line_of_hyphen words hyphen = rw (← hyphen) refl
 
-and_false : (b : Bool) → (b && false) ≡ false
-and_false true = refl
-and_false false = refl
-
 -- kinds that aren't none have a length
 some_length : (kinds : Kinds) → (kinds ≡ [] → ⊥) → (length kinds == 0) ≡ false
 some_length [] some = absurd (some refl)
@@ -62,7 +59,7 @@ some_length (k ∷ kinds) some = search rules
 
 pub no_line_of_faults : (words : List (List ℕ)) → (faults_in words ≡ [] → ⊥) → line_of words ≡ None
 unfolding line_of
-no_line_of_faults words some = rw (some_length (faults_in words) some, and_false (not (has_lone_hyphen words))) refl
+no_line_of_faults words some = rw (some_length (faults_in words) some, and-false (not (has_lone_hyphen words))) refl
 
 -- the line has the task that the values ask, where they ask one
 pub line_of_task : (given : Given) (task : Option Task) → task ≡ task_of given

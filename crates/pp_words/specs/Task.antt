@@ -2,9 +2,9 @@
 use Rattle.std.specs.Prelude.{ℕ, Bool, ◌&&◌, ◌||◌, true, false, List, [], ◌∷◌, None, Option, Some, bytes_eq, codes}
 use Rattle.std.specs.Prelude.{if◌then◌else◌, is_none, length, nat_eq, nat_le, option_and_then, option_map}
 use Rattle.std.specs.List.{list_all, list_any}
-use Rattle.pp_limits.specs.declared.TheConstants.{DEPTH, GATES, LEAST_SEED, LEMMAS, MOST_SEED, MOST_SOURCES, ROUNDS}
+use Rattle.pp_limits.specs.declared.TheConstants.{DEPTH, FUEL, GATES, LEAST_SEED, LEMMAS, MOST_SEED, MOST_SOURCES}
+use Rattle.pp_limits.specs.declared.TheConstants.{ROUNDS}
 use Rattle.pp_words.specs.Number.{number_in, number_of}
-use Rattle.pp_words.specs.declared.TheConstants.{NESTED}
 use Rattle.pp_words.specs.declared.task.Numbers.{Numbers}
 
 pub data Task : Type 0 where
@@ -96,7 +96,7 @@ asked verifying given = option_map verify (numbers_in given)
 asked listing given =
     option_and_then (λ rounds. option_map (list rounds) (number_of DEPTH given.depth)) (number_of ROUNDS given.rounds)
 asked running given =
-    option_and_then (λ function. option_map (run function) (number_of NESTED given.fuel)) given.function
+    option_and_then (λ function. option_map (run function) (number_of FUEL given.fuel)) given.function
 asked making given = option_and_then (λ seed. option_map (make seed) (numbers_in given)) (seed_in given)
 
 -- the task of a mode, where the values fit it

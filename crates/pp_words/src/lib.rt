@@ -6,8 +6,6 @@
 //! ranges and defaults, and `Command` and `Number` what stands below it. A later mode is a case of `Task` more.
 #![tactic(auto)]
 
-use pp_limits::{FUEL, MOST_NESTED, Range};
-
 mod command;
 mod given;
 mod line;
@@ -17,10 +15,3 @@ mod task;
 pub use line::{Line, WordsFault, read};
 pub use std::alloc::AllocError as NoMemory;
 pub use task::{Numbers, Task};
-
-/// How many calls of a run may be nested (`--fuel`): as many as the plain evaluator nests.
-pub const NESTED: Range = Range {
-    default: FUEL.default,
-    least: FUEL.least,
-    most: MOST_NESTED,
-};

@@ -6,10 +6,9 @@ ghost use Rattle.pp_words.specs.Task as spec;
 ghost use Rattle.pp_words.specs.Task.{listing, making, running, verifying};
 ghost use Rattle.pp_words.specs.Told.{given_told, mode_told, task_told};
 
-use crate::NESTED;
 use crate::given::Given;
 use crate::number::{number, number_of};
-use pp_limits::{DEPTH, GATES, LEAST_SEED, LEMMAS, MOST_SEED, MOST_SOURCES, ROUNDS};
+use pp_limits::{DEPTH, FUEL, GATES, LEAST_SEED, LEMMAS, MOST_SEED, MOST_SOURCES, ROUNDS};
 
 /// How far functions are verified.
 #[derive(Clone, Copy, Debug, PartialEq, Eq)]
@@ -131,7 +130,7 @@ fn run<'a>(given: &Given<'a>) -> Option<Task<'a>>
 {
     Some(Task::Run {
         function: given.function?,
-        fuel: number_of(NESTED, given.fuel)?,
+        fuel: number_of(FUEL, given.fuel)?,
     })
 }
 

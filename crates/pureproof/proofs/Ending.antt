@@ -4,7 +4,7 @@ use Rattle.std.proofs.Common.{sym, ap, ◌∙◌, subst, arith}
 use Rattle.std.specs.Prelude.{Option, None, Some, IfSome, Contains, slice_get}
 use Rattle.std.specs.List.{concat}
 use Rattle.std.proofs.lemmas.List.Elements.{All-contains, Contains-get_or}
-use Rattle.std.proofs.lemmas.Option.{get_or_from_slice_get, slice_get_within}
+use Rattle.std.proofs.lemmas.Option.{get_or_from_slice_get, none-some, same_Some, slice_get_within}
 use Rattle.pp_answers.specs.Answers as answer
 use Rattle.pp_answers.specs.Answers.{Answers, IsAccepted, sources_of}
 use Rattle.pp_answers.proofs.Statuses.{is_verdict}
@@ -30,14 +30,8 @@ use Rattle.pureproof.specs.Ends.{no_files, one_file, out_failed}
 use Rattle.pureproof.specs.Fetched.{AreHeld, IsHeld, Text, no_paths, one_path}
 use Rattle.pureproof.specs.Shown.{Shows, TookAll, both_cut, cut, printed, refusal_cut, refused}
 
-pub none_some : {A : Type 0} {x : A} → None ≡ Some x → ⊥
-none_some h = cc
-
-pub some_same : {A : Type 0} {x y : A} → Some x ≡ Some y → x ≡ y
-some_same h = cc
-
 pub one_line : (words : List Text) (l m : Line) → line_of words ≡ Some l → line_of words ≡ Some m → l ≡ m
-one_line words l m a b = some_same (sym a ∙ b)
+one_line words l m a b = same_Some _ _ (sym a ∙ b)
 
 -- what is shown ends with its own status, or something failed
 shown_or_failed : (run : Run) (q : Response) (s : Status) → Shows run.out run.err q s
@@ -50,8 +44,8 @@ shown_or_failed run q s (refusal_cut t line still front) = inr (err_failed front
 
 -- the bytes that are told are those that are held
 held_is : (o : Option Text) (bytes told : Text) → o ≡ Some bytes → IsHeld o told → told ≡ bytes
-held_is None bytes told h is = absurd (none_some h)
-held_is (Some b) bytes told h is = is ∙ some_same h
+held_is None bytes told h is = absurd (none-some _ h)
+held_is (Some b) bytes told h is = is ∙ same_Some _ _ h
 
 one_sources : (held : Text → Option Text) {paths sources told : List Text} → Hold held paths sources
     → AreHeld held paths told → told ≡ sources
@@ -62,9 +56,9 @@ one_sources held (one_file {path = path} {bytes = bytes} {sources = sources} h m
 
 held_at : (held : Text → Option Text) {paths sources : List Text} → Hold held paths sources → (n : ℕ) (path : Text)
     → slice_get paths n ≡ Some path → (bytes : Text) × (held path ≡ Some bytes) × Contains sources bytes
-held_at held no_files n path at = absurd (none_some at)
+held_at held no_files n path at = absurd (none-some _ at)
 held_at held (one_file {bytes = bytes} h more) zero path at =
-    (bytes, subst (λ p. held p ≡ Some bytes) (some_same at) h, (0, omega arith, refl))
+    (bytes, subst (λ p. held p ≡ Some bytes) (same_Some _ _ at) h, (0, omega arith, refl))
 held_at held (one_file {bytes = b} {sources = sources} h more) (suc n) path at =
     let later = held_at held more n path at in
     (later.0, later.1, later_in b sources later.0 later.2)
@@ -74,9 +68,9 @@ held_at held (one_file {bytes = b} {sources = sources} h more) (suc n) path at =
 
 not_long : (o : Option Text) (bytes : Text) → o ≡ Some bytes → length bytes ≤ most_bytes
     → IfSome o (λ b. most_bytes < length b) → ⊥
-not_long None bytes h few many = none_some h
+not_long None bytes h few many = none-some _ h
 not_long (Some b) bytes h few many =
-    let same : length b ≡ length bytes = ap length (some_same h) in absurd (omega (arith, same, few, many))
+    let same : length b ≡ length bytes = ap length (same_Some _ _ h) in absurd (omega (arith, same, few, many))
 
 pub in_files : (files : List Text) (n : ℕ) (path : Text) → slice_get files n ≡ Some path → Contains files path
 in_files files n path at =
@@ -87,7 +81,7 @@ in_files files n path at =
 module _ (run : Run) (line : Line) (sources : List Text) (holds : Holds run line sources) (P : Status → Type 0)
     (each : (q : Response) → Answers line.task sources q → P (status_in q)) where
   by_due : (q : Response) (s : Status) → IsDue run.words run.shelf q → Shows run.out run.err q s → P s ⊎ Excuses run s
-  by_due q s (no_line none calm) shows = absurd (none_some (sym none ∙ holds.words))
+  by_due q s (no_line none calm) shows = absurd (none-some _ (sym none ∙ holds.words))
   by_due q s (unread other told is fails) shows =
       let path = in_files other.files (length told) fails.path fails.here in
       ⊎_elim (λ e. inr (subst (Excuses run) (sym e) (ends.unread other fails.path is path fails.grew)))
@@ -175,7 +169,7 @@ module _ (each : OneLineEach) (IsTrue : Limits → Claim) (always : IsAlwaysTrue
     (limits : Limits) (words : line_of run.words ≡ Some line) (task : line.task ≡ verify_within limits) where
   reports : (q : Response) (s : Status) → IsDue run.words run.shelf q → IsPrinted run q s → IsOnVerdicts s
       → Reports run line s (IsTrue limits)
-  reports q s (no_line none calm) shown is = absurd (none_some (sym none ∙ words))
+  reports q s (no_line none calm) shown is = absurd (none-some _ (sym none ∙ words))
   reports q s (unread wanted told at fails) shown is = absurd (other s status.ReadFault shown.same is (omega arith))
   reports q s (too_long wanted told at long) shown is = absurd (other s status.Refused shown.same is (omega arith))
   reports q s no_memory shown is = absurd (other s status.Memory shown.same is (omega arith))

@@ -5,7 +5,7 @@ use Rattle.std.specs.Borrow.{Bor}
 use Rattle.std.specs.Prelude.{Option, Some, IfSome, Vec, slice_get}
 use Rattle.std.proofs.lemmas.List.{append-nil, length-map, length-take-le, map-append, take-map, take_more}
 use Rattle.std.proofs.lemmas.List.Elements.{All-push}
-use Rattle.std.proofs.lemmas.Option.{slice_get_within}
+use Rattle.std.proofs.lemmas.Option.{same_Some, slice_get_within}
 use Rattle.pp_answers.specs.Answers.{Answers}
 use Rattle.pp_front.specs.Programs.{IsShort, bytes_of}
 use Rattle.pp_text.specs.Limits.{most_bytes}
@@ -18,7 +18,6 @@ use Rattle.pp_seam.specs.declared.faults.FetchFault.{FetchFault}
 use Rattle.pp_seam.specs.declared.faults.FetchFault.TheVariants as fault
 use Rattle.pp_words.specs.Line.{Line, line_of}
 use Rattle.pp_words.specs.Told.{texts}
-use Rattle.pureproof.proofs.Ending.{some_same}
 use Rattle.pureproof.specs.Dues.{IsDue, answered, too_long, unread}
 use Rattle.pureproof.specs.Ends.{FetchesFiles}
 use Rattle.pureproof.specs.Fetched.{AreHeld, AreShort, Asks, AsksFirst, FailsAt, FetchesNothing, IsHeld}
@@ -143,7 +142,7 @@ module _ {Z : Type 0} (words : List Text) (shelf : Shelf) (line : Line) (is : li
       let same_length = length-map sources bytes_of in
       let there : slice_get line.files (length (map bytes_of sources)) ≡ Some (get_or files n d).now =
       ap (slice_get line.files) (same_length ∙ sym at) ∙ ap (λ l. slice_get l n) are ∙ shown_at d files n lt in
-      let same : (get_or files n d).now ≡ fails.path = some_same (sym there ∙ fails.here) in
+      let same : (get_or files n d).now ≡ fails.path = same_Some _ _ (sym there ∙ fails.here) in
       subst (IsDue words shelf) (sym (says ∙ ap (λ p. refusal status.ReadFault (read_fault_text p)) same))
       (unread line (map bytes_of sources) is fails)
 

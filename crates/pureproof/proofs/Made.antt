@@ -1,5 +1,6 @@
 -- What mode `make` prints is read back, and nothing is fetched.
 use Rattle.std.proofs.Common.{◌≡◌, ◌∙◌, ◌<◌, ℕ, List, [], ◌∷◌, length, sym, subst, arith}
+use Rattle.std.proofs.lemmas.Option.{none-some}
 use Rattle.std.specs.Prelude.{Some}
 use Rattle.std.specs.List.{concat}
 use Rattle.pp_answers.specs.Answers.{Answers}
@@ -12,7 +13,7 @@ use Rattle.pp_modes.specs.Responses.{Response, lines_in}
 use Rattle.pp_modes.specs.declared.status.Status.{Status}
 use Rattle.pp_modes.specs.declared.status.Status.TheVariants as status
 use Rattle.pp_words.specs.Line.{Line, line_of}
-use Rattle.pureproof.proofs.Ending.{IsPrinted, is_accepted, is_printed, none_some, one_line, other}
+use Rattle.pureproof.proofs.Ending.{IsPrinted, is_accepted, is_printed, one_line, other}
 use Rattle.pureproof.specs.Dues.{AreFetched, IsDue, answered, no_line, no_memory, too_long, unread}
 use Rattle.pureproof.specs.Ends.{Ends, MadeIsReadBack, ReadsMade, Run}
 use Rattle.pureproof.specs.Fetched.{Asks, Text}
@@ -29,7 +30,7 @@ module _ (law : MadeReadBack) (run : Run) (line : Line) (seed : ℕ) (limits : L
     (words : line_of run.words ≡ Some line) (task : line.task ≡ make_within seed limits) where
   by_due : (q : Response) (s : Status) → IsDue run.words run.shelf q → IsPrinted run q s → IsOnVerdicts s
       → ReadsMade run s seed limits
-  by_due q s (no_line none calm) shown is = absurd (none_some (sym none ∙ words))
+  by_due q s (no_line none calm) shown is = absurd (none-some _ (sym none ∙ words))
   by_due q s (unread wanted told at fails) shown is = absurd (other s status.ReadFault shown.same is (omega arith))
   by_due q s (too_long wanted told at long) shown is = absurd (other s status.Refused shown.same is (omega arith))
   by_due q s no_memory shown is = absurd (other s status.Memory shown.same is (omega arith))

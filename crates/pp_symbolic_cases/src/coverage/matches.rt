@@ -1,6 +1,6 @@
 //! The matches that are measured.
 
-ghost use Rattle.std.specs.Prelude.{IsTrue, ◌+◌, ◌≤◌};
+ghost use Rattle.std.specs.Prelude.{IfSome, IsTrue, ◌+◌, ◌≤◌};
 ghost use Rattle.pp_prog.specs.Table.{is_sort};
 
 use crate::coverage::table::{FIELDS, GRID, PAIR, PAIRS, ROW, WIDE, WIDE_CTORS, table};
@@ -14,31 +14,38 @@ const MOST: usize = 65_535;
 
 /// Whether the match of this name and size is covered. Another name is a match of a number without cases.
 pub fn is_covered(alloc: Global, case: &str, size: u32) -> Result<bool, CoverFault> {
+    let patterns = patterns(alloc, case, size)?;
     let table = table(alloc)?;
+    match datatype(case) {
+        Some(of) => told(alloc, &table, Sort::Tree(DataId(of)), patterns.as_slice()),
+        None => told(alloc, &table, Sort::Int, patterns.as_slice()),
+    }
+}
+
+/// The datatype of the match of this name, or none for a match of a number.
+fn datatype(case: &str) -> Option<u32>
+    ensures { IfSome result (λ of. of ≤ 4) }
+{
     match case {
-        "wide" => told(alloc, &table, Sort::Tree(DataId(WIDE)), wide(alloc, size)?),
-        "literals" => told(alloc, &table, Sort::Int, literals(alloc, size)?),
-        "booleans" => told(
-            alloc,
-            &table,
-            Sort::Tree(DataId(ROW)),
-            booleans(alloc, size)?,
-        ),
-        "pairs" => told(
-            alloc,
-            &table,
-            Sort::Tree(DataId(PAIRS)),
-            pairs(alloc, size)?,
-        ),
-        "pigeons" => told(
-            alloc,
-            &table,
-            Sort::Tree(DataId(GRID)),
-            pigeons(alloc, size)?,
-        ),
-        "names" => told(alloc, &table, Sort::Tree(DataId(PAIR)), names(alloc, size)?),
-        "no_rows" => told(alloc, &table, Sort::Tree(DataId(ROW)), Items::new(alloc)),
-        _ => told(alloc, &table, Sort::Int, Items::new(alloc)),
+        "wide" => Some(WIDE),
+        "booleans" | "no_rows" => Some(ROW),
+        "pairs" => Some(PAIRS),
+        "pigeons" => Some(GRID),
+        "names" => Some(PAIR),
+        _ => None,
+    }
+}
+
+/// The cases of the match of this name and size.
+fn patterns(alloc: Global, case: &str, size: u32) -> Result<Patterns, NoMemory> {
+    match case {
+        "wide" => wide(alloc, size),
+        "literals" => literals(alloc, size),
+        "booleans" => booleans(alloc, size),
+        "pairs" => pairs(alloc, size),
+        "pigeons" => pigeons(alloc, size),
+        "names" => names(alloc, size),
+        _ => Ok(Items::new(alloc)),
     }
 }
 
@@ -46,11 +53,10 @@ fn told(
     alloc: Global,
     table: &TypeTable,
     sort: Sort,
-    patterns: Patterns,
+    patterns: &[Pattern],
 ) -> Result<bool, CoverFault>
     requires { IsTrue (is_sort table.now.datatypes sort) }
 {
-    let patterns = patterns.as_slice();
     covered(alloc, table, sort, &patterns[..patterns.len().min(MOST)])
 }
 

@@ -5,7 +5,6 @@ ghost use Rattle.std.specs.Prelude.{◌<◌, length};
 use anyhow::Result;
 use pp_checks::Plan;
 use pp_prog::{Check, CheckKind, FunctionId, Program};
-use std::alloc::Global;
 use std::fmt;
 
 /// The greatest round that is tried.
@@ -34,45 +33,37 @@ fn closed_at(plan: &Plan, f: FunctionId, depth: u32) -> Least {
     Least((0..=MOST_ROUND).find(|round| plan.closed(f, *round, depth)))
 }
 
-/// These rounds at the depths 0 to 3.
-fn closed(alloc: Global, plan: &Plan, f: FunctionId) -> Result<String> {
-    let at_0 = closed_at(plan, f, 0);
-    let at_1 = closed_at(plan, f, 1);
-    let at_2 = closed_at(plan, f, 2);
-    let at_3 = closed_at(plan, f, 3);
-    Ok(format!(in alloc; "{at_0} {at_1} {at_2} {at_3}")?)
-}
-
-/// The names of the functions in the cone of the function, in the order of the program.
-fn cone(alloc: Global, program: &Program, plan: &Plan, f: FunctionId) -> Result<String> {
-    let mut names = String::new(alloc);
+/// Prints the names of the functions in the cone of the function, in the order of the program.
+fn print_cone(rt: &impl Print, program: &Program, plan: &Plan, f: FunctionId) -> Result<()> {
+    let mut between = "";
     for g in 0..program.function_count() {
         if plan.in_cone(f, FunctionId(g)) {
-            if !names.is_empty() {
-                names.push_str(", ")?;
-            }
-            names.push_str(program.function(FunctionId(g)).name.as_str())?;
+            let name = program.function(FunctionId(g)).name.as_str();
+            print!(rt; "{between}{name}")?;
+            between = ", ";
         }
     }
-    Ok(names)
+    Ok(())
 }
 
-/// The line on a function.
-fn function_line(alloc: Global, program: &Program, plan: &Plan, f: FunctionId) -> Result<String>
+/// Prints the line on a function.
+fn print_function(rt: &impl Print, program: &Program, plan: &Plan, f: FunctionId) -> Result<()>
     requires { f.0 < length program.now.functions }
 {
     let name = program.function(f).name.as_str();
-    let rank = plan.rank(f);
-    let cone = cone(alloc, program, plan, f)?;
-    let nested = nested(plan, f);
-    let closed = closed(alloc, plan, f)?;
-    Ok(format!(in alloc;
-        "{name}: rank {rank}; cone {cone}; nested from round {nested}; closed at depths 0 to 3 from rounds {closed}"
-    )?)
+    print!(rt; "{name}: rank {}; cone ", plan.rank(f))?;
+    print_cone(rt, program, plan, f)?;
+    print!(rt; "; nested from round {}", nested(plan, f))?;
+    print!(rt; "; closed at depths 0 to 3 from rounds")?;
+    for depth in 0..4u32 {
+        print!(rt; " {}", closed_at(plan, f, depth))?;
+    }
+    println!(rt)?;
+    Ok(())
 }
 
-/// The line on a measure check.
-fn check_line(alloc: Global, plan: &Plan, check: &Check) -> Result<String> {
+/// Prints the line on a measure check.
+fn print_check(rt: &impl Print, plan: &Plan, check: &Check) -> Result<()> {
     let number = check.id.0;
     let line = check.place.line;
     let column = check.place.column;
@@ -81,25 +72,25 @@ fn check_line(alloc: Global, plan: &Plan, check: &Check) -> Result<String> {
     } else {
         "not plain"
     };
-    Ok(format!(in alloc; "  measure check {number} at {line}:{column}: {descent}")?)
+    println!(rt; "  measure check {number} at {line}:{column}: {descent}")?;
+    Ok(())
 }
 
-/// Adds the lines on the measure checks of the function.
-fn add_checks(alloc: Global, plan: &Plan, f: FunctionId, lines: &mut Vec<String>) -> Result<()> {
+/// Prints the lines on the measure checks of the function.
+fn print_checks(rt: &impl Print, plan: &Plan, f: FunctionId) -> Result<()> {
     for check in plan.checks() {
         if check.function == f && check.kind == CheckKind::Measure {
-            lines.push(check_line(alloc, plan, check)?)?;
+            print_check(rt, plan, check)?;
         }
     }
     Ok(())
 }
 
-/// The lines on all functions, each before those on its measure checks.
-pub fn lines(alloc: Global, program: &Program, plan: &Plan) -> Result<Vec<String>> {
-    let mut lines = Vec::new(alloc);
+/// Prints the lines on all functions, each before those on its measure checks.
+pub fn print_lines(rt: &impl Print, program: &Program, plan: &Plan) -> Result<()> {
     for f in 0..program.function_count() {
-        lines.push(function_line(alloc, program, plan, FunctionId(f))?)?;
-        add_checks(alloc, plan, FunctionId(f), &mut lines)?;
+        print_function(rt, program, plan, FunctionId(f))?;
+        print_checks(rt, plan, FunctionId(f))?;
     }
-    Ok(lines)
+    Ok(())
 }

@@ -1,7 +1,8 @@
 //! The comparison of a round's circuit with the runs.
 
-ghost use Rattle.std.specs.Prelude.{◌<◌, ◌≤◌, length};
+ghost use Rattle.std.specs.Prelude.{◌<◌, ◌≤◌, OnOk, length};
 ghost use Rattle.pp_checks.specs.Plan.{IsPlanOf};
+ghost use Rattle.pp_symbolic_cases.specs.Round.{CanAsk};
 
 use crate::rounds::arguments::lists_of;
 use crate::rounds::round::Round;
@@ -9,7 +10,7 @@ use crate::rounds::running::{run_fails, sorts_of};
 use anyhow::{Result, ensure};
 use pp_checks::Plan;
 use pp_list::at;
-use pp_prog::{CheckId, Ctor, Program, Value};
+use pp_prog::{CheckId, Ctor, FunctionId, Program, Value, Values};
 use std::alloc::Global;
 
 /// The greatest height of the arguments that are tried.
@@ -38,39 +39,92 @@ pub fn compare(
 {
     let f = program.checks()[check.0 as usize].function;
     ensure!(f.0 < program.function_count(), "a check of no function");
-    let sorts = sorts_of(alloc, program.function(f).params.as_slice())?;
-    let lists = lists_of(alloc, program.types(), sorts.as_slice(), DEPTH)?;
+    let lists = lists(alloc, program, f)?;
     let mut circuit = Round::of(alloc, program, plan, check, round, DEPTH)?;
-    let mut failing = 0;
-    let mut differences = Vec::new(alloc);
-    for list in &lists {
-        let arguments = list.as_slice();
-        let said = circuit.fails_at(alloc, program.types(), arguments)?;
-        let fails = run_fails(alloc, program, f, arguments, check, round)?;
-        if fails {
-            failing += 1;
-        }
-        if said != Some(fails) {
-            let arguments = spelled(alloc, program.types().ctors.as_slice(), arguments)?;
-            differences.push(format!(in alloc;
-                "{arguments}: circuit says {said:?}, run says {fails}"
-            )?)?;
-        }
-    }
-    Ok(Compared {
-        tried: lists.len(),
-        failing,
-        differences,
-    })
+    let run = Run { f, check, round };
+    compare_all(alloc, program, run, &mut circuit, &lists)
 }
 
-/// The values, each behind a blank.
-fn spelled(alloc: Global, ctors: &[Ctor], values: &[Value]) -> Result<String> {
-    let mut text = String::new(alloc);
-    for value in values {
-        spell(&mut text, ctors, value)?;
+/// A function whose runs are looked at, the check, and the round.
+#[derive(Clone, Copy)]
+struct Run {
+    f: FunctionId,
+    check: CheckId,
+    round: u32,
+}
+
+/// The lists of arguments that are tried.
+fn lists(alloc: Global, program: &Program, f: FunctionId) -> Result<Vec<Values>>
+    requires { f.0 < length program.now.functions }
+{
+    let sorts = sorts_of(alloc, program.function(f).params.as_slice())?;
+    lists_of(alloc, program.types(), sorts.as_slice(), DEPTH)
+}
+
+/// Compares the circuit with the runs on these lists of arguments.
+fn compare_all(
+    alloc: Global,
+    program: &Program,
+    run: Run,
+    circuit: &mut Round,
+    lists: &[Values],
+) -> Result<Compared>
+    requires function { run.f.0 < length program.now.functions }
+    requires round { run.round ≤ 12 }
+    requires circuit { CanAsk program.now.types circuit.old }
+{
+    let mut compared = Compared {
+        tried: lists.len(),
+        failing: 0,
+        differences: Vec::new(alloc),
+    };
+    for list in lists {
+        compare_one(alloc, program, run, circuit, list.as_slice(), &mut compared)?;
     }
-    Ok(text)
+    Ok(compared)
+}
+
+/// Compares the circuit with the run on these arguments.
+fn compare_one(
+    alloc: Global,
+    program: &Program,
+    run: Run,
+    circuit: &mut Round,
+    arguments: &[Value],
+    compared: &mut Compared,
+) -> Result<()>
+    requires function { run.f.0 < length program.now.functions }
+    requires round { run.round ≤ 12 }
+    requires circuit { CanAsk program.now.types circuit.old }
+    ensures { OnOk result (CanAsk program.now.types circuit.new) }
+{
+    let said = circuit.fails_at(alloc, program.types(), arguments)?;
+    let fails = run_fails(alloc, program, run.f, arguments, run.check, run.round)?;
+    if fails {
+        compared.failing = compared.failing.saturating_add(1);
+    }
+    if said != Some(fails) {
+        let ctors = program.types().ctors.as_slice();
+        let line = difference(alloc, ctors, arguments, said, fails)?;
+        compared.differences.push(line)?;
+    }
+    Ok(())
+}
+
+/// What the circuit and the run say on these arguments.
+fn difference(
+    alloc: Global,
+    ctors: &[Ctor],
+    arguments: &[Value],
+    said: Option<bool>,
+    fails: bool,
+) -> Result<String> {
+    let mut line = String::new(alloc);
+    for argument in arguments {
+        spell(&mut line, ctors, argument)?;
+    }
+    write!(line, ": circuit says {said:?}, run says {fails}")?;
+    Ok(line)
 }
 
 /// Adds the value behind a blank: a tree by the name of its constructor, and its fields in brackets.

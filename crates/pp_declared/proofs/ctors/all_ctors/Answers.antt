@@ -3,7 +3,7 @@ use Rattle.pp_declared.specs.Declare.{ctors_after}
 use Rattle.pp_declared.specs.Shown.{class_ins}
 use Rattle.pp_fault.specs.Part.{and_then}
 use Rattle.pp_declared.proofs.NextCtor.{few_at, ctors_step}
-use Rattle.pp_declared.proofs.Parts.{stops_by}
+use Rattle.pp_fault.proofs.Parts.{stops_by}
 use Rattle.pp_declared.proofs.ctors.all_ctors.Goals as goal
 
 pub next_ctor-requires-clause-few : goal.next_ctor-requires-clause-few

@@ -4,7 +4,7 @@ use Rattle.pp_declared.specs.Listed.{imports_from}
 use Rattle.pp_declared.specs.Shown.{units_of}
 use Rattle.pp_fault.specs.Part.{and_then}
 use Rattle.pp_declared.proofs.Imported.{imports_step}
-use Rattle.pp_declared.proofs.Parts.{stops_by}
+use Rattle.pp_fault.proofs.Parts.{stops_by}
 use Rattle.pp_declared.proofs.imports.check_paths.Goals as goal
 
 pub returns-in_err-check_unit : goal.returns-in_err-check_unit

@@ -1,5 +1,6 @@
 use Rattle.std.proofs.Common.{map, string_bytes, sym, ap, ◌∙◌}
-use Rattle.pp_modes.proofs.Asked.{if_ok, some_same}
+use Rattle.std.proofs.lemmas.Option.{same_Some}
+use Rattle.pp_modes.proofs.Asked.{if_ok}
 use Rattle.pp_modes.proofs.Lines.{function_added, pushed}
 use Rattle.pp_prog.specs.declared.expr.Function.{Function}
 use Rattle.pp_modes.proofs.list.add_function.Goals as goal
@@ -10,7 +11,7 @@ returns c =
     (λ u rest g at. function_added c.args.program.now c.args.round c.args.depth c.args.f c.in_ok-estimate.estimate
     c.own_checks.result g
     c.as_str-name.result.now c.checks.result.now (map string_bytes c.args.lines.now.items)
-    (c.as_str-name.ensures ∙ ap (λ (z : Function). z.name) (some_same (sym c.function.ensures ∙ at)))
+    (c.as_str-name.ensures ∙ ap (λ (z : Function). z.name) (same_Some _ _ (sym c.function.ensures ∙ at)))
     c.own_checks.ensures
     c.checks.ensures.all c.in_ok-estimate.ensures
     (pushed c.args.lines.now.items c.push.new.self.items c.in_ok-count_line.field-0 _ c.in_ok-push.ensures.items

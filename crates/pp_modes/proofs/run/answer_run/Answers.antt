@@ -28,7 +28,7 @@ pub returns : goal.returns
 returns c =
     let none = c.if-len-gt0.false in
     let long = c.len.ensures in
-    if_ok c.ran.result c.ran.ensures
+    if_ok c.ran-response.result c.ran-response.ensures
     (λ r is. is_run c.args.program.now c.args.name.now c.args.fuel (response_of r) c.in-Some.f.0 c.function.result.now
     c.in_ok-outcome.outcome
     c.in-Some.ensures c.function.ensures (omega arith)

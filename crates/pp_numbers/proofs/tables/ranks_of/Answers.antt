@@ -2,10 +2,10 @@ use Rattle.std.proofs.Common.{◌≡◌, ◌+◌, ◌<◌, ℕ, List, length, le
 use Rattle.std.specs.Prelude.{Some, slice_get}
 use Rattle.std.proofs.lemmas.List.{length_push}
 use Rattle.std.proofs.lemmas.List.Elements.{All-get_or}
-use Rattle.std.proofs.lemmas.Option.{slice_get_within}
+use Rattle.std.proofs.lemmas.Option.{same_Some, slice_get_within}
 use Rattle.pp_numbers.specs.Tables.{IsOneOf}
 use Rattle.pp_numbers.proofs.Counts.{count_at_most}
-use Rattle.pp_numbers.proofs.Turns.{counted_turn, ranked_turn, same_some}
+use Rattle.pp_numbers.proofs.Turns.{counted_turn, ranked_turn}
 use Rattle.pp_translation.specs.Numbers.{rank_of}
 use Rattle.pp_typed.specs.Sorted.{ctors_of}
 use Rattle.pp_typed.specs.declared.typed.TypedCtor.{TypedCtor}
@@ -18,7 +18,7 @@ bump-requires c = λ n at.
     let own : k.root < c.args.roots =
     subst (IsOneOf c.args.roots) (sym c.c-item.is)
     (All-get_or (IsOneOf c.args.roots) all c.loop-c.c-index k c.loop-c-test.true c.requires.owned) in
-    let is = same_some n (length (ctors_of (take c.loop-c.c-index all) k.root))
+    let is = same_Some n (length (ctors_of (take c.loop-c.c-index all) k.root))
     (sym at ∙ c.loop-c.invariant.counted k.root own) in
     let most = count_at_most all c.loop-c.c-index k.root in
     let few = c.requires.few k.root in
@@ -37,7 +37,7 @@ loop-c-preserved c =
     let within : k.root < length counts = omega arith in
     let new = c.bump.ensures.after within in
     let was : c.bump.result ≡ length (ctors_of (take i all) k.root) =
-    same_some c.bump.result (length (ctors_of (take i all) k.root))
+    same_Some c.bump.result (length (ctors_of (take i all) k.root))
     (sym (c.bump.ensures.before within) ∙ c.loop-c.invariant.counted k.root own) in
     let pushed = c.in_ok-push.ensures.ok in
     let each = counted_turn all c.args.roots i k counts c.bump.result c.loop-c-test.true c.c-item.is sized own

@@ -1,6 +1,6 @@
 use Rattle.std.proofs.Common.{sym, ◌∙◌, ap}
 use Rattle.pp_parse_state.specs.Shown.{frames}
-use Rattle.pp_parse.specs.Shown.{parsed_of, state_of}
+use Rattle.pp_parse_items.specs.Shown.{parsed_of, state_of}
 use Rattle.pp_parse.proofs.Runs.{run_turn, fails_run, run_ended, still_open}
 use Rattle.pp_parse.proofs.reading.read.Goals as goal
 

@@ -1,7 +1,7 @@
 use Rattle.std.proofs.Common.{◌≡◌, drop}
 use Rattle.pp_grammar.specs.Automaton.{run, start}
 use Rattle.pp_parse_state.specs.Shown.{frames}
-use Rattle.pp_parse.specs.Shown.{parsed_of, state_of}
+use Rattle.pp_parse_items.specs.Shown.{parsed_of, state_of}
 use Rattle.pp_parse.proofs.reading.read.Given as goal
 
 abbrev pub invariant-loop-t : goal.invariant-loop-t

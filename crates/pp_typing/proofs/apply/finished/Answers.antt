@@ -3,9 +3,10 @@ use Rattle.pp_generic.specs.Expected.{every}
 use Rattle.pp_typed.specs.Put.{put}
 use Rattle.pp_rules.specs.Elab.{agreed, typed}
 use Rattle.pp_rules.specs.Shapes.{application}
-use Rattle.pp_typing.proofs.Told.{finished_at, tells_along}
+use Rattle.pp_typing.proofs.Told.{finished_at}
 use Rattle.pp_typing.specs.Views.{env_of}
 use Rattle.pp_typing.proofs.apply.finished.Goals as goal
+use Rattle.pp_fault.proofs.Parts.{tells_along}
 
 pub returns : goal.returns
 returns c =

@@ -1,8 +1,8 @@
 use Rattle.std.proofs.Common.{rules, ◌≡◌, ◌∙◌, Err, Ok, ap, sym, map, []}
+use Rattle.pp_fault.proofs.Parts.{goes, stops_as, tells_along}
 use Rattle.pp_rules.specs.Written.{written_from}
 use Rattle.pp_tree.specs.Shown.{type_of, type_trees}
-use Rattle.pp_typing.proofs.Told.{started_arity, started_sorts, tells_along}
-use Rattle.pp_typing.proofs.Turns.{goes, stops_as}
+use Rattle.pp_typing.proofs.Told.{started_arity, started_sorts}
 use Rattle.pp_typing.specs.Views.{env_of}
 use Rattle.pp_typing.proofs.apply.started.Goals as goal
 

@@ -1,11 +1,12 @@
 use Rattle.std.proofs.Common.{rules, ◌≡◌, ◌∙◌, ◌++◌, ◌∷◌, Err, [], ap, length, map, sym}
+use Rattle.pp_fault.proofs.Parts.{goes, stops_as, tells_along}
 use Rattle.pp_generic.specs.Expected.{expect}
 use Rattle.pp_rules.specs.Elab.{finished, name_at, started, taken}
 use Rattle.pp_tree.specs.Shown.{tree_of, type_of, type_trees}
 use Rattle.pp_typing.proofs.Applied.{applied_args, applied_arity, applied_start, arguments_stop, arguments_turn}
 use Rattle.pp_typing.proofs.Cases.{cases_stop, cases_turn}
-use Rattle.pp_typing.proofs.Told.{both_along, tells_along}
-use Rattle.pp_typing.proofs.Turns.{first_stops, goes, stops_as}
+use Rattle.pp_typing.proofs.Told.{both_along}
+use Rattle.pp_typing.proofs.Turns.{first_stops}
 use Rattle.pp_typing.specs.Views.{args_typing, env_of, part_typing, scope_of, typing}
 use Rattle.pp_typing.proofs.expr.+typing.Goals as goal
 

@@ -4,9 +4,10 @@ use Rattle.pp_typed.specs.Put.{put}
 use Rattle.pp_rules.specs.Elab.{agreed, typed}
 use Rattle.pp_rules.specs.Shapes.{field_place, field_sort}
 use Rattle.pp_typed.specs.declared.expr.TypedKind.TheVariants as kind
-use Rattle.pp_typing.proofs.Told.{same_ok, selected_at, tells_along}
+use Rattle.pp_typing.proofs.Told.{selected_at}
 use Rattle.pp_typing.specs.Views.{env_of}
 use Rattle.pp_typing.proofs.name.selected.Goals as goal
+use Rattle.pp_fault.proofs.Parts.{same_ok, tells_along}
 
 pub returns : goal.returns
 returns c =

@@ -1,11 +1,11 @@
 use Rattle.std.proofs.Common.{rules, ◌≡◌, ◌∙◌, Err, Ok, [], ap, map, sym}
 use Rattle.std.specs.Prelude.{option_copied, slice_get}
 use Rattle.pp_fault.specs.declared.Rule.TheVariants.{Arity}
+use Rattle.pp_fault.proofs.Parts.{goes}
 use Rattle.pp_typed.specs.Put.{put}
 use Rattle.pp_rules.specs.Elab.{bind, ctor_bound, elab_patterns}
 use Rattle.pp_tree.specs.Shown.{pattern_of, pattern_trees}
 use Rattle.pp_typing.proofs.CtorPatterns.{both_stop_as, ctor_arity, ctor_bind, ctor_rest, flaw_both, leaves_stop}
-use Rattle.pp_typing.proofs.Turns.{goes}
 use Rattle.pp_typing.specs.Views.{env_of, scope_of, word_of}
 use Rattle.pp_typing.proofs.patterns.+patterns.Goals as goal
 

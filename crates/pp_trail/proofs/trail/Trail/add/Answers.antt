@@ -11,4 +11,4 @@ pub invariant_of-self-2 : goal.invariant_of-self-2
 invariant_of-self-2 c =
     let same = ap (λ (t : Trail). t.vars) c.self.view_is in
     let up : IsUpTo c.self.inside.vars c.args.clause = rw same c.requires.up_to in
-    rw c.in_ok-add.ensures.ok (sound_add _ _ _ _ _ c.args.clause c.self.invariant up)
+    rw c.in_ok-add.ensures.ok (sound_add _ _ _ _ _ _ c.args.clause c.self.invariant up)

@@ -36,7 +36,7 @@ invariant_of-self c =
     let absent : IsAbsent step.lit.var old = rw same c.requires.absent in
     let high : step.lit.var ≤ c.self.inside.vars = rw vars c.requires.up_to in
     rw (pushed, c.is_positive.ensures, c.var-var.ensures.value)
-    (sound_push _ _ _ _ _ _ step c.len.result c.self.invariant c.push-pushed.ensures.capacity
+    (sound_push _ _ _ _ _ _ _ step c.len.result c.self.invariant c.push-pushed.ensures.capacity
     (omega (arith, c.var-var.ensures.low, c.var-var.ensures.value)) high absent
     (rw (clauses, same) c.requires.reason) (omega (arith, c.self.inside.steps.ok.0)))
 

@@ -1,5 +1,0 @@
-use Rattle.std.proofs.Common.{arith}
-use Rattle.pp_parse.proofs.declarations.on_declaration.Goals as goal
-
-pub returns-in_default : goal.returns-in_default
-returns-in_default c = λ d. let h = c.on_modifiers.ensures d in grind arith

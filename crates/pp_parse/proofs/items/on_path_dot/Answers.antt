@@ -1,5 +1,0 @@
-use Rattle.std.proofs.Common.{arith}
-use Rattle.pp_parse.proofs.items.on_path_dot.Goals as goal
-
-pub returns-in-Hole : goal.returns-in-Hole
-returns-in-Hole c = λ s. let h = c.on_import_all.ensures s in grind arith

@@ -1,0 +1,105 @@
+//! The step of each mode.
+
+ghost use Rattle.pp_tokens.specs.Spans.{IsSpan};
+ghost use Rattle.pp_grammar.specs.Automaton.{on_mode};
+ghost use Rattle.pp_parse_state.specs.Shown.{Moves, frames, mode_of};
+
+use pp_parse_bodies::bodies::{on_after_body, on_contracted_dot, on_have_contracted, on_want_body};
+use pp_parse_bodies::posts::{
+    on_after_claim, on_after_ensuring, on_lambda_closed, on_lambda_name, on_lambda_round,
+    on_lambda_round_name, on_lambda_typed, on_want_lambda, on_want_lambda_or_semi,
+};
+use pp_parse_bodies::statements::{
+    on_after_decreases, on_after_last, on_after_require, on_after_stat, on_after_tuple,
+    on_assert_word, on_measure_open, on_val_name, on_val_word, on_want_stat,
+};
+use pp_parse_exprs::infix::{on_dot, on_have, on_have_negative, on_negative_dot};
+use pp_parse_exprs::matches::{
+    on_have_matched, on_match_word, on_matched_dot, on_want_case, on_want_else,
+};
+use pp_parse_exprs::names::{on_args_open, on_int, on_int_dot, on_name, on_name_types};
+use pp_parse_exprs::operands::{on_if, on_minus, on_want, on_want_then};
+use pp_parse_patterns::patterns::{
+    on_have_pattern, on_pattern_args_open, on_pattern_minus, on_pattern_name, on_want_pattern,
+};
+use pp_parse_state::{Current, Mode, Move, Stack, Stop};
+use pp_parse_types::headers::{
+    on_after_params, on_after_type_param, on_after_type_params, on_head_name, on_object_name,
+    on_param_name, on_params_open, on_want_name, on_want_object_name, on_want_param,
+    on_want_type_param,
+};
+use pp_parse_types::types::{on_have_type, on_type_name, on_want_type};
+
+/// What the token does within a declaration. Where there is no memory, the frames may be any.
+pub fn on_mode<'a>(
+    cx: &Current<'a, '_>,
+    stack: &mut Stack<'a>,
+    mode: Mode<'a>,
+) -> Result<Move<'a>, Stop<'a>>
+    requires { IsSpan cx.now.text.now cx.now.token }
+    ensures { Moves result (frames stack.new) (on_mode cx.now.text.now cx.now.token (frames stack.old)
+        (mode_of mode.entry) cx.now.token.kind) }
+{
+    match mode {
+        Mode::Want => on_want(cx, stack),
+        Mode::Have(tree, holed) => on_have(cx, stack, tree, holed),
+        Mode::AfterName(at, name) => on_name(cx, stack, at, name),
+        Mode::AfterNameTypes(at, name, types) => on_name_types(cx, stack, at, name, types),
+        Mode::ArgsOpen(at, name, types) => on_args_open(cx, stack, at, name, types),
+        Mode::AfterInt(at) => on_int(cx, at),
+        Mode::AfterIntDot(at) => on_int_dot(cx, at),
+        Mode::AfterMinus(at, end) => on_minus(cx, stack, at, end),
+        Mode::HaveNegative(tree) => on_have_negative(cx, stack, tree),
+        Mode::AfterNegativeDot(tree) => on_negative_dot(cx, tree),
+        Mode::AfterDot(tree, holed) => on_dot(cx, stack, tree, holed),
+        Mode::AfterIf(at) => on_if(cx, stack, at),
+        Mode::WantThen => on_want_then(cx, stack),
+        Mode::WantElse(tree) => on_want_else(cx, stack, tree),
+        Mode::AfterMatch(at, tree) => on_match_word(cx, stack, at, tree),
+        Mode::WantCase => on_want_case(cx),
+        Mode::HaveMatched(tree) => on_have_matched(cx, stack, tree),
+        Mode::AfterMatchedDot(tree) => on_matched_dot(cx, stack, tree),
+        Mode::WantPattern => on_want_pattern(cx, stack),
+        Mode::AfterPatternName(at, name) => on_pattern_name(cx, stack, at, name),
+        Mode::AfterPatternMinus(at, end) => on_pattern_minus(cx, at, end),
+        Mode::PatternArgsOpen(at, name) => on_pattern_args_open(cx, stack, at, name),
+        Mode::HavePattern(pattern) => on_have_pattern(cx, stack, pattern),
+        Mode::WantType => on_want_type(cx, stack),
+        Mode::AfterTypeName(at, name) => on_type_name(cx, stack, at, name),
+        Mode::HaveType(of) => on_have_type(cx, stack, of),
+        Mode::WantStat => on_want_stat(cx, stack),
+        Mode::AfterStat => on_after_stat(cx),
+        Mode::AfterLast(tree) => on_after_last(cx, stack, tree),
+        Mode::AfterValWord(at) => on_val_word(cx, at),
+        Mode::AfterValName(at, name) => on_val_name(cx, stack, at, name),
+        Mode::AfterAssertWord(at) => on_assert_word(cx, stack, at),
+        Mode::AfterRequire => on_after_require(cx, stack),
+        Mode::AfterDecreases(at) => on_after_decreases(cx, stack, at),
+        Mode::MeasureOpen => on_measure_open(cx, stack),
+        Mode::AfterTuple(components) => on_after_tuple(cx, stack, components),
+        Mode::WantBody => on_want_body(cx, stack),
+        Mode::HaveContracted(tree) => on_have_contracted(cx, stack, tree),
+        Mode::AfterContractedDot(tree) => on_contracted_dot(cx, stack, tree),
+        Mode::AfterEnsuring(at, tree) => on_after_ensuring(cx, stack, at, tree),
+        Mode::WantLambdaOrSemi => on_want_lambda_or_semi(cx, stack),
+        Mode::WantLambda => on_want_lambda(cx, stack),
+        Mode::AfterLambdaName(at, name) => on_lambda_name(cx, stack, at, name),
+        Mode::AfterLambdaRound => on_lambda_round(cx, stack),
+        Mode::AfterLambdaRoundName(at, name) => on_lambda_round_name(cx, stack, at, name),
+        Mode::AfterLambdaClosed(at, name) => on_lambda_closed(cx, stack, at, name),
+        Mode::AfterLambdaTyped(name, of) => on_lambda_typed(cx, stack, name, of),
+        Mode::AfterClaim(name, of, claim) => on_after_claim(cx, stack, name, of, claim),
+        Mode::AfterBody(tree, post) => on_after_body(cx, stack, tree, post),
+        Mode::WantName(kind) => on_want_name(cx, stack, kind),
+        Mode::AfterHeadName => on_head_name(cx, stack),
+        Mode::WantTypeParam => on_want_type_param(cx, stack),
+        Mode::AfterTypeParam => on_after_type_param(cx),
+        Mode::AfterTypeParams => on_after_type_params(cx, stack),
+        Mode::ParamsOpen => on_params_open(cx, stack),
+        Mode::WantParam => on_want_param(cx),
+        Mode::AfterParamName(at, name) => on_param_name(cx, stack, at, name),
+        Mode::AfterParams => on_after_params(cx, stack),
+        Mode::WantObjectName => on_want_object_name(cx),
+        Mode::AfterObjectName(at, name) => on_object_name(cx, stack, at, name),
+    }
+}

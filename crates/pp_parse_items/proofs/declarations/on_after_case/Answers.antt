@@ -1,0 +1,5 @@
+use Rattle.std.proofs.Common.{arith}
+use Rattle.pp_parse_items.proofs.declarations.on_after_case.Goals as goal
+
+pub returns-in_default : goal.returns-in_default
+returns-in_default c = λ d. let h = c.on_modifiers.ensures d in grind arith

@@ -1,0 +1,10 @@
+pub mod Values
+pub mod Nodes
+pub mod Differing
+pub mod Sizes
+pub mod Pairs
+pub mod Marks
+pub mod Marking
+pub mod Steps
+pub mod Tasks
+pub mod Loading

@@ -1,6 +1,0 @@
-use Rattle.std.proofs.Common.{◌≤◌}
-use Rattle.pp_symbolic_cases.specs.Round.{CanAsk}
-use Rattle.pp_symbolic_cases.proofs.rounds.comparing.compare.Given as goal
-
-abbrev pub invariant-loop-list : goal.invariant-loop-list
-invariant-loop-list l = CanAsk l.program.types l.circuit × (l.failing ≤ l.list-index)
