@@ -1,13 +1,15 @@
 -- The numbers that lists of literals stand for, also of lists that are put together and of parts of lists.
 use Rattle.std.proofs.Common.{◌≡◌, ℕ, zero, suc, ◌+◌, ◌-◌, ◌*◌, ◌/◌, ◌%◌, ◌^◌, ◌<◌, ◌≤◌, Bool, true, false, not, List}
 use Rattle.std.proofs.Common.{[], ◌∷◌, ◌++◌, length, take, drop, replicate, get_or, refl, sym, ap, ◌∙◌, subst, arith}
-use Rattle.std.proofs.Common.{add-one}
+use Rattle.std.proofs.Common.{add-one, Option, unwrap_or}
 use Rattle.std.proofs.Math.Nat.{pow-succ', mod-eq_of_lt, add-mul-mod_self_left}
 use Rattle.std.proofs.lemmas.Nat.{div-mul-add}
+use Rattle.std.proofs.lemmas.Option.{unwrap_or-slice_get}
 use Rattle.std.proofs.lemmas.List.{take_more, take_all, take-append-drop, length-take-le, length-drop}
 use Rattle.pp_clause.specs.Literal.{Literal, opposite, lit_value}
 use Rattle.pp_clause.proofs.Truth as truth
 use Rattle.pp_bits.specs.Number.{bit, lit_bit, nat_of}
+use Rattle.pp_bits.specs.Repeated.{IsRepeatedAt}
 
 pub nat_of_nil : (s : ℕ → Bool) → nat_of s [] ≡ 0
 unfolding nat_of
@@ -85,6 +87,38 @@ tail_is xs = take_all (length xs - 1) (drop 1 xs) (rw length-drop (omega arith))
 
 pub nat_of_first : (s : ℕ → Bool) (xs : List Literal) (i : ℕ) → i ≤ length xs → nat_of s (take i xs) < 2 ^ i
 nat_of_first s xs i h = nat_of_within s (take i xs) i (length-take-le i xs h)
+
+-- a repeated literal is read at the place before it too
+get_or_repeated : (xs : List Literal) (i : ℕ) (d : Literal) → IsRepeatedAt xs i → get_or xs i d ≡ get_or xs (i - 1) d
+get_or_repeated xs i d r =
+    sym (unwrap_or-slice_get xs i d) ∙ ap (λ (o : Option Literal). unwrap_or o d) r.same
+    ∙ unwrap_or-slice_get xs (i - 1) d
+
+-- a number, and the same number with its highest digit, which stands at weight p, once more above it
+pub record TopRepeated (p first next : ℕ) : Type 0 where
+  pub lower : ℕ
+  pub top : Bool
+  pub below : lower < p
+  pub once : first ≡ lower + p * bit top
+  pub twice : next ≡ first + 2 * p * bit top
+
+-- the numbers of the first i digits and of the first i + 1, where the digit at place i is a repeated one
+pub nat_of_repeated : (s : ℕ → Bool) (xs : List Literal) (i : ℕ) → i < length xs → IsRepeatedAt xs i
+    → TopRepeated (2 ^ (i - 1)) (nat_of s (take i xs)) (nat_of s (take (i + 1) xs))
+nat_of_repeated s [] i h r = absurd (omega arith)
+nat_of_repeated s (x ∷ xs) i h r =
+    let all = x ∷ xs in
+    let top = get_or all i x in
+    let after : i - 1 + 1 ≡ i = omega (arith, r.after) in
+    record {
+      lower = nat_of s (take (i - 1) all);
+      top = lit_value s top;
+      below = nat_of_first s all (i - 1) (omega arith);
+      once = ap (λ (k : ℕ). nat_of s (take k all)) (sym after)
+          ∙ nat_of_next s all (i - 1) top x (omega arith) (get_or_repeated all i x r);
+      twice = nat_of_next s all i top x h refl
+          ∙ ap (λ (p : ℕ). nat_of s (take i all) + p * lit_bit s top) (power_halves i r.after);
+    }
 
 -- m is the remainder of v by p, if it is below p and differs from v by a multiple of p
 pub remainder_is : (p m k v : ℕ) → m < p → m + p * k ≡ v → m ≡ v % p

@@ -5,6 +5,7 @@ use Rattle.std.specs.Int.RustNames.{int_lt}
 use Rattle.std.proofs.lemmas.Bool.Decides.{nat_tests}
 use Rattle.pp_gate.specs.Gate.{xor_of, majority_of}
 use Rattle.pp_bits.specs.Number.{bit, signed_of}
+use Rattle.pp_bits.proofs.Numbers.{TopRepeated}
 use Rattle.pp_bits.proofs.Signs.{signed_of-low, signed_of-high}
 
 -- the digits x and y stand at weight p
@@ -15,6 +16,15 @@ equal_turn p a b left right x y lower ha hb el er e = rw (el, er, e) (grind (ari
 pub less_turn : (p a b left right : ℕ) (x y lower : Bool) → a < p → b < p → left ≡ a + p * bit x
     → right ≡ b + p * bit y → lower ≡ nat_lt a b → majority_of (not x) y lower ≡ nat_lt left right
 less_turn p a b left right x y lower ha hb el er e = rw (el, er, e) (grind (arith, nat_tests))
+
+-- the highest digit of each once more changes no comparison
+pub equal_repeated : (p a b left right : ℕ) → TopRepeated p a left → TopRepeated p b right
+    → (a == b) ≡ (left == right)
+equal_repeated p a b left right r t = grind (arith, nat_tests)
+
+pub less_repeated : (p a b left right : ℕ) → TopRepeated p a left → TopRepeated p b right
+    → nat_lt a b ≡ nat_lt left right
+less_repeated p a b left right r t = grind (arith, nat_tests)
 
 test_swapped : (a b c d : ℕ) → a + c ≡ b + d → nat_lt a b ≡ nat_lt d c
 test_swapped a b c d e = grind (arith, nat_tests)

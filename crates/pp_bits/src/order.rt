@@ -1,13 +1,14 @@
 //! Comparisons.
 
 ghost use Rattle.std.specs.Prelude.{◌≡◌, ℕ, Bool, ◌+◌, ◌-◌, ◌*◌, ◌^◌, ◌<◌, ◌≤◌, ◌==◌, ◌&&◌, not, if◌then◌else◌, nat_lt};
-ghost use Rattle.std.specs.Prelude.{All, length, IfOk};
+ghost use Rattle.std.specs.Prelude.{All, length, IfOk, IsTrue, ◌↔◌};
 ghost use Rattle.std.specs.Int.RustNames.{int_lt};
 ghost use Rattle.pp_clause.specs.Literal.{lit_value};
 ghost use Rattle.pp_gate.specs.Circuit.{IsOf, StandsFor};
 ghost use Rattle.pp_gate.specs.Gate.{xor_of, majority_of};
 ghost use Rattle.pp_gate.specs.Growth.{AddsGates};
 ghost use Rattle.pp_bits.specs.Number.{nat_of, signed_of};
+ghost use Rattle.pp_bits.specs.Repeated.{IsRepeatedAt};
 
 use crate::NoMemory;
 use pp_clause::Lit;
@@ -28,7 +29,16 @@ fn equal_so_far(circuit: &mut Circuit, both: Lit, a: Lit, b: Lit) -> Result<Lit,
     Ok(equal)
 }
 
-/// Whether the two are equal.
+/// Whether the pair of digits at place `i` is the pair before it.
+fn is_repeated(a: &[Lit], b: &[Lit], i: usize) -> bool
+    requires left { i < length a.now }
+    requires right { i < length b.now }
+    ensures { IsTrue result ↔ (IsRepeatedAt a.now i × IsRepeatedAt b.now i) }
+{
+    0 < i && a[i] == a[i - 1] && b[i] == b[i - 1]
+}
+
+/// Whether the two are equal. A pair of digits that is the pair before it adds no gate.
 pub fn equal(circuit: &mut Circuit, a: &[Lit], b: &[Lit]) -> Result<Lit, NoMemory>
     requires same { length a.now ≡ length b.now }
     requires left { All (IsOf circuit.old) a.now }
@@ -39,7 +49,9 @@ pub fn equal(circuit: &mut Circuit, a: &[Lit], b: &[Lit]) -> Result<Lit, NoMemor
 {
     let mut equal = circuit.truth();
     for i in 0..a.len() {
-        equal = equal_so_far(circuit, equal, a[i], b[i])?;
+        if !is_repeated(a, b, i) {
+            equal = equal_so_far(circuit, equal, a[i], b[i])?;
+        }
     }
     Ok(equal)
 }
@@ -58,7 +70,7 @@ fn less_so_far(circuit: &mut Circuit, lower: Lit, a: Lit, b: Lit) -> Result<Lit,
     Ok(less)
 }
 
-/// Whether `a` is less than `b`, as natural numbers.
+/// Whether `a` is less than `b`, as natural numbers. A pair of digits that is the pair before it adds no gate.
 pub fn less(circuit: &mut Circuit, a: &[Lit], b: &[Lit]) -> Result<Lit, NoMemory>
     requires same { length a.now ≡ length b.now }
     requires left { All (IsOf circuit.old) a.now }
@@ -69,7 +81,9 @@ pub fn less(circuit: &mut Circuit, a: &[Lit], b: &[Lit]) -> Result<Lit, NoMemory
 {
     let mut less = circuit.truth().negated();
     for i in 0..a.len() {
-        less = less_so_far(circuit, less, a[i], b[i])?;
+        if !is_repeated(a, b, i) {
+            less = less_so_far(circuit, less, a[i], b[i])?;
+        }
     }
     Ok(less)
 }

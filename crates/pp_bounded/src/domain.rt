@@ -26,6 +26,8 @@ impl Domain for Bounded {
         })
     }
 
+    fn limit_to(&mut self, _values: u64) {}
+
     fn ok(&self) -> Lit {
         self.trees.ok
     }

@@ -91,7 +91,7 @@ module _ (types : TypeTable) (d e f : Trees) (gs hs is : List Gate) (k : ℕ) (a
       → lit_value a f.ok ≡ true → IsCtorTest bounded_sense types d gs e hs t c l → lit_value a l ≡ true
       → HasField types c place s → IsFieldRead bounded_sense types e hs f is t c place s r → IsReadable types f a r
   field_readable moves kept gives ok test holds field answer =
-      let admitted = bounded_laws.names types [] (omega arith) in
+      let admitted = bounded_laws.names types f is moves.fits [] (omega arith) in
       let n = admitted.naming in
       let good : Good bounded_sense types f is n a =
       record { gates = gives; ok = ok; matches = tt; admitted = admitted.admitted } in

@@ -154,7 +154,7 @@ module _ (types : TypeTable) (d e : Trees) (gs hs : List Gate) (k : ℕ) (choice
 pub kept_readable : (types : TypeTable) (d : Trees) (gs : List Gate) (a : ℕ → Bool) (t : BoundedTree)
     → CanRead types d gs a t → lit_value a d.ok ≡ true → IsReadable types d a (symbol.Tree t)
 kept_readable types d gs a t can ok =
-    let admitted = bounded_laws.names types [] (omega arith) in
+    let admitted = bounded_laws.names types d gs can.fits [] (omega arith) in
     let own = can.kept.stands admitted.naming a (record {
       gates = can.gives;
       ok = ok;

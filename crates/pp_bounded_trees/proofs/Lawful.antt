@@ -28,7 +28,7 @@ bounded_fresh types d gs is of ok none = record {
   };
   empty = λ t node. no_tree t.number node.node (subst (λ xs. slice_get xs t.number ≡ Some node.node) none node.at);
   ok = ok;
-  matches = λ a n. tt;
+  matches = λ a n reaches. tt;
   looks = refl;
   compares = refl;
 }

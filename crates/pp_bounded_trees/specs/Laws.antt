@@ -83,9 +83,10 @@ bounded_laws = record {
   decided = λ exact d n k a t v is. is;
   single = λ types d gs n a t v w fits good node one other. some_same v w (sym one ∙ other);
   naming = λ types n is. is;
-  names = λ types vs few. record {
+  names = λ types d gs fits vs few. record {
     naming = numbering types vs;
     admitted = numbering_is types vs few;
+    reaches = tt;
     names = numbering_names types vs;
   };
 }

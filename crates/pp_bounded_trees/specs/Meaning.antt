@@ -1,5 +1,5 @@
 -- What the domain of bounded trees means. (own)
-use Rattle.std.specs.Prelude.{◌≡◌, true, List, [], length, Some}
+use Rattle.std.specs.Prelude.{◌≡◌, ◌^◌, true, List, [], length, Some}
 use Rattle.pp_prog.specs.declared.types.TypeTable.{TypeTable}
 use Rattle.pp_gate.specs.declared.gate.Gate.{Gate}
 use Rattle.pp_gate.specs.Circuit.{IsCircuit, IsOf}
@@ -27,6 +27,8 @@ bounded_sense = record {
   looks = λ d. [];
   compares = λ d. 0;
   ok = λ d. d.ok;
+  limit = λ d. 2 ^ 30;
+  Reaches = λ d n. Unit {0};
   Admits = IsNaming;
   Matches = λ d a n. Unit {0};
   Stands = λ d a n t v. value_at (values_of a d.nodes) t.number ≡ Some v;

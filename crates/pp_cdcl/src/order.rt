@@ -1,9 +1,14 @@
 //! In which order variables are decided. The solver's answers are right in any order; this one is a guess at a good
-//! one: the variables that the last conflicts met come first, each with the sign that it had last. Of the heap only
-//! that its places are in range is proved.
+//! one: the variables that the last conflicts met come first, each with the sign that it had last. Of equally active
+//! ones, which most are that no conflict met, the one with the lowest number comes first: a gate has a greater number
+//! than its parts, so most gates follow from what is decided, and few variables are decided that have nothing to do
+//! with the next conflict. Some searches get lost there: their lemmas each rule out little more than one assignment of
+//! the variables that were met first. So from time to time all activities are forgotten, and the order of equals is
+//! turned round. Of the heap only that its places are in range is proved.
 ghost use Rattle.std.specs.Prelude.{ℕ, ◌≡◌, ◌<◌, length, All, IfOk, OnOk};
 
 use crate::NoMemory;
+use crate::restart::RESTART;
 use pp_clause::Lit;
 use pp_trail::Step;
 use std::alloc::Global;
@@ -12,13 +17,17 @@ use std::marker::Model;
 /// What a variable gains when a conflict meets it, at the start.
 const FIRST_GAIN: u64 = 1 << 20;
 
+/// After how many conflicts all activities are forgotten at first. Each time this takes as many more. It is always at a
+/// restart, since the decisions that stayed would lead the search back to where it was lost.
+const PATIENCE: u64 = 30 * RESTART as u64;
+
 /// Above this all activities are made smaller, each by the same shift.
 const GREATEST_ACTIVITY: u64 = 1 << 60;
 
 /// By how many bits they are made smaller then.
 const SHIFT: u32 = 40;
 
-/// Variables with the most active one on top, and the sign that each had last.
+/// Variables with the one on top that is decided next, and the sign that each had last.
 #[derive(Drop)]
 pub struct Order {
     // by variable
@@ -27,9 +36,15 @@ pub struct Order {
     preferred: Vec<Lit>,
     // by variable: its place in the heap
     places: Vec<Option<usize>>,
-    // no variable is less active than those at places 2 i + 1 and 2 i + 2 below its place i
+    // no variable comes after those at places 2 i + 1 and 2 i + 2 below its place i
     heap: Vec<usize>,
     gain: u64,
+    // whether the highest number comes first of equals, and not the lowest
+    turned: bool,
+    // after how many conflicts activities are forgotten
+    patience: u64,
+    // how many of these are left
+    left: u64,
 }
 
 impl Model for Order {
@@ -44,7 +59,7 @@ impl Model for Order {
 }
 
 impl Order {
-    /// All variables up to this one, each at first false.
+    /// All variables up to this one, each at first false, those with lower numbers first.
     pub fn new(alloc: Global, vars: u32) -> Result<Order, NoMemory> {
         let count = vars as usize + 1;
         let activity = vec![in alloc; 0; count]?;
@@ -62,6 +77,9 @@ impl Order {
             places,
             heap,
             gain: FIRST_GAIN,
+            turned: false,
+            patience: PATIENCE,
+            left: PATIENCE,
         };
         for var in 1..count {
             order.queue(var)?;
@@ -74,7 +92,7 @@ impl Order {
         self.heap.len()
     }
 
-    /// Takes the most active variable out, as the literal that is to be decided.
+    /// Takes the first variable out, as the literal that is to be decided.
     pub fn pop(&mut self) -> Option<Lit> {
         let last = self.heap.pop()?;
         self.places[last] = None;
@@ -85,7 +103,12 @@ impl Order {
         self.places[top] = None;
         self.heap[0] = last;
         self.places[last] = Some(0);
-        sift_down(&mut self.heap, &mut self.places, &self.activity);
+        sift_down(
+            &mut self.heap,
+            &mut self.places,
+            &self.activity,
+            self.turned,
+        );
         Some(self.preferred[top])
     }
 
@@ -113,6 +136,10 @@ impl Order {
             self.bump(*var);
         }
         self.gain = self.gain.saturating_add(self.gain / 16);
+        self.left = self.left.saturating_sub(1);
+        if self.left == 0 {
+            self.turn();
+        }
     }
 
     /// Makes a variable more active.
@@ -122,7 +149,13 @@ impl Order {
             let raised = self.activity[var].saturating_add(self.gain);
             self.activity[var] = raised;
             if let Some(place) = self.places[var] {
-                sift_up(&mut self.heap, &mut self.places, &self.activity, place);
+                sift_up(
+                    &mut self.heap,
+                    &mut self.places,
+                    &self.activity,
+                    self.turned,
+                    place,
+                );
             }
             if raised > GREATEST_ACTIVITY {
                 self.shrink();
@@ -136,6 +169,32 @@ impl Order {
             *activity >>= SHIFT;
         }
         self.gain = (self.gain >> SHIFT).max(1);
+        self.restore();
+    }
+
+    /// Forgets all activities, and turns the order of equals round.
+    fn turn(&mut self) {
+        for activity in self.activity.iter_mut() {
+            *activity = 0;
+        }
+        self.gain = FIRST_GAIN;
+        self.turned = !self.turned;
+        self.patience = self.patience.saturating_add(PATIENCE);
+        self.left = self.patience;
+        self.restore();
+    }
+
+    /// Puts the heap in order again.
+    fn restore(&mut self) {
+        for place in 0..self.heap.len() {
+            sift_up(
+                &mut self.heap,
+                &mut self.places,
+                &self.activity,
+                self.turned,
+                place,
+            );
+        }
     }
 
     /// Puts the variable into the heap, where it isn't there.
@@ -147,14 +206,41 @@ impl Order {
             let place = self.heap.len();
             self.heap.push(var)?;
             self.places[var] = Some(place);
-            sift_up(&mut self.heap, &mut self.places, &self.activity, place);
+            sift_up(
+                &mut self.heap,
+                &mut self.places,
+                &self.activity,
+                self.turned,
+                place,
+            );
         }
         Ok(())
     }
 }
 
-/// Moves the variable at this place up, as long as it is more active than the one above it.
-fn sift_up(heap: &mut [usize], places: &mut [Option<usize>], activity: &[u64], place: usize)
+/// Whether the one variable comes before the other: the more active one, and of equals the one with the lower number,
+/// or with the higher one where the order of equals is turned round.
+fn is_before(activity: &[u64], turned: bool, one: usize, other: usize) -> bool
+    requires one { one < length activity.now }
+    requires other { other < length activity.now }
+{
+    let mine = activity[one];
+    let its = activity[other];
+    if mine == its {
+        (one < other) != turned
+    } else {
+        its < mine
+    }
+}
+
+/// Moves the variable at this place up, as long as it comes before the one above it.
+fn sift_up(
+    heap: &mut [usize],
+    places: &mut [Option<usize>],
+    activity: &[u64],
+    turned: bool,
+    place: usize,
+)
     requires places { length places.old ≡ length activity.now }
     requires heap { All (λ x. x < length activity.now) heap.old }
     ensures { All (λ x. x < length activity.now) heap.new }
@@ -162,7 +248,7 @@ fn sift_up(heap: &mut [usize], places: &mut [Option<usize>], activity: &[u64], p
     let mut at = place;
     while 0 < at && at < heap.len() {
         let above = (at - 1) / 2;
-        if activity[heap[at]] <= activity[heap[above]] {
+        if !is_before(activity, turned, heap[at], heap[above]) {
             return;
         }
         exchange(heap, places, at, above);
@@ -170,8 +256,8 @@ fn sift_up(heap: &mut [usize], places: &mut [Option<usize>], activity: &[u64], p
     }
 }
 
-/// Moves the variable on top down, as long as it is less active than one below it.
-fn sift_down(heap: &mut [usize], places: &mut [Option<usize>], activity: &[u64])
+/// Moves the variable on top down, as long as one below it comes before it.
+fn sift_down(heap: &mut [usize], places: &mut [Option<usize>], activity: &[u64], turned: bool)
     requires places { length places.old ≡ length activity.now }
     requires heap { All (λ x. x < length activity.now) heap.old }
     ensures { All (λ x. x < length activity.now) heap.new }
@@ -179,10 +265,10 @@ fn sift_down(heap: &mut [usize], places: &mut [Option<usize>], activity: &[u64])
     let mut at = 0;
     while at < heap.len() / 2 {
         let mut below = 2 * at + 1;
-        if below + 1 < heap.len() && activity[heap[below]] < activity[heap[below + 1]] {
+        if below + 1 < heap.len() && is_before(activity, turned, heap[below + 1], heap[below]) {
             below += 1;
         }
-        if activity[heap[below]] <= activity[heap[at]] {
+        if !is_before(activity, turned, heap[below], heap[at]) {
             return;
         }
         exchange(heap, places, at, below);

@@ -6,7 +6,7 @@ use crate::decisions::next_decision;
 use pp_trail::Step;
 
 /// After how many lemmas the trail is taken back to its assumptions.
-const RESTART: usize = 100;
+pub const RESTART: usize = 40;
 
 /// How many steps stay once a lemma is learnt, whose other literals were false at length `back`: those before the next
 /// decision. Where the number of lemmas says that it is time for a restart, those before the first decision after the

@@ -4,3 +4,4 @@ pub mod Numbering
 pub mod AnySort
 pub mod PlainSymbols
 pub mod UnknownSymbols
+pub mod ShortWords

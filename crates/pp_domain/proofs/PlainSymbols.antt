@@ -1,5 +1,5 @@
 -- Numbers and truth values of inputs, blank ones, and those that are blank where a literal is false.
-use Rattle.std.proofs.Common.{◌≡◌, ℕ, ◌+◌, ◌<◌, ◌^◌, ◌%◌, Bool, true, false, ◌&&◌, if◌then◌else◌, List, All}
+use Rattle.std.proofs.Common.{◌≡◌, ℕ, ◌+◌, ◌^◌, ◌%◌, Bool, true, false, ◌&&◌, if◌then◌else◌, List, All}
 use Rattle.std.proofs.Common.{length, refl, sym, ap, ◌∙◌, subst, arith}
 use Rattle.std.specs.Prelude.{ℤ}
 use Rattle.std.proofs.lemmas.Int.{to_z-of_z}
@@ -33,7 +33,7 @@ use Rattle.pp_wordgate.specs.Meaning.{ChosenWord, word_of}
 use Rattle.pp_domain.specs.declared.symbol.Symbol.{Symbol}
 use Rattle.pp_domain.specs.declared.symbol.Symbol.TheVariants as symbol
 use Rattle.pp_domain.specs.AnySort.{IsUpTo}
-use Rattle.pp_domain.specs.Plain.{IsMaskedPlain, IsMaskedWord, IsPlain, IsPlainValue, IsUnknownPlain}
+use Rattle.pp_domain.specs.Plain.{IsAnyWord, IsMaskedPlain, IsMaskedWord, IsPlain, IsPlainValue, IsUnknownPlain}
 use Rattle.pp_domain.specs.Plain.{PlainStands}
 
 -- ---- words
@@ -43,13 +43,13 @@ pub word_is_int : (a : ℕ → Bool) (w : List Literal) → length w ≡ 32 → 
 unfolding word_of
 word_is_int a w len = int_from _ (IsWord-cast_signed w32 (nat_of a w) (nat_of_within a w 32 len))
 
-masked_is : (gs fs hs : List Gate) (lit : Literal) (digits blank ls word : List Literal) → Grows gs fs 32
-    → IsOf gs lit → AreInputs gs fs 32 digits
-    → ((s : ℕ → Bool) → Gives s gs → (v : ℕ) → v < 2 ^ 32 → ChosenNumber gs fs s digits v)
+masked_is : (gs fs hs : List Gate) (P : ℕ → Type 0) (lit : Literal) (digits blank ls word : List Literal)
+    → Grows gs fs 32 → IsOf gs lit → All (IsOf fs) digits
+    → ((s : ℕ → Bool) → Gives s gs → (v : ℕ) → P v → ChosenNumber gs fs s digits v)
     → StandsForNumber fs 32 blank (λ s. 0 % 2 ^ 32) → AddsGates fs hs 32
     → StandsForNumber hs 32 ls (λ s. if lit_value s lit then nat_of s digits else nat_of s blank) → word ≡ ls
-    → IsMaskedWord gs hs lit word
-masked_is gs fs hs lit digits blank ls word grows of inputs chosen zero adds stands same = record {
+    → IsMaskedWord gs hs P lit word
+masked_is gs fs hs P lit digits blank ls word grows of inputs chosen zero adds stands same = record {
   len = ap length same ∙ stands.len;
   of = subst (λ l. All (IsOf hs) l) (sym same) stands.of;
   blank = λ a gives off.
@@ -69,21 +69,21 @@ masked_is gs fs hs lit digits blank ls word grows of inputs chosen zero adds sta
             sym (lit_agree (length gs) a more.assignment lit of along) ∙ on in
             ap (nat_of more.assignment) same ∙ stands.value more.assignment more.gives
             ∙ ap (λ (b : Bool). if b then nat_of more.assignment digits else nat_of more.assignment blank) still
-            ∙ sym (nat_of_agree fs pick.assignment more.assignment digits inputs.of more.keeps) ∙ pick.number;
+            ∙ sym (nat_of_agree fs pick.assignment more.assignment digits inputs more.keeps) ∙ pick.number;
       };
 }
 
 -- as the call reads the lists
-pub masked_read : (gs fs hs : List Gate) (lit : Literal) (digits blank la lb ls word : List Literal) → Grows gs fs 32
-    → IsOf gs lit → AreInputs gs fs 32 digits
-    → ((s : ℕ → Bool) → Gives s gs → (v : ℕ) → v < 2 ^ 32 → ChosenNumber gs fs s digits v)
+pub masked_read : (gs fs hs : List Gate) (P : ℕ → Type 0) (lit : Literal) (digits blank la lb ls word : List Literal)
+    → Grows gs fs 32 → IsOf gs lit → length digits ≡ 32 → All (IsOf fs) digits
+    → ((s : ℕ → Bool) → Gives s gs → (v : ℕ) → P v → ChosenNumber gs fs s digits v)
     → StandsForNumber fs 32 blank (λ s. 0 % 2 ^ 32) → la ≡ digits → lb ≡ blank → AddsGates fs hs (length la)
     → StandsForNumber hs (length la) ls (λ s. if lit_value s lit then nat_of s la else nat_of s lb) → word ≡ ls
-    → IsMaskedWord gs hs lit word
-masked_read gs fs hs lit digits blank la lb ls word grows of inputs chosen zero one other adds stands same =
-    masked_is gs fs hs lit digits blank ls word grows of inputs chosen zero
-    (subst (λ n. AddsGates fs hs n) (ap length one ∙ inputs.len) adds) (record {
-      len = stands.len ∙ ap length one ∙ inputs.len;
+    → IsMaskedWord gs hs P lit word
+masked_read gs fs hs P lit digits blank la lb ls word grows of len inputs chosen zero one other adds stands same =
+    masked_is gs fs hs P lit digits blank ls word grows of inputs chosen zero
+    (subst (λ n. AddsGates fs hs n) (ap length one ∙ len) adds) (record {
+      len = stands.len ∙ ap length one ∙ len;
       of = stands.of;
       value = λ s gives. stands.value s gives
           ∙ (λ i. if lit_value s lit then nat_of s (one i) else nat_of s (other i));
@@ -176,7 +176,7 @@ module _ {T : Type 0} where
         };
   }
 
-  pub word_masked : (gs hs : List Gate) (lit : Literal) (r : List Literal) → IsMaskedWord gs hs lit r
+  pub word_masked : (gs hs : List Gate) (lit : Literal) (r : List Literal) → IsMaskedWord gs hs IsAnyWord lit r
       → IsMaskedPlain {T = T} gs hs lit sort.Int (symbol.Word r)
   unfolding word_of
   word_masked gs hs lit r is = record {

@@ -1,6 +1,6 @@
 -- What each call of a domain answers: its tree or literal, its meaning for every good assignment, and that a good
 -- assignment extends over the call. In an exact domain the last asks nothing of the trees. (own)
-use Rattle.std.specs.Prelude.{◌≡◌, ◌↔◌, ◌≤◌, ◌+◌, ◌-◌, max, ℕ, Bool, true, if◌then◌else◌, List, [], map, Some}
+use Rattle.std.specs.Prelude.{◌≡◌, ◌↔◌, ◌≤◌, ◌+◌, ◌-◌, ◌^◌, max, ℕ, Bool, true, if◌then◌else◌, List, [], map, Some}
 use Rattle.std.specs.Prelude.{slice_get}
 use Rattle.pp_prog.specs.declared.id.CtorId.{CtorId}
 use Rattle.pp_prog.specs.declared.id.DataId.{DataId}
@@ -44,9 +44,14 @@ module _ {D T : Type 0} (m : Sense D T) (types : TypeTable) where
     pub fits : m.Fits types d gs
     pub empty : (t : T) → m.Node d t → ⊥
     pub ok : m.ok d ≡ record { var = 1; positive = true }
-    pub matches : (a : ℕ → Bool) (n : Naming) → m.Matches d a n
+    pub matches : (a : ℕ → Bool) (n : Naming) → m.Reaches d n → m.Matches d a n
     pub looks : m.looks d ≡ []
     pub compares : m.compares d ≡ 0
+
+  -- a domain as it is made: without trees, and with names for 2^30 values
+  pub record IsNew (d : D) (gs : List Gate) : Type 0 where
+    pub fresh : Fresh d gs
+    pub limit : m.limit d ≡ 2 ^ 30
 
   -- a good assignment of the new circuit that goes on from `a`, under which the tree stands for v
   abbrev pub Chosen : List Gate → Naming → (ℕ → Bool) → D → List Gate → T → Value → Type 0

@@ -1,5 +1,5 @@
 -- What holds of every domain, whatever is called. (own)
-use Rattle.std.specs.Prelude.{◌≡◌, ℕ, ◌<◌, ◌^◌, Bool, true, List, length}
+use Rattle.std.specs.Prelude.{◌≡◌, ℕ, ◌<◌, Bool, true, List, length}
 use Rattle.pp_prog.specs.declared.types.TypeTable.{TypeTable}
 use Rattle.pp_prog.specs.declared.value.Value.{Value}
 use Rattle.pp_gate.specs.declared.gate.Gate.{Gate}
@@ -10,10 +10,11 @@ use Rattle.pp_domain.specs.Naming.{Naming, IsNaming, NamesAll}
 use Rattle.pp_domain.specs.Sense.{Sense, Good}
 
 module _ {D T : Type 0} (m : Sense D T) where
-  -- an admitted naming that names the values of the list
-  pub record AdmittedFor (types : TypeTable) (vs : List Value) : Type 0 where
+  -- an admitted naming that names the values of the list by numbers that names can have
+  pub record AdmittedFor (types : TypeTable) (d : D) (vs : List Value) : Type 0 where
     pub naming : Naming
     pub admitted : m.Admits types naming
+    pub reaches : m.Reaches d naming
     pub names : NamesAll types naming vs
 
   pub record Lawful : Type 0 where
@@ -35,6 +36,7 @@ module _ {D T : Type 0} (m : Sense D T) where
     -- under a good assignment a tree stands for at most one value
     pub single : (types : TypeTable) (d : D) (gs : List Gate) (n : Naming) (a : ℕ → Bool) (t : T) (v w : Value)
         → m.Fits types d gs → Good m types d gs n a → m.Node d t → m.Stands d a n t v → m.Stands d a n t w → v ≡ w
-    -- what a domain admits is a naming, and for each list of fewer than 2^30 values there is one that names them
+    -- what a domain admits is a naming, and for each list of fewer values than its limit there is one that names them
     pub naming : (types : TypeTable) (n : Naming) → m.Admits types n → IsNaming types n
-    pub names : (types : TypeTable) (vs : List Value) → length vs < 2 ^ 30 → AdmittedFor types vs
+    pub names : (types : TypeTable) (d : D) (gs : List Gate) → m.Fits types d gs → (vs : List Value)
+        → length vs < m.limit d → AdmittedFor types d vs

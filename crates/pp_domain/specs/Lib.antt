@@ -8,3 +8,4 @@ pub mod Laws
 pub mod AnySort
 pub mod Numbering
 pub mod Plain
+pub mod Short

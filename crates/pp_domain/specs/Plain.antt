@@ -34,6 +34,10 @@ IsPlainValue sort.Int v = (z : ℤ) × (v ≡ value.Int z) × FitsSigned w32 z
 IsPlainValue sort.Bool v = (b : Bool) × (v ≡ value.Bool b)
 IsPlainValue (sort.Tree d) v = ⊥
 
+-- the numbers of all words
+abbrev pub IsAnyWord : ℕ → Type 0
+IsAnyWord v = v < 2 ^ 32
+
 -- under the assignment the symbol is 0 or false
 abbrev pub IsZero : {T : Type 0} → (ℕ → Bool) → Symbol T → Type 0
 IsZero a (symbol.Word w) = nat_of a w ≡ 0
@@ -68,12 +72,12 @@ pub record ChosenMaskedWord (gs hs : List Gate) (l : Literal) (a : ℕ → Bool)
   pub keeps : AgreeUpTo (length gs) a next
   pub is : lit_value a l ≡ true → nat_of next r ≡ v
 
--- the word is 0 where the literal is false, and can have each number where it is true
-pub record IsMaskedWord (gs hs : List Gate) (l : Literal) (r : List Literal) : Type 0 where
+-- the word is 0 where the literal is false, and can have each number of these where it is true
+pub record IsMaskedWord (gs hs : List Gate) (P : ℕ → Type 0) (l : Literal) (r : List Literal) : Type 0 where
   pub len : length r ≡ 32
   pub of : All (IsOf hs) r
   pub blank : (a : ℕ → Bool) → Gives a hs → lit_value a l ≡ false → nat_of a r ≡ 0
-  pub chosen : (a : ℕ → Bool) (v : ℕ) → Gives a gs → v < 2 ^ 32 → ChosenMaskedWord gs hs l a r v
+  pub chosen : (a : ℕ → Bool) (v : ℕ) → Gives a gs → P v → ChosenMaskedWord gs hs l a r v
 
 -- an assignment that goes on from `a`, under which the symbol stands for the value if the literal is true
 pub record ChosenMasked {T : Type 0} (gs hs : List Gate) (l : Literal) (a : ℕ → Bool) (x : Symbol T) (v : Value)

@@ -29,6 +29,10 @@ pub record Sense (D T : Type 0) : Type 1 where
   pub compares : D → ℕ
   -- true where all conditions hold that the domain has put on its inputs
   pub ok : D → Literal
+  -- how many values names can tell apart: each list of fewer has a naming that the domain's names reach
+  pub limit : D → ℕ
+  -- each number of the naming can be that of a name
+  pub Reaches : D → Naming → Type 0
   -- the naming is one of those that the domain works with
   pub Admits : TypeTable → Naming → Type 0
   -- the assignment fits the naming

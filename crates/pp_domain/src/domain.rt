@@ -1,13 +1,17 @@
 //! The trait.
 
-ghost use Rattle.std.specs.Prelude.{◌≡◌, ℕ, ◌+◌, ◌^◌, ◌≤◌, ◌<◌, Bool, true, false, length, IfOk, OnOk};
+ghost use Rattle.std.specs.Prelude.{◌≡◌, ℕ, ◌+◌, ◌^◌, ◌≤◌, ◌<◌, Bool, true, false, List, length};
+ghost use Rattle.std.specs.Prelude.{IfOk, OnOk};
 ghost use Rattle.pp_prog.specs.declared.sort.Sort.{Sort};
+ghost use Rattle.pp_prog.specs.declared.types.TypeTable.{TypeTable};
+ghost use Rattle.pp_gate.specs.declared.gate.Gate.{Gate};
 ghost use Rattle.pp_gate.specs.Circuit.{IsCircuit, IsOf};
 ghost use Rattle.pp_domain.specs.Sense.{Sense};
 ghost use Rattle.pp_domain.specs.Moves.{Moves, Steady, SameLooks, OneComparison};
 ghost use Rattle.pp_domain.specs.Allowance.{unknown_gates, construct_gates, look_at_gates, merge_gates, equal_gates};
 ghost use Rattle.pp_domain.specs.Allowance.{below_gates};
-ghost use Rattle.pp_domain.specs.Answers.{Fresh, IsUnknown, IsConstruct, IsCtorTest, IsFieldRead, IsMerge, IsEquality};
+ghost use Rattle.pp_domain.specs.Answers.{Fresh, IsNew, IsUnknown, IsConstruct, IsCtorTest, IsFieldRead, IsMerge};
+ghost use Rattle.pp_domain.specs.Answers.{IsEquality};
 ghost use Rattle.pp_domain.specs.Answers.{IsComparison, IsCtorOf, HasField, CanConstruct, AreOfOneData};
 ghost use Rattle.pp_domain.specs.Laws.{Lawful};
 
@@ -29,7 +33,16 @@ pub trait Domain {
     where
         Self: Sized,
         ensures same { circuit.new ≡ circuit.old }
-        ensures fresh { IfOk result (λ d. (types : _) → Fresh sense types d circuit.new) };
+        ensures new { IfOk result (λ d. (types : _) → IsNew sense types d circuit.new) };
+
+    /// Says of a domain without trees that fewer than so many values will have to be named, so that its names may be
+    /// shorter.
+    fn limit_to(&mut self, values: u64)
+        ensures fresh { (types : TypeTable) (gs : List Gate) → Fresh sense types self.old gs
+            → Fresh sense types self.new gs }
+        ensures moves { (types : TypeTable) (gs : List Gate) → Fresh sense types self.old gs
+            → Moves sense types self.old gs self.new gs 0 }
+        ensures limit { values ≤ sense.limit self.old → values ≤ sense.limit self.new };
 
     /// The literal that is true where all conditions hold that the domain has put on its inputs so far.
     fn ok(&self) -> Lit

@@ -10,7 +10,8 @@
 //! that aren't.
 //!
 //! `choose`, `equal` and `unknown` do for symbols of any sort what `merge`, `equal` and `unknown` do for trees;
-//! `unknown_plain`, `blank_plain` and `masked_plain` make symbols of the sorts that are no datatypes, for domains too.
+//! `unknown_plain`, `blank_plain` and `masked_plain` make symbols of the sorts that are no datatypes, for domains too,
+//! and `short_word` and `masked_short_word` names.
 //! `specs/Naming` says what namings are, `specs/Allowance` how many gates each call may add, `specs/Answers` what each
 //! call answers, and `specs/Laws` what holds of every domain. Of `proofs/` the layers above cite `Composition` (calls
 //! one after another, gates alone), `Symbols` (symbols over calls), `AnySort`, `UnknownSymbols`, `PlainSymbols` and
@@ -22,10 +23,12 @@ mod domain;
 pub mod laws;
 mod operations;
 mod plain;
+mod short;
 mod symbol;
 
 pub use domain::Domain;
 pub use operations::{choose, equal, unknown};
 pub use plain::{blank_plain, blank_word, masked_plain, masked_word, unknown_plain};
 pub use pp_clause::NoMemory;
+pub use short::{masked_short_word, short_word};
 pub use symbol::{Symbol, Symbols};

@@ -10,7 +10,8 @@ ghost use Rattle.pp_gate.specs.Circuit.{IsCircuit, IsOf};
 ghost use Rattle.pp_gate.specs.Growth.{Grows};
 ghost use Rattle.pp_bits.specs.Number.{StandsForNumber};
 ghost use Rattle.pp_prog.specs.Cone.{is_word};
-ghost use Rattle.pp_domain.specs.Plain.{IsBlankPlain, IsMaskedPlain, IsMaskedWord, IsUnknownPlain, plain_gates};
+ghost use Rattle.pp_domain.specs.Plain.{IsAnyWord, IsBlankPlain, IsMaskedPlain, IsMaskedWord, IsUnknownPlain};
+ghost use Rattle.pp_domain.specs.Plain.{plain_gates};
 
 use crate::symbol::Symbol;
 use pp_clause::{Lit, NoMemory};
@@ -33,7 +34,7 @@ pub fn masked_word(circuit: &mut Circuit, lit: Lit) -> Result<Word, NoMemory>
     requires room { length circuit.old + 64 ≤ 2 ^ 30 }
     ensures grows { Grows circuit.old circuit.new 64 }
     ensures circuit { IsCircuit circuit.new }
-    ensures masked { IfOk result (λ r. IsMaskedWord circuit.old circuit.new lit r) }
+    ensures masked { IfOk result (λ r. IsMaskedWord circuit.old circuit.new IsAnyWord lit r) }
 {
     let digits = pp_bits::inputs(circuit, 32)?;
     let blank = pp_bits::constant(circuit, 0, 32)?;

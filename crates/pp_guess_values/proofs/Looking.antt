@@ -10,12 +10,10 @@ use Rattle.pp_prog.specs.declared.expr.Pattern.TheOpen as pattern
 use Rattle.pp_prog.specs.declared.expr.Pattern.TheViews.{roll-Pattern}
 use Rattle.pp_prog.specs.declared.id.CheckId.{CheckId}
 use Rattle.pp_prog.specs.declared.id.CtorId.{CtorId}
-use Rattle.pp_prog.specs.declared.id.FunctionId.{FunctionId}
 use Rattle.pp_prog.specs.declared.expr.Pattern.{Pattern}
-use Rattle.std.proofs.Common.{Option}
 use Rattle.pp_steps.specs.declared.step.Step.{Step}
 use Rattle.pp_steps.specs.declared.step.Step.TheVariants as steps
-use Rattle.pp_steps.specs.Guesses.{asking, guess_steps}
+use Rattle.pp_steps.specs.Guesses.{guess_steps}
 use Rattle.pp_steps.specs.Patterns.{Matching, fit_fields, fitting, fitting_step}
 use Rattle.pp_build.specs.StepGates.{is_seen}
 use Rattle.pp_guess_steps.proofs.ClosedAlways.{IsSimple, guess_closed}

@@ -1,6 +1,6 @@
 -- Where a guess run fails the check, there are values with their sorts that say so, and a naming that a domain admits
 -- names them all.
-use Rattle.std.proofs.Common.{◌≡◌, ◌≤◌, ◌<◌, ℕ, ◌+◌, ◌*◌, ◌^◌, true, List, [], ◌∷◌, ◌++◌, map, All, Some, length}
+use Rattle.std.proofs.Common.{◌≡◌, ◌≤◌, ◌<◌, ℕ, ◌+◌, ◌*◌, true, List, [], ◌∷◌, ◌++◌, map, All, Some, length}
 use Rattle.std.proofs.Common.{slice_get, refl, sym}
 use Rattle.std.specs.List.{sum_by}
 use Rattle.std.proofs.lemmas.List.{append-nil}
@@ -14,6 +14,7 @@ use Rattle.pp_prog.specs.declared.program.Program.{Program}
 use Rattle.pp_prog.specs.declared.sort.Sort.{Sort}
 use Rattle.pp_prog.specs.declared.sort.Sort.TheVariants as sort
 use Rattle.pp_prog.specs.declared.types.Ctor.{Ctor}
+use Rattle.pp_prog.specs.declared.types.TypeTable.{TypeTable}
 use Rattle.pp_prog.specs.declared.value.Value.{Value}
 use Rattle.pp_prog.specs.Sorts.{param_sorts}
 use Rattle.pp_prog.specs.Table.{HaveValues, is_sort}
@@ -23,7 +24,7 @@ use Rattle.pp_sound.proofs.Listed.{all_at}
 use Rattle.pp_guess_runs.specs.Answers.{Answering, IsAnswering, answers_of}
 use Rattle.pp_guess_runs.specs.Guess.{fails, guess}
 use Rattle.pp_induction.specs.Ends.{GuessFails}
-use Rattle.pp_domain.specs.Laws.{AdmittedFor, Lawful}
+use Rattle.pp_domain.specs.Laws.{AdmittedFor}
 use Rattle.pp_domain.specs.Naming.{IsDefault, Names, NamesAll, NamesFields, Naming}
 use Rattle.pp_domain.specs.Sense.{Sense}
 use Rattle.pp_steps.proofs.Counting.{zero_plus}
@@ -47,6 +48,10 @@ use Rattle.pp_guess_values.proofs.Defaults.{default_field, default_field_is, def
 use Rattle.pp_guess_values.proofs.Listing.{all_fields, each_look, each_value, few_listed, first_is_default, listed}
 use Rattle.pp_guess_values.proofs.Looking.{field_was_asked, guess_looks_before}
 use Rattle.pp_guess_values.proofs.OwnFields.{has_few_fields, tree_fields}
+
+-- for each list of fewer values than the domain's limit there is a naming, as the laws of a domain have it
+abbrev pub HasNamings : {D T : Type 0} → Sense D T → TypeTable → D → Type 0
+HasNamings m types d = (vs : List Value) → length vs < m.limit d → AdmittedFor m types d vs
 
 at_most_below : (a b c : ℕ) → a ≤ b → b < c → a < c
 at_most_below a b c le lt = omega (arith, le, lt)
@@ -80,10 +85,10 @@ module _ (p : Program) (f : Function) (check : CheckId) (n : ℕ)
     abbrev Listed : List Value
     Listed = listed p.types inhabited run.sorts ρ Steps
 
-    listed_is_short : IsShort p.types run.sorts Steps → length Listed < 2 ^ 30
-    listed_is_short short =
+    listed_is_short : (limit : ℕ) → IsShort p.types run.sorts Steps limit → length Listed < limit
+    listed_is_short limit short =
         at_most_below (length Listed)
-        (2 * length Steps + sum_by (fields_at short.most run.sorts) (all_looked_at Steps)) (2 ^ 30)
+        (2 * length Steps + sum_by (fields_at short.most run.sorts) (all_looked_at Steps)) limit
         (few_listed p.types inhabited run.sorts ρ Steps (fields_at short.most run.sorts)
         (λ k lt. has_few_fields p.types.ctors short.most short.fields (run.sorts k) (ρ k) (sorted k lt))
         (guesses_read p.functions f check n).reads) short.few
@@ -159,8 +164,9 @@ module _ (p : Program) (f : Function) (check : CheckId) (n : ℕ)
 
   -- ---- a guess run that fails
 
-  module _ {D T : Type 0} (m : Sense D T) (law : Lawful m) (short : IsShort p.types run.sorts Steps) (args : List Value)
-      (i : ℕ) (called : IsCalled p i f args) (W : Answering) (answering : IsAnswering p W)
+  module _ {D T : Type 0} (m : Sense D T) (d : D) (namings : HasNamings m p.types d)
+      (short : IsShort p.types run.sorts Steps (m.limit d)) (args : List Value) (i : ℕ)
+      (called : IsCalled p i f args) (W : Answering) (answering : IsAnswering p W)
       (failed : guess p.types.ctors p.functions f check args n W ≡ fails) where
     abbrev missing : Missing
     missing = world p.functions (answers_of p.types.ctors p.functions W) field n
@@ -169,11 +175,11 @@ module _ (p : Program) (f : Function) (check : CheckId) (n : ℕ)
     run_values = sorted_guesses_exist p i f args called check n missing default_field_has_sort
         (guesses_answer_sorted p W answering field n) default (default_has_sort p.types inhabited) run
 
-    admitted_naming : AdmittedFor m p.types (Listed run_values.values run_values.sorted)
-    admitted_naming = law.names p.types (Listed run_values.values run_values.sorted)
-        (listed_is_short run_values.values run_values.sorted short)
+    admitted_naming : AdmittedFor m p.types d (Listed run_values.values run_values.sorted)
+    admitted_naming = namings (Listed run_values.values run_values.sorted)
+        (listed_is_short run_values.values run_values.sorted (m.limit d) short)
 
-    named_guess : IsNamedGuess m p f check n run.sorts
+    named_guess : IsNamedGuess m d p f check n run.sorts
     named_guess =
         let ρ = run_values.values in
         let x = admitted_naming in
@@ -186,18 +192,21 @@ module _ (p : Program) (f : Function) (check : CheckId) (n : ℕ)
           supposed = guesses_suppose p.types.ctors p.functions f check args n W field ρ failed run_values.guess;
           naming = x.naming;
           admitted = x.admitted;
+          reaches = x.reaches;
           args_named = args_are_named ρ run_values.sorted x.naming x.names args run_values.guess.arguments;
           are = are_named ρ run_values.sorted x.naming x.names;
           looked = looks_named ρ run_values.sorted x.naming x.names missing (λ c place. refl);
         }
 
--- where some guess run of round n fails the check, and what has to be named is short, there are such values
-pub failing_guess_is_named : {D T : Type 0} (m : Sense D T) → Lawful m → (p : Program) (i : ℕ) (f : Function)
-    → slice_get p.functions i ≡ Some f → (check : CheckId) (n : ℕ) → GuessFails p i check n
+-- where some guess run of round n fails the check, and fewer values have to be named than the domain's limit, there are
+-- such values
+pub failing_guess_is_named : {D T : Type 0} (m : Sense D T) (p : Program) (d : D) → HasNamings m p.types d
+    → (i : ℕ) (f : Function) → slice_get p.functions i ≡ Some f → (check : CheckId) (n : ℕ) → GuessFails p i check n
     → (run : HaveGuessSorts p.types (guess_steps p.functions f check n) (param_sorts f.params))
-    → IsShort p.types run.sorts (guess_steps p.functions f check n).steps → ∥ IsNamedGuess m p f check n run.sorts ∥₁
-failing_guess_is_named m law p i f here check n wrong run short =
+    → IsShort p.types run.sorts (guess_steps p.functions f check n).steps (m.limit d)
+    → ∥ IsNamedGuess m d p f check n run.sorts ∥₁
+failing_guess_is_named m p d namings i f here check n wrong run short =
     let same : wrong.function ≡ f = same_Some wrong.function f (sym wrong.called.function ∙ here) in
-    ∥∥₁_map p.types.inhabited (λ inhabited. named_guess p f check n run inhabited m law short wrong.args i
+    ∥∥₁_map p.types.inhabited (λ inhabited. named_guess p f check n run inhabited m d namings short wrong.args i
     (subst (λ g. IsCalled p i g wrong.args) same wrong.called) wrong.answers wrong.answering
     (subst (λ g. guess p.types.ctors p.functions g check wrong.args n wrong.answers ≡ fails) same wrong.failed))

@@ -1,5 +1,5 @@
 -- Values of a guess run that a domain of symbolic trees can follow, with a naming that names all of them. Source: own.
-use Rattle.std.specs.Prelude.{◌≡◌, ℕ, ◌+◌, ◌*◌, ◌<◌, ◌≤◌, ◌^◌, List, [], ◌∷◌, All, IsTrue, Some, length, map}
+use Rattle.std.specs.Prelude.{◌≡◌, ℕ, ◌+◌, ◌*◌, ◌<◌, ◌≤◌, List, [], ◌∷◌, All, IsTrue, Some, length, map}
 use Rattle.std.specs.Prelude.{slice_get}
 use Rattle.std.specs.List.{sum_by}
 use Rattle.pp_prog.specs.declared.expr.Function.{Function}
@@ -38,17 +38,17 @@ all_looked_at ss = joined (map looked_at ss)
 abbrev pub fields_at : (DataId → ℕ) → Sorts → ℕ → ℕ
 fields_at most σ k = by_sort 0 0 most (σ k)
 
--- What has to be named is less than what a naming can name, 2^30 values: for each step a default and its value, and for
--- each look the fields of the tree, of which no constructor of datatype d has more than `most d`.
-pub record IsShort (types : TypeTable) (σ : Sorts) (steps : List Step) : Type 0 where
+-- What has to be named is fewer values than the limit: for each step a default and its value, and for each look the
+-- fields of the tree, of which no constructor of datatype d has more than `most d`.
+pub record IsShort (types : TypeTable) (σ : Sorts) (steps : List Step) (limit : ℕ) : Type 0 where
   pub most : DataId → ℕ
   pub fields : (c : CtorId) (k : Ctor) → slice_get types.ctors c.0 ≡ Some k → length k.fields ≤ most k.of
-  pub few : 2 * length steps + sum_by (fields_at most σ) (all_looked_at steps) < 2 ^ 30
+  pub few : 2 * length steps + sum_by (fields_at most σ) (all_looked_at steps) < limit
 
 -- On some arguments, values that obey the steps of round n, have their sorts, and for which the check fails and all
--- that is supposed is true; and a naming that the domain admits, which names the arguments, the values and the fields
--- of those that are looked at, and by which what stands for missing fields is their default.
-pub record IsNamedGuess {D T : Type 0} (m : Sense D T) (p : Program) (f : Function) (check : CheckId) (n : ℕ)
+-- that is supposed is true; and a naming that the domain admits and its names reach, which names the arguments, the
+-- values and the fields of those that are looked at, and by which what stands for missing fields is their default.
+pub record IsNamedGuess {D T : Type 0} (m : Sense D T) (d : D) (p : Program) (f : Function) (check : CheckId) (n : ℕ)
     (sorts : Sorts) : Type 0 where
   pub args : List Value
   pub args_sorted : IsTrue (have_sorts p.types.ctors args (param_sorts f.params))
@@ -58,6 +58,7 @@ pub record IsNamedGuess {D T : Type 0} (m : Sense D T) (p : Program) (f : Functi
   pub supposed : IsSupposed values (guess_steps p.functions f check n)
   pub naming : Naming
   pub admitted : m.Admits p.types naming
+  pub reaches : m.Reaches d naming
   pub args_named : All (Names p.types naming) args
   pub are : AreNamed p.types naming sorts values (length (guess_steps p.functions f check n).steps)
   pub looked : (k : ℕ) (s : Step) → slice_get (guess_steps p.functions f check n).steps k ≡ Some s

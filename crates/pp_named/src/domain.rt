@@ -25,6 +25,10 @@ impl Domain for Named {
         })
     }
 
+    fn limit_to(&mut self, values: u64) {
+        self.trees.limit_to(values);
+    }
+
     fn ok(&self) -> Lit {
         self.trees.ok
     }

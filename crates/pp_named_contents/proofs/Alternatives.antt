@@ -48,12 +48,12 @@ holds_all a n v xs x all own j y at = elim (at_push xs x j y at) [
   | inr new ↦ subst (λ (z : Alternative). AlternativeHolds a n v z) new.1 own
 ]
 
-pub contents_push : (gs fs hs : List Gate) (m k : ℕ) (ctor : ℕ → CtorId) (sorts : ℕ → List Sort)
+pub contents_push : (gs fs hs : List Gate) (m k top : ℕ) (ctor : ℕ → CtorId) (sorts : ℕ → List Sort)
     (xs ys : List Alternative) (x : Alternative) → Grows gs fs m → IsCircuit fs → Grows fs hs k → IsCircuit hs
-    → AreContents gs fs ctor sorts xs → IsOf gs x.lit → x.ctor ≡ ctor (length xs)
-    → AreGuarded fs hs x.lit (sorts (length xs)) x.fields → ys ≡ xs ++ x ∷ [] → AreContents gs hs ctor sorts ys
-contents_push gs fs hs m k ctor sorts xs ys x first is second more all lit own fields push =
-    subst (λ zs. AreContents gs hs ctor sorts zs) (sym push) (record {
+    → AreContents gs fs top ctor sorts xs → IsOf gs x.lit → x.ctor ≡ ctor (length xs)
+    → AreGuarded fs hs top x.lit (sorts (length xs)) x.fields → ys ≡ xs ++ x ∷ [] → AreContents gs hs top ctor sorts ys
+contents_push gs fs hs m k top ctor sorts xs ys x first is second more all lit own fields push =
+    subst (λ zs. AreContents gs hs top ctor sorts zs) (sym push) (record {
       each = λ j y at. elim (at_push xs x j y at) [
         | inl old ↦ alternative_later fs hs k second (ctor j) (sorts j) y (all.each j y old)
         | inr new ↦ subst (λ (z : Alternative). PartFitsAt hs (ctor j) (sorts j) z) new.1
@@ -98,7 +98,7 @@ contents_push gs fs hs m k ctor sorts xs ys x first is second more all lit own f
     turned a c d v same not has = not (has.0, has.1 ∙ ap (λ b. value.Tree b has.0) same)
 
     last : (a : ℕ → Bool) (n : Naming) (v : Value) → ChosenContents gs fs a n v xs
-        → GoesWith a n v (ctor (length xs)) (sorts (length xs)) x.lit → ChosenContents gs hs a n v (xs ++ x ∷ [])
+        → GoesWith top a n v (ctor (length xs)) (sorts (length xs)) x.lit → ChosenContents gs hs a n v (xs ++ x ∷ [])
     last a n v one goes = elim goes.either [
       | inl has ↦
           let with_it = goes.own has.0 has.1 in

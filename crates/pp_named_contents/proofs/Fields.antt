@@ -43,20 +43,21 @@ module _ (gs : List Gate) (a b : ℕ → Bool) (agree : AgreeUpTo (length gs) a 
   holds_push (s ∷ ss) (y ∷ xs) [] x v fits are is = absurd are
 
 -- the last of the values
-record Last (n : Naming) (ss : List Sort) (s : Sort) (us : List Value) : Type 0 where
+record Last (top : ℕ) (n : Naming) (ss : List Sort) (s : Sort) (us : List Value) : Type 0 where
   firsts : List Value
   last : Value
   whole : us ≡ firsts ++ last ∷ []
-  firsts_can : CanHolds n ss firsts
-  last_can : CanHold n s last
+  firsts_can : CanHolds top n ss firsts
+  last_can : CanHold top n s last
 
-last_of : (n : Naming) (ss : List Sort) (s : Sort) (us : List Value) → CanHolds n (ss ++ s ∷ []) us → Last n ss s us
-last_of n [] s [] can = absurd can
-last_of n [] s (u ∷ []) can = record { firsts = []; last = u; whole = refl; firsts_can = tt; last_can = can.0 }
-last_of n [] s (u ∷ w ∷ us) can = absurd can.1
-last_of n (r ∷ ss) s [] can = absurd can
-last_of n (r ∷ ss) s (u ∷ us) can =
-    let rest = last_of n ss s us can.1 in record {
+last_of : (top : ℕ) (n : Naming) (ss : List Sort) (s : Sort) (us : List Value) → CanHolds top n (ss ++ s ∷ []) us
+    → Last top n ss s us
+last_of top n [] s [] can = absurd can
+last_of top n [] s (u ∷ []) can = record { firsts = []; last = u; whole = refl; firsts_can = tt; last_can = can.0 }
+last_of top n [] s (u ∷ w ∷ us) can = absurd can.1
+last_of top n (r ∷ ss) s [] can = absurd can
+last_of top n (r ∷ ss) s (u ∷ us) can =
+    let rest = last_of top n ss s us can.1 in record {
       firsts = u ∷ rest.firsts;
       last = rest.last;
       whole = ap (λ ws. u ∷ ws) rest.whole;
@@ -64,9 +65,9 @@ last_of n (r ∷ ss) s (u ∷ us) can =
       last_can = rest.last_can;
     }
 
-pub guarded_none : (gs : List Gate) (lit : Literal) (xs : List (Symbol NamedTree)) → xs ≡ []
-    → AreGuarded gs gs lit [] xs
-guarded_none gs lit xs none = subst (λ ys. AreGuarded gs gs lit [] ys) (sym none) (record {
+pub guarded_none : (gs : List Gate) (top : ℕ) (lit : Literal) (xs : List (Symbol NamedTree)) → xs ≡ []
+    → AreGuarded gs gs top lit [] xs
+guarded_none gs top lit xs none = subst (λ ys. AreGuarded gs gs top lit [] ys) (sym none) (record {
   fits = tt;
   blank = λ a gives off i x lt. absurd (omega arith);
   chosen = λ a n vs gives can. record {
@@ -77,20 +78,21 @@ guarded_none gs lit xs none = subst (λ ys. AreGuarded gs gs lit [] ys) (sym non
   };
 })
   where
-    nothing : (n : Naming) (a : ℕ → Bool) (vs : List Value) → CanHolds n [] vs → SymbolsHold a n [] vs
+    nothing : (n : Naming) (a : ℕ → Bool) (vs : List Value) → CanHolds top n [] vs → SymbolsHold a n [] vs
     nothing n a [] can = tt
     nothing n a (v ∷ vs) can = absurd can
 
-pub guarded_push : (gs fs hs : List Gate) (m k : ℕ) (lit : Literal) (ss : List Sort) (s : Sort)
+pub guarded_push : (gs fs hs : List Gate) (m k top : ℕ) (lit : Literal) (ss : List Sort) (s : Sort)
     (xs ys : List (Symbol NamedTree)) (x : Symbol NamedTree) → IsOf gs lit → Grows gs fs m → Grows fs hs k
-    → AreGuarded gs fs lit ss xs → IsGuarded fs hs lit s x → ys ≡ xs ++ x ∷ [] → AreGuarded gs hs lit (ss ++ s ∷ []) ys
-guarded_push gs fs hs m k lit ss s xs ys x of first second all own push =
-    subst (λ zs. AreGuarded gs hs lit (ss ++ s ∷ []) zs) (sym push) (record {
+    → AreGuarded gs fs top lit ss xs → IsGuarded fs hs top lit s x → ys ≡ xs ++ x ∷ []
+    → AreGuarded gs hs top lit (ss ++ s ∷ []) ys
+guarded_push gs fs hs m k top lit ss s xs ys x of first second all own push =
+    subst (λ zs. AreGuarded gs hs top lit (ss ++ s ∷ []) zs) (sym push) (record {
       fits = parts_push fs hs k second ss xs s x all.fits own.fits;
       blank = λ a gives off.
           All-push (IsBlank a) xs x (all.blank a (Gives_old fs hs k second a gives) off) (own.blank a gives off);
       chosen = λ a n us gives can.
-          let split = last_of n ss s us can in
+          let split = last_of top n ss s us can in
           let one = all.chosen a n split.firsts gives split.firsts_can in
           let two = own.chosen one.next n split.last one.gives split.last_can in
           let low = (length-Grows gs fs m first).0 in record {

@@ -43,11 +43,11 @@ true_same a (l ∷ ls) (x ∷ xs) len each =
 true_same a [] (x ∷ xs) len each = absurd (omega arith)
 true_same a (l ∷ ls) [] len each = absurd (omega arith)
 
-module _ (types : TypeTable) (gs fs hs : List Gate) (m n : ℕ) (of : DataId) (t : Datatype) (ls : List Literal)
+module _ (types : TypeTable) (gs fs hs : List Gate) (m n top : ℕ) (of : DataId) (t : Datatype) (ls : List Literal)
     (xs : List Alternative) (first : Grows gs fs m) (second : Grows fs hs n)
     (is : slice_get types.datatypes of.0 ≡ Some t) (len : length ls ≡ length (ctors_of types of))
     (choices : AreChoices gs fs ls)
-    (all : AreOf fs hs t.first.0 (ctors_of types of) ls (length (ctors_of types of)) xs) where
+    (all : AreOf fs hs top t.first.0 (ctors_of types of) ls (length (ctors_of types of)) xs) where
   fresh_fits : ContentsFit hs types of xs
   fresh_fits = record {
     datatype = t;
@@ -60,7 +60,7 @@ module _ (types : TypeTable) (gs fs hs : List Gate) (m n : ℕ) (of : DataId) (t
   }
 
   fresh_chosen : (a : ℕ → Bool) (nam : Naming) (v : Value) → Gives a gs → IsOfData types of v
-      → CanHoldFields types nam v → ChosenContents gs hs a nam v xs
+      → CanHoldFields top types nam v → ChosenContents gs hs a nam v xs
   fresh_chosen a nam v gives sorted can =
       let tree = tree_value types.ctors of v sorted in
       let block = in_block_ctor types of tree.ctor.0 tree.entry tree.at tree.data_of in
@@ -72,11 +72,11 @@ module _ (types : TypeTable) (gs fs hs : List Gate) (m n : ℕ) (of : DataId) (t
       let pick = choices.picked a block.place l.0 gives l.1 in
       let here : v ≡ Tree (ctor_from t.first.0 block.place) tree.fields =
       tree.is ∙ ap (λ c. Tree c tree.fields) (ctor_same tree.ctor (ctor_from t.first.0 block.place) number) in
-      let held : CanHolds nam (sorts_from (ctors_of types of) block.place) tree.fields =
-      subst (λ ss. CanHolds nam ss tree.fields) (sym (ap fields_at block.at))
+      let held : CanHolds top nam (sorts_from (ctors_of types of) block.place) tree.fields =
+      subst (λ ss. CanHolds top nam ss tree.fields) (sym (ap fields_at block.at))
       (can tree.ctor tree.entry tree.fields tree.at tree.is) in
       let next = all.contents.chosen pick.next nam v pick.gives (λ j x at.
-      goes_with pick.next nam v t.first.0 (ctors_of types of) ls block.place l.0 tree.fields
+      goes_with top pick.next nam v t.first.0 (ctors_of types of) ls block.place l.0 tree.fields
       (choices.one pick.next pick.gives) l.1 pick.is here held j x.lit (all.lits_are j x at)) in record {
         next = next.next;
         gives = next.gives;
@@ -85,16 +85,16 @@ module _ (types : TypeTable) (gs fs hs : List Gate) (m n : ℕ) (of : DataId) (t
         holds = next.holds;
       }
 
-  pub are_fresh : AreFresh types gs hs of xs
+  pub are_fresh : AreFresh types gs hs top of xs
   are_fresh = record { fits = fresh_fits; chosen = fresh_chosen }
 
 -- as the call reads the lists
-pub fresh_read : (types : TypeTable) (gs fs hs : List Gate) (m n : ℕ) (of : DataId) (t : Datatype)
+pub fresh_read : (types : TypeTable) (gs fs hs : List Gate) (m n top : ℕ) (of : DataId) (t : Datatype)
     (lits ls : List Literal) (ctors : List Ctor) (xs : List Alternative) → Grows gs fs m → Grows fs hs n
     → slice_get types.datatypes of.0 ≡ Some t → length lits ≡ length ctors → AreChoices gs fs lits
-    → ctors ≡ ctors_of types of → ls ≡ lits → AreOf fs hs t.first.0 ctors ls (length ctors) xs
-    → AreFresh types gs hs of xs
-fresh_read types gs fs hs m n of t lits ls ctors xs first second is len choices block same all =
-    are_fresh types gs fs hs m n of t lits xs first second is (len ∙ ap length block) choices
-    (subst (λ ks. AreOf fs hs t.first.0 ks lits (length ks) xs) block
-    (subst (λ l. AreOf fs hs t.first.0 ctors l (length ctors) xs) same all))
+    → ctors ≡ ctors_of types of → ls ≡ lits → AreOf fs hs top t.first.0 ctors ls (length ctors) xs
+    → AreFresh types gs hs top of xs
+fresh_read types gs fs hs m n top of t lits ls ctors xs first second is len choices block same all =
+    are_fresh types gs fs hs m n top of t lits xs first second is (len ∙ ap length block) choices
+    (subst (λ ks. AreOf fs hs top t.first.0 ks lits (length ks) xs) block
+    (subst (λ l. AreOf fs hs top t.first.0 ctors l (length ctors) xs) same all))

@@ -54,12 +54,12 @@ others_false a (h ∷ ls) (suc p) (suc j) l m one at on to differ = elim (cases_
       others_false a ls p j l m (omega arith) at on to (λ same. differ (ap suc same))
 ]
 
-module _ (a : ℕ → Bool) (n : Naming) (v : Value) (first : ℕ) (ctors : List Ctor) (ls : List Literal) (p : ℕ)
+module _ (top : ℕ) (a : ℕ → Bool) (n : Naming) (v : Value) (first : ℕ) (ctors : List Ctor) (ls : List Literal) (p : ℕ)
     (l : Literal) (fields : List Value) (one : true_in a ls ≡ 1) (at : slice_get ls p ≡ Some l)
     (on : lit_value a l ≡ true) (is : v ≡ value.Tree (ctor_from first p) fields)
-    (can : CanHolds n (sorts_from ctors p) fields) where
+    (can : CanHolds top n (sorts_from ctors p) fields) where
   pub goes_with : (j : ℕ) (m : Literal) → slice_get ls j ≡ Some m
-      → GoesWith a n v (ctor_from first j) (sorts_from ctors j) m
+      → GoesWith top a n v (ctor_from first j) (sorts_from ctors j) m
   goes_with j m to = elim (eqb_tells j p) [
     | inl same ↦
         let lit : m ≡ l = some (sym to ∙ ap (slice_get ls) same.1 ∙ at) in
@@ -67,9 +67,9 @@ module _ (a : ℕ → Bool) (n : Naming) (v : Value) (first : ℕ) (ctors : List
         is ∙ ap (λ i. value.Tree (ctor_from first i) fields) (sym same.1) in record {
           own = λ vs h. (
             ap (lit_value a) lit ∙ on,
-            subst (λ us. CanHolds n (sorts_from ctors j) us)
+            subst (λ us. CanHolds top n (sorts_from ctors j) us)
                 (same_fields (ctor_from first j) (ctor_from first j) fields vs (sym has ∙ h))
-                (subst (λ i. CanHolds n (sorts_from ctors i) fields) (sym same.1) can),
+                (subst (λ i. CanHolds top n (sorts_from ctors i) fields) (sym same.1) can),
           );
           other = λ not. absurd (not (fields, has));
           either = inl (fields, has);

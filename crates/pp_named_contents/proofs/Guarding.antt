@@ -10,17 +10,18 @@ use Rattle.pp_gate.specs.Growth.{Grows}
 use Rattle.pp_domain.specs.declared.symbol.Symbol.{Symbol}
 use Rattle.pp_domain.specs.declared.symbol.Symbol.TheVariants as symbol
 use Rattle.pp_domain.specs.Plain.{IsMaskedPlain, IsMaskedWord, plain_gates}
+use Rattle.pp_domain.specs.Short.{IsShort}
 use Rattle.pp_named_trees.specs.declared.arena.NamedTree.{NamedTree}
 use Rattle.pp_named_contents.specs.Contents.{IsGuarded, part_gates}
 
-pub tree_guarded : (gs hs : List Gate) (lit : Literal) (of : DataId) (h : ℕ) (r : List Literal)
-    → IsMaskedWord gs hs lit r
-    → IsGuarded gs hs lit (sort.Tree of) (symbol.Tree (record { of = of; height = h; name = r }))
-tree_guarded gs hs lit of h r is = record {
+pub tree_guarded : (gs hs : List Gate) (low : ℕ) (lit : Literal) (of : DataId) (h : ℕ) (r : List Literal)
+    → IsMaskedWord gs hs (IsShort low) lit r
+    → IsGuarded gs hs low lit (sort.Tree of) (symbol.Tree (record { of = of; height = h; name = r }))
+tree_guarded gs hs low lit of h r is = record {
   fits = (record { len = is.len; of = is.of }, refl);
   blank = λ a gives off. is.blank a gives off;
   chosen = λ a n v gives can.
-      let pick = is.chosen a can.number gives can.small in record {
+      let pick = is.chosen a can.number gives can.short in record {
         next = pick.next;
         gives = pick.gives;
         keeps = pick.keeps;
@@ -28,27 +29,27 @@ tree_guarded gs hs lit of h r is = record {
       };
 }
 
-pub plain_guarded : (gs hs : List Gate) (lit : Literal) (s : Sort) (x : Symbol NamedTree)
-    → IsMaskedPlain gs hs lit s x → IsGuarded gs hs lit s x
-plain_guarded gs hs lit sort.Int (symbol.Word w) is = record {
+pub plain_guarded : (gs hs : List Gate) (low : ℕ) (lit : Literal) (s : Sort) (x : Symbol NamedTree)
+    → IsMaskedPlain gs hs lit s x → IsGuarded gs hs low lit s x
+plain_guarded gs hs low lit sort.Int (symbol.Word w) is = record {
   fits = record { len = is.of.0; of = is.of.1 };
   blank = is.blank;
   chosen = λ a n v gives can.
       let pick = is.chosen a v gives can in
       record { next = pick.next; gives = pick.gives; keeps = pick.keeps; holds = pick.stands };
 }
-plain_guarded gs hs lit sort.Bool (symbol.Bit l) is = record {
+plain_guarded gs hs low lit sort.Bool (symbol.Bit l) is = record {
   fits = is.of;
   blank = is.blank;
   chosen = λ a n v gives can.
       let pick = is.chosen a v gives can in
       record { next = pick.next; gives = pick.gives; keeps = pick.keeps; holds = pick.stands };
 }
-plain_guarded gs hs lit sort.Int (symbol.Bit l) is = absurd is.of
-plain_guarded gs hs lit sort.Int (symbol.Tree t) is = absurd is.of
-plain_guarded gs hs lit sort.Bool (symbol.Word w) is = absurd is.of
-plain_guarded gs hs lit sort.Bool (symbol.Tree t) is = absurd is.of
-plain_guarded gs hs lit (sort.Tree of) x is = absurd is.of
+plain_guarded gs hs low lit sort.Int (symbol.Bit l) is = absurd is.of
+plain_guarded gs hs low lit sort.Int (symbol.Tree t) is = absurd is.of
+plain_guarded gs hs low lit sort.Bool (symbol.Word w) is = absurd is.of
+plain_guarded gs hs low lit sort.Bool (symbol.Tree t) is = absurd is.of
+plain_guarded gs hs low lit (sort.Tree of) x is = absurd is.of
 
 -- an input and a gate for each literal
 part_gates_are : (s : Sort) → is_word s ≡ true → 2 * plain_gates s ≡ part_gates s

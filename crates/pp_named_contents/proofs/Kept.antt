@@ -211,6 +211,10 @@ module _ (types : TypeTable) (gs : List Gate) where
       subst (λ (f : NamedTrees). Good named_sense types f gs n a) (sym keeps.is) (record {
         gates = good.gates;
         ok = good.ok;
-        matches = record { expansions = good.matches.expansions; levels = good.matches.levels };
+        matches = record {
+          short = good.matches.short;
+          expansions = good.matches.expansions;
+          levels = good.matches.levels;
+        };
         admitted = good.admitted;
       })

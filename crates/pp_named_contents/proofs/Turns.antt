@@ -33,21 +33,22 @@ pub gates_next : (ks : List Ctor) (i : ℕ) (k : Ctor) → slice_get ks i ≡ So
     → fields_gates (take i ks) + parts_gates k.fields ≤ fields_gates ks
 gates_next ks i k at = let e = gates_turn ks i k at in let w = gates_within ks (i + 1) in omega arith
 
-pub are_push : (gs fs hs : List Gate) (m n first : ℕ) (ctors : List Ctor) (lits : List Literal) (i : ℕ)
+pub are_push : (gs fs hs : List Gate) (m n top first : ℕ) (ctors : List Ctor) (lits : List Literal) (i : ℕ)
     (xs ys : List Alternative) (x : Alternative) (k : Ctor) → Grows gs fs m → IsCircuit fs → Grows fs hs n
-    → IsCircuit hs → AreOf gs fs first ctors lits i xs → slice_get lits i ≡ Some x.lit → IsOf gs x.lit
+    → IsCircuit hs → AreOf gs fs top first ctors lits i xs → slice_get lits i ≡ Some x.lit → IsOf gs x.lit
     → x.ctor ≡ ctor_from first i
-    → slice_get ctors i ≡ Some k → AreGuarded fs hs x.lit k.fields x.fields → ys ≡ xs ++ x ∷ []
-    → AreOf gs hs first ctors lits (i + 1) ys
-are_push gs fs hs m n first ctors lits i xs ys x k grows is more circuit all at of ctor here fields push = record {
+    → slice_get ctors i ≡ Some k → AreGuarded fs hs top x.lit k.fields x.fields → ys ≡ xs ++ x ∷ []
+    → AreOf gs hs top first ctors lits (i + 1) ys
+are_push gs fs hs m n top first ctors lits i xs ys x k grows is more circuit all at of ctor here fields push = record {
   many = ap length push ∙ length-append xs (x ∷ []) ∙ ap (λ j. j + 1) all.many;
   lits_are = λ j y to. elim (at_push xs x j y (ap (λ l. slice_get l j) (sym push) ∙ to)) [
     | inl old ↦ all.lits_are j y old
     | inr new ↦ ap (slice_get lits) (new.0 ∙ all.many) ∙ at ∙ ap (λ (z : Alternative). Some z.lit) new.1
   ];
-  contents = contents_push gs fs hs m n (ctor_from first) (sorts_from ctors) xs ys x grows is more circuit all.contents
+  contents = contents_push gs fs hs m n top (ctor_from first) (sorts_from ctors) xs ys x grows is more circuit
+      all.contents
       of (ctor ∙ ap (ctor_from first) (sym all.many))
-      (subst (λ ss. AreGuarded fs hs x.lit ss x.fields)
+      (subst (λ ss. AreGuarded fs hs top x.lit ss x.fields)
       (sym (ap (sorts_from ctors) all.many ∙ ap fields_at here)) fields) push;
 }
 
@@ -68,11 +69,11 @@ pub turn_next : (ks : List Ctor) (i : ℕ) (k : Ctor) (ss : List _) → slice_ge
     → fields_gates (take i ks) + parts_gates ss ≤ fields_gates (take (i + 1) ks)
 turn_next ks i k ss at same = let e = gates_turn ks i k at in let s = ap parts_gates same in omega arith
 
-pub are_turn : (gs fs hs : List Gate) (m n : ℕ) (first : ℕ) (ctors : List Ctor) (lits : List Literal) (i : ℕ)
+pub are_turn : (gs fs hs : List Gate) (m n top first : ℕ) (ctors : List Ctor) (lits : List Literal) (i : ℕ)
     (xs ys : List Alternative) (x : Alternative) (k : Ctor) (ss : List _) → Grows gs fs m → IsCircuit fs → Grows fs hs n
-    → IsCircuit hs → AreOf gs fs first ctors lits i xs → slice_get lits i ≡ Some x.lit → IsOf gs x.lit
-    → x.ctor ≡ ctor_from first i → slice_get ctors i ≡ Some k → ss ≡ k.fields → AreGuarded fs hs x.lit ss x.fields
-    → ys ≡ xs ++ x ∷ [] → AreOf gs hs first ctors lits (i + 1) ys
-are_turn gs fs hs m n first ctors lits i xs ys x k ss grows is more circuit all at of ctor here same fields push =
-    are_push gs fs hs m n first ctors lits i xs ys x k grows is more circuit all at of ctor here
-    (subst (λ zs. AreGuarded fs hs x.lit zs x.fields) same fields) push
+    → IsCircuit hs → AreOf gs fs top first ctors lits i xs → slice_get lits i ≡ Some x.lit → IsOf gs x.lit
+    → x.ctor ≡ ctor_from first i → slice_get ctors i ≡ Some k → ss ≡ k.fields → AreGuarded fs hs top x.lit ss x.fields
+    → ys ≡ xs ++ x ∷ [] → AreOf gs hs top first ctors lits (i + 1) ys
+are_turn gs fs hs m n top first ctors lits i xs ys x k ss grows is more circuit all at of ctor here same fields push =
+    are_push gs fs hs m n top first ctors lits i xs ys x k grows is more circuit all at of ctor here
+    (subst (λ zs. AreGuarded fs hs top x.lit zs x.fields) same fields) push

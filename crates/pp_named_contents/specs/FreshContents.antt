@@ -37,20 +37,21 @@ abbrev pub contents_gates : TypeTable → DataId → ℕ
 contents_gates types of = 3 * length (ctors_of types of) + fields_gates (ctors_of types of)
 
 -- one for each of the first literals
-pub record AreOf (gs hs : List Gate) (first : ℕ) (ctors : List Ctor) (lits : List Literal) (i : ℕ)
+pub record AreOf (gs hs : List Gate) (low first : ℕ) (ctors : List Ctor) (lits : List Literal) (i : ℕ)
     (xs : List Alternative) : Type 0 where
   pub many : length xs ≡ i
   pub lits_are : (j : ℕ) (x : Alternative) → slice_get xs j ≡ Some x → slice_get lits j ≡ Some x.lit
-  pub contents : AreContents gs hs (ctor_from first) (sorts_from ctors) xs
+  pub contents : AreContents gs hs low (ctor_from first) (sorts_from ctors) xs
 
 -- the fields of the value can be held, each by a symbol of its sort
-abbrev pub CanHoldFields : TypeTable → Naming → Value → Type 0
-CanHoldFields types n v =
+abbrev pub CanHoldFields : ℕ → TypeTable → Naming → Value → Type 0
+CanHoldFields low types n v =
     (c : CtorId) (k : Ctor) (vs : List Value) → slice_get types.ctors c.0 ≡ Some k → v ≡ Tree c vs
-    → CanHolds n k.fields vs
+    → CanHolds low n k.fields vs
 
 -- all constructors of the datatype, which can hold each value of the datatype whose fields can be held
-pub record AreFresh (types : TypeTable) (gs hs : List Gate) (of : DataId) (xs : List Alternative) : Type 0 where
-  pub fits : ContentsFit hs types of xs
-  pub chosen : (a : ℕ → Bool) (n : Naming) (v : Value) → Gives a gs → IsOfData types of v → CanHoldFields types n v
-      → ChosenContents gs hs a n v xs
+pub record AreFresh (types : TypeTable) (gs hs : List Gate) (low : ℕ) (of : DataId) (xs : List Alternative) : Type 0
+  where
+    pub fits : ContentsFit hs types of xs
+    pub chosen : (a : ℕ → Bool) (n : Naming) (v : Value) → Gives a gs → IsOfData types of v
+        → CanHoldFields low types n v → ChosenContents gs hs a n v xs

@@ -7,17 +7,16 @@ use Rattle.pp_prog.specs.declared.id.DataId.{DataId}
 use Rattle.pp_prog.specs.declared.types.TypeTable.{TypeTable}
 use Rattle.pp_clause.specs.Literal.{Literal}
 use Rattle.pp_gate.specs.declared.gate.Gate.{Gate}
-use Rattle.pp_gate.specs.Circuit.{Gives, IsCircuit, IsOf}
+use Rattle.pp_gate.specs.Circuit.{IsCircuit, IsOf}
 use Rattle.pp_gate.specs.Growth.{Grows}
 use Rattle.pp_gate.proofs.Agreement.{agree_along, lit_agree}
 use Rattle.pp_gate.proofs.Growing.{length-Grows}
 use Rattle.pp_graph.specs.Reaches.{AreGroups}
 use Rattle.pp_checks.specs.Tables.{field_table}
-use Rattle.pp_bits.specs.Inputs.{AreInputs, ChosenNumber}
-use Rattle.pp_bits.specs.Number.{nat_of}
 use Rattle.pp_domain.specs.declared.symbol.Symbol.{Symbol}
 use Rattle.pp_domain.specs.Moves.{Moves}
 use Rattle.pp_domain.specs.Naming.{Naming}
+use Rattle.pp_domain.specs.Short.{IsShort, IsShortWord}
 use Rattle.pp_domain.specs.Sense.{Good}
 use Rattle.pp_named_trees.specs.declared.arena.Alternative.{Alternative}
 use Rattle.pp_named_trees.specs.declared.arena.NamedTree.{NamedTree}
@@ -36,13 +35,13 @@ use Rattle.pp_named_contents.proofs.Kept.{kept_new}
 use Rattle.pp_named_instances.specs.Levels.{AddsLevels, DataHasLevels}
 use Rattle.pp_named_expand.specs.Constructed.{IsKnownNew, NameHas}
 use Rattle.pp_named_expand.specs.Touched.{IsTouched}
-use Rattle.pp_named_expand.proofs.Preparing.{kept_moves}
+use Rattle.pp_named_expand.proofs.Preparing.{kept_moves, leveled_low}
 
--- 32 new inputs are no name of the old circuit
-inputs_new : (gs fs hs : List Gate) (p : ℕ) (ls ms : List Literal) → Grows gs fs p → AreInputs fs hs 32 ls
+-- a new word is no name of the old circuit
+word_is_new : (gs fs hs : List Gate) (p low : ℕ) (ls ms : List Literal) → Grows gs fs p → IsShortWord fs hs low ls
     → IsName gs ms → ms ≡ ls → ⊥
-inputs_new gs fs hs p [] ms grows new old same = let e = new.len in absurd (omega (arith, e))
-inputs_new gs fs hs p (l ∷ ls) ms grows new old same =
+word_is_new gs fs hs p n [] ms grows new old same = let e = new.len in absurd (omega (arith, e))
+word_is_new gs fs hs p n (l ∷ ls) ms grows new old same =
     let high = new.fresh 0 l (omega arith) in
     let low = (subst (λ ks. All (IsOf gs) ks) same old.of) 0 l (omega arith) in
     let most = low.most in
@@ -51,10 +50,9 @@ inputs_new gs fs hs p (l ∷ ls) ms grows new old same =
 -- what comes in for the tree, one after another
 module _ (types : TypeTable) (d d1 d2 : NamedTrees) (gs fs : List Gate) (p : ℕ)
     (touched : IsTouched types d gs d1) (leveled : AddsLevels types d1 gs d2 fs p) (hs : List Gate)
-    (grows : Grows fs hs 32) (is : IsCircuit hs) (ls name : List Literal) (inputs : AreInputs fs hs 32 ls)
-    (chosen : (s : ℕ → Bool) → Gives s fs → (v : ℕ) → v < 2 ^ 32 → ChosenNumber fs hs s ls v) (same : name ≡ ls) where
+    (grows : Grows fs hs 32) (is : IsCircuit hs) (name : List Literal) (word : IsShortWord fs hs d2.low name) where
   named : IsName hs name
-  named = subst (λ l. IsName hs l) (sym same) (record { len = inputs.len; of = inputs.of })
+  named = record { len = word.len; of = word.of }
 
   module _ (d3 d4 : NamedTrees) (of : DataId) (push : d3 ≡ with_node d2 (record { of = of; name = name }))
       (keeps : Keeps hs d3 d4) where
@@ -67,12 +65,13 @@ module _ (types : TypeTable) (d d1 d2 : NamedTrees) (gs fs : List Gate) (p : ℕ
     module _ (c : CtorId) (fields : List (Symbol NamedTree)) (xs ys : List Alternative)
         (known : AreKnown types hs of c fields xs) (one : ys ≡ xs) (kept : FieldsKept d4.nodes ys)
         (are : AreGroups (field_table types) d1.groups) (levels : DataHasLevels types d2.groups d2.levels of) where
-      name_has : (n : Naming) (a : ℕ → Bool) (k : ℕ) → Good named_sense types d gs n a → k < 2 ^ 32
+      name_has : (n : Naming) (a : ℕ → Bool) (k : ℕ) → Good named_sense types d gs n a → IsShort d.low k
           → NameHas types gs n a d4 hs name k
-      name_has n a k good low =
+      name_has n a k good short =
           let x = leveled.extends n a (touched.good n a good) in
           let fits = leveled.moves.fits in
-          let pick = chosen x.next x.good.gates k low in record {
+          let pick = word.chosen x.next x.good.gates k
+          (subst (λ l. IsShort l k) (sym (leveled_low types d d1 d2 gs fs p touched leveled)) short) in record {
             extended = record {
               next = pick.assignment;
               agree = agree_along (length gs) (length fs) a x.next pick.assignment
@@ -84,7 +83,7 @@ module _ (types : TypeTable) (d d1 d2 : NamedTrees) (gs fs : List Gate) (p : ℕ
                 admitted = x.good.admitted;
               });
             };
-            number = ap (nat_of pick.assignment) same ∙ pick.number;
+            number = pick.number;
           }
 
       pub known_is : IsKnownNew types d gs d4 hs of c fields (record { of = of; name = name; alternatives = xs })
@@ -96,7 +95,7 @@ module _ (types : TypeTable) (d d1 d2 : NamedTrees) (gs fs : List Gate) (p : ℕ
             ∙ ap (λ (f : NamedTrees). f.groups) leveled.is)) are;
         levels = subst (λ (f : NamedTrees). DataHasLevels types f.groups f.levels of) (sym both_keep.is) levels;
         name = named;
-        fresh = λ ms old e. inputs_new gs fs hs p ls ms leveled.moves.grows inputs old (e ∙ same);
+        fresh = λ ms old e. word_is_new gs fs hs p d2.low name ms leveled.moves.grows word old e;
         node = λ h. keeps_kept hs d3 d4 (record { of = of; height = h; name = name }) keeps
             (kept_new d2 d3 (record { of = of; height = h; name = name }) push);
         known = known;

@@ -194,14 +194,14 @@ module _ (types : TypeTable) (d e : NamedTrees) (gs hs : List Gate) (c : CtorId)
         → SymbolsStand named_sense d a n fields vs → Names types n (value.Tree c vs)
         → Extended named_sense types gs n a f is
     new_extends n a vs good stand names =
-        let naming = good.admitted.naming in
         let fit = fields_of_symbols d gs k.fields fields are in
         let held = stand_hold d a n fields vs stand in
         let sorted : IsOfData types y.of (value.Tree c vs) =
         subst (λ (o : DataId). IsOfData types o (value.Tree c vs)) of
-        (tree_has_sort types.ctors c k vs at (values_have types gs d.nodes a n naming k.fields fields vs fit held)) in
+        (tree_has_sort types.ctors c k vs at
+        (values_have types gs d.nodes a n good.admitted.naming k.fields fields vs fit held)) in
         let num = names y.of sorted in
-        let x = new.chosen n a num.number good (naming.within y.of num.number (value.Tree c vs) num.is) in
+        let x = new.chosen n a num.number good (good.matches.short y.of num.number (value.Tree c vs) num.is) in
         let next = x.extended.next in
         let still = parts_agree gs a next x.extended.agree n k.fields fields vs
         (parts_of_fields gs d.nodes fits.nodes k.fields fields fit) held in

@@ -41,6 +41,7 @@ module _ (types : TypeTable) (d : NamedTrees) (gs hs : List Gate) (k : ℕ) (y :
   entered_fits = record {
     circuit = is;
     ok_of = both.of;
+    low = fits.low;
     groups = inr are;
     nodes = λ i x at. name_later gs hs k grows x.name (fits.nodes i x at);
     expansions = λ i z at. elim (at_push d.expansions y i z at) [
@@ -98,6 +99,7 @@ module _ (types : TypeTable) (d : NamedTrees) (gs hs : List Gate) (k : ℕ) (y :
       gates = Gives_old gs hs k grows a good.gates;
       ok = (parts a good.gates good.ok).0;
       matches = record {
+        short = good.matches.short;
         expansions = λ i z at. good.matches.expansions i z (at_left d.expansions (y ∷ []) i z at);
         levels = good.matches.levels;
       };
@@ -123,6 +125,7 @@ module _ (types : TypeTable) (d : NamedTrees) (gs hs : List Gate) (k : ℕ) (y :
           gates = more.gives;
           ok = both.value b more.gives ∙ (λ i. one i && two i);
           matches = record {
+            short = matches.short;
             expansions = λ i z at. elim (at_push d.expansions y i z at) [
               | inl old ↦ matches.expansions i z old
               | inr new ↦ subst (λ (u : Expansion). ExpansionHolds b n u) new.1 here

@@ -29,6 +29,10 @@ use Rattle.pp_named_expand.specs.Touched.{IsTouched}
 
 module _ (types : TypeTable) (d d1 d2 : NamedTrees) (gs fs : List Gate) (p : ℕ)
     (touched : IsTouched types d gs d1) (leveled : AddsLevels types d1 gs d2 fs p) where
+  -- names are as long as before
+  pub leveled_low : d2.low ≡ d.low
+  leveled_low = ap (λ (f : NamedTrees). f.low) leveled.is ∙ ap (λ (f : NamedTrees). f.low) touched.is
+
   pub leveled_moves : (n : ℕ) → p ≤ n → Moves named_sense types d gs d2 fs n
   leveled_moves n le =
       Moves_more named_sense types d d1 d2 gs gs fs 0 p n touched.moves leveled.moves (omega arith)
@@ -47,7 +51,8 @@ module _ (types : TypeTable) (d d1 d2 : NamedTrees) (gs fs : List Gate) (p : ℕ
           Moves_more named_sense types d d2 d3 gs hs hs n 0 n before
           (keeps_moves types hs d2 d3 before.fits keeps) (omega arith)
 
-      module _ (of : DataId) (xs ys : List Alternative) (fresh : AreFresh types fs hs of xs) (same : ys ≡ xs)
+      module _ (of : DataId) (xs ys : List Alternative) (fresh : AreFresh types fs hs d2.low of xs)
+          (same : ys ≡ xs)
           (kept : FieldsKept d3.nodes ys) (are : AreGroups (field_table types) d1.groups)
           (levels : DataHasLevels types d2.groups d2.levels of) where
         groups_kept : d3.groups ≡ d1.groups
@@ -63,7 +68,7 @@ module _ (types : TypeTable) (d d1 d2 : NamedTrees) (gs fs : List Gate) (p : ℕ
             let x = leveled.extends n a (touched.good n a good) in
             let fits = leveled.moves.fits in
             let c = fresh.chosen x.next n v x.good.gates sorted
-            (can_hold_fields types n good.admitted.naming of v sorted names) in record {
+            (can_hold_fields d2.low types n x.good.matches.short of v sorted names) in record {
               extended = record {
                 next = c.next;
                 agree = agree_along (length gs) (length fs) a x.next c.next (length-Grows gs fs p leveled.moves.grows).0
@@ -89,9 +94,9 @@ module _ (types : TypeTable) (d d1 d2 : NamedTrees) (gs fs : List Gate) (p : ℕ
           chosen = chosen_holds;
         }
 
-pub named_read : (types : TypeTable) (gs hs : List Gate) (of : DataId) (xs ys : List Alternative)
-    → AreFresh types gs hs of xs → ys ≡ xs → FieldsNamed hs ys
-named_read types gs hs of xs ys fresh same =
+pub named_read : (types : TypeTable) (gs hs : List Gate) (low : ℕ) (of : DataId) (xs ys : List Alternative)
+    → AreFresh types gs hs low of xs → ys ≡ xs → FieldsNamed hs ys
+named_read types gs hs low of xs ys fresh same =
     subst (λ zs. FieldsNamed hs zs) (sym same) (contents_named hs types of xs fresh.fits)
 
 pub room_next : (gs fs : List Gate) (p q most : ℕ) → Grows gs fs p → length gs + (p + q) ≤ most → length fs + q ≤ most

@@ -52,6 +52,7 @@ untouched_groups types d gs groups fits untouched are = record {
     fits = record {
       circuit = fits.circuit;
       ok_of = fits.ok_of;
+      low = fits.low;
       groups = inr are;
       nodes = fits.nodes;
       expansions = fits.expansions;
@@ -70,6 +71,7 @@ untouched_groups types d gs groups fits untouched are = record {
       gates = good.gates;
       ok = good.ok;
       matches = record {
+        short = good.matches.short;
         expansions = good.matches.expansions;
         levels = λ i z at. nothing d.levels i z untouched.levels at;
       };
@@ -82,6 +84,7 @@ untouched_groups types d gs groups fits untouched are = record {
     gates = good.gates;
     ok = good.ok;
     matches = record {
+      short = good.matches.short;
       expansions = good.matches.expansions;
       levels = λ i z at. nothing d.levels i z untouched.levels at;
     };

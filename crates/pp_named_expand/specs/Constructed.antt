@@ -10,6 +10,7 @@ use Rattle.pp_checks.specs.Tables.{field_table}
 use Rattle.pp_bits.specs.Number.{nat_of}
 use Rattle.pp_domain.specs.declared.symbol.Symbol.{Symbol}
 use Rattle.pp_domain.specs.Naming.{Naming}
+use Rattle.pp_domain.specs.Short.{IsShort}
 use Rattle.pp_domain.specs.Sense.{Extended, Good}
 use Rattle.pp_named_trees.specs.declared.arena.Expansion.{Expansion}
 use Rattle.pp_named_trees.specs.declared.arena.NamedTree.{NamedTree}
@@ -30,8 +31,8 @@ pub record NameHas (types : TypeTable) (gs : List Gate) (n : Naming) (a : ℕ �
   pub extended : Extended named_sense types gs n a e hs
   pub number : nat_of extended.next name ≡ k
 
--- no tree was entered; the groups and levels are there; the name is new, can have each number, and is kept; and the
--- contents are the known ones, with trees that are kept
+-- no tree was entered; the groups and levels are there; the name is new, can have each short number, and is kept;
+-- and the contents are the known ones, with trees that are kept
 pub record IsKnownNew (types : TypeTable) (d : NamedTrees) (gs : List Gate) (e : NamedTrees) (hs : List Gate)
     (of : DataId) (c : CtorId) (fields : List (Symbol NamedTree)) (y : Expansion) : Type 0 where
   pub data_of : y.of ≡ of
@@ -43,5 +44,5 @@ pub record IsKnownNew (types : TypeTable) (d : NamedTrees) (gs : List Gate) (e :
   pub node : (h : ℕ) → IsKept e.nodes (record { of = of; height = h; name = y.name })
   pub known : AreKnown types hs of c fields y.alternatives
   pub kept : FieldsKept e.nodes y.alternatives
-  pub chosen : (n : Naming) (a : ℕ → Bool) (k : ℕ) → Good named_sense types d gs n a → k < 2 ^ 32
+  pub chosen : (n : Naming) (a : ℕ → Bool) (k : ℕ) → Good named_sense types d gs n a → IsShort d.low k
       → NameHas types gs n a e hs y.name k

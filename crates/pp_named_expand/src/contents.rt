@@ -33,7 +33,7 @@ pub fn prepare(
 {
     touch(trees, circuit, table)?;
     make_levels(trees, circuit, table, of)?;
-    let alternatives = fresh_contents(circuit, table, of)?;
+    let alternatives = fresh_contents(circuit, trees.low, table, of)?;
     keep_all(trees, circuit, alternatives.as_slice())?;
     Ok(alternatives)
 }

@@ -13,8 +13,8 @@ ghost use Rattle.pp_named_expand.specs.Constructed.{IsKnownNew, known_gates};
 use crate::NoMemory;
 use crate::entry::enter;
 use crate::groups::touch;
-use pp_domain::{Symbol, Symbols};
-use pp_gate::{Circuit, Word};
+use pp_domain::{Symbol, Symbols, short_word};
+use pp_gate::Circuit;
 use pp_named_contents::{keep_all, known_contents};
 use pp_named_instances::make_levels;
 use pp_named_trees::{Expansion, NamedTree, NamedTrees, Node};
@@ -65,8 +65,7 @@ fn known_new(
 {
     touch(trees, circuit, table)?;
     make_levels(trees, circuit, table, of)?;
-    let digits = pp_bits::inputs(circuit, 32)?;
-    let name = Word::from_lits(&digits);
+    let name = short_word(circuit, trees.low)?;
     let alternatives = known_contents(circuit, table, of, ctor, fields)?;
     trees.keep(&Node { of, name })?;
     keep_all(trees, circuit, alternatives.as_slice())?;

@@ -65,6 +65,7 @@ module _ (types : TypeTable) (d : NamedTrees) (gs hs : List Gate) (k : ℕ) (z :
   levelled_fits = record {
     circuit = is;
     ok_of = IsOf_more gs hs k d.ok grows fits.ok_of;
+    low = fits.low;
     groups = inr are;
     nodes = λ i x at. name_later gs hs k grows x.name (fits.nodes i x at);
     expansions = λ i y at. expansion_later gs hs k grows d.nodes types y (fits.expansions i y at);
@@ -92,6 +93,7 @@ module _ (types : TypeTable) (d : NamedTrees) (gs hs : List Gate) (k : ℕ) (z :
       gates = Gives_old gs hs k grows a good.gates;
       ok = good.ok;
       matches = record {
+        short = good.matches.short;
         expansions = good.matches.expansions;
         levels = λ i x at.
             let more = good.matches.levels i x (at_left d.levels (z ∷ []) i x at) in record {
@@ -127,7 +129,7 @@ module _ (types : TypeTable) (d : NamedTrees) (gs hs : List Gate) (k : ℕ) (z :
         good = record {
           gates = pick.gives;
           ok = sym (lit_agree (length gs) a b d.ok fits.ok_of pick.keeps) ∙ good.ok;
-          matches = record { expansions = matches.expansions; levels = λ i x at. all };
+          matches = record { short = matches.short; expansions = matches.expansions; levels = λ i x at. all };
           admitted = good.admitted;
         };
       }

@@ -1,5 +1,5 @@
 -- The naming by ranks names the values of a short list, in an order.
-use Rattle.std.proofs.Common.{◌≡◌, ℕ, zero, suc, ◌+◌, ◌-◌, ◌*◌, ◌%◌, ◌<◌, ◌^◌, Bool, true, false, nat_eq}
+use Rattle.std.proofs.Common.{◌≡◌, ◌⊎◌, ◌≤◌, ℕ, zero, suc, ◌+◌, ◌-◌, ◌*◌, ◌%◌, ◌<◌, ◌^◌, Bool, true, false, nat_eq}
 use Rattle.std.proofs.Common.{cond, inl, inr}
 use Rattle.std.proofs.Common.{if◌then◌else◌, List, [], ◌∷◌, length, Option, Some, None, refl, sym, ap, ◌∙◌, subst}
 use Rattle.std.proofs.Common.{arith}
@@ -14,6 +14,8 @@ use Rattle.pp_prog.specs.declared.types.TypeTable.{TypeTable}
 use Rattle.pp_prog.specs.declared.value.Value.{Value}
 use Rattle.pp_prog.specs.Sorts.{has_sort}
 use Rattle.pp_domain.specs.Naming.{IsNaming, NamesAll, first_of}
+use Rattle.pp_domain.specs.Short.{IsShort}
+use Rattle.pp_named_order.specs.Short.{AreShort}
 use Rattle.pp_named_order.specs.Order.{IsOrder, place}
 use Rattle.pp_named_order.specs.Ranks.{rank, rank_of, first_rank, number, has_number, ranked, group_rank, level}
 use Rattle.pp_named_order.specs.Ranks.{IsOrdered, ListsAreOrdered}
@@ -85,6 +87,17 @@ place_is r f g low first group = elim (cases_lt r f) [
       ∙ kept (2 ^ 31 + r - g) (omega arith)
 ]
 
+-- the number of a value of rank r, where the first of its datatype has rank f
+short_number : (r f n most : ℕ) → r ≤ n → f ≤ n → n < 2 ^ 30 → n < most
+    → ((2 ^ 32 + r - f) % 2 ^ 32 < most) ⊎ ((2 ^ 32 ≤ (2 ^ 32 + r - f) % 2 ^ 32 + most)
+    × ((2 ^ 32 + r - f) % 2 ^ 32 < 2 ^ 32))
+short_number r f n most value first few le = elim (cases_lt r f) [
+  | inl lt ↦
+      let own = kept (2 ^ 32 + r - f) (omega arith) in inr ((omega (arith, own)), (omega (arith, own)))
+  | inr ge ↦
+      let own = wrapped (2 ^ 32 + r - f) (r - f) (omega arith) (omega arith) in inl (omega (arith, own))
+]
+
 module _ (types : TypeTable) (vs : List Value) (few : length vs < 2 ^ 30) where
   rank_low : (v : Value) → rank vs v < 2 ^ 30
   rank_low v = let s = rank_short vs v in omega arith
@@ -135,6 +148,20 @@ module _ (types : TypeTable) (vs : List Value) (few : length vs < 2 ^ 30) where
   number_low : (d : DataId) (v : Value) → number types vs d v < 2 ^ 32
   number_low d v = mod_below (2 ^ 32 + rank vs v - first_rank types vs d) (2 ^ 32) (omega arith)
 
+  some_short : (o : Option Value) → rank_of vs o ≤ length vs
+  some_short None = omega arith
+  some_short (Some v) = rank_short vs v
+
+  -- numbers differ from 0, modulo 2^32, by less than there are values
+  number_short : (low : ℕ) → length vs < 2 ^ low → (d : DataId) (v : Value) → IsShort low (number types vs d v)
+  number_short low most d v =
+      short_number (rank vs v) (first_rank types vs d) (length vs) (2 ^ low) (rank_short vs v)
+      (some_short (first_of types d vs)) few most
+
+  ranked_short : (low : ℕ) → length vs < 2 ^ low → AreShort low (ranked types vs)
+  ranked_short low most d k v h =
+      let t = named_told d k v h in subst (IsShort low) t.1 (number_short low most d v)
+
   ranked_is : IsNaming types (ranked types vs)
   ranked_is = record {
     within = λ d k v h. let t = named_told d k v h in subst (λ n. n < 2 ^ 32) t.1 (number_low d v);
@@ -176,6 +203,7 @@ module _ (types : TypeTable) (vs : List Value) (few : length vs < 2 ^ 30) where
   ordered = record {
     naming = ranked_is;
     names = ranked_names;
+    short = ranked_short;
     order = λ groups. (level types vs groups, ranked_order groups);
   }
 

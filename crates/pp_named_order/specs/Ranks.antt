@@ -13,6 +13,7 @@ use Rattle.pp_eval.specs.Equality.{equal}
 use Rattle.pp_bits.specs.Number.{bit}
 use Rattle.pp_domain.specs.Naming.{Naming, IsNaming, NamesAll, first_of}
 use Rattle.pp_named_order.specs.Order.{IsOrder}
+use Rattle.pp_named_order.specs.Short.{AreShort}
 
 -- the first place of the value in the list
 abbrev pub place_of : Value → List Value → ℕ
@@ -58,10 +59,12 @@ group_rank types vs (Some g) = first_rank types vs (record { 0 = g })
 abbrev pub level : TypeTable → List Value → List ℕ → DataId → ℕ
 level types vs groups d = 2 ^ 31 + first_rank types vs d - group_rank types vs (slice_get groups d.0)
 
--- each short list has a naming that names its values in an order, whatever the groups are
+-- each short list has a naming that names its values in an order, whatever the groups are, by numbers that are as
+-- short as the list is
 pub record IsOrdered (types : TypeTable) (vs : List Value) (n : Naming) : Type 0 where
   pub naming : IsNaming types n
   pub names : NamesAll types n vs
+  pub short : (low : ℕ) → length vs < 2 ^ low → AreShort low n
   pub order : (groups : List ℕ) → (l : DataId → ℕ) × IsOrder groups n l
 
 abbrev pub ListsAreOrdered : Type 0

@@ -1,5 +1,5 @@
 -- What the calls on names answer.
-use Rattle.std.proofs.Common.{◌≡◌, ℕ, ◌*◌, ◌≤◌, ◌<◌, ◌^◌, max, ◌==◌, Bool, true, false, if◌then◌else◌, List}
+use Rattle.std.proofs.Common.{◌≡◌, ℕ, ◌*◌, ◌≤◌, max, ◌==◌, Bool, true, false, if◌then◌else◌, List}
 use Rattle.std.proofs.Common.{length, refl, sym}
 use Rattle.std.proofs.Common.{ap, ◌∙◌, subst, Some, arith}
 use Rattle.std.proofs.lemmas.Bool.{eqb-true, eq-eqb}
@@ -9,13 +9,13 @@ use Rattle.pp_prog.specs.declared.types.TypeTable.{TypeTable}
 use Rattle.pp_prog.specs.declared.value.Value.{Value}
 use Rattle.pp_clause.specs.Literal.{Literal, lit_value}
 use Rattle.pp_gate.specs.declared.gate.Gate.{Gate}
-use Rattle.pp_gate.specs.Circuit.{Gives, IsCircuit, StandsFor}
+use Rattle.pp_gate.specs.Circuit.{IsCircuit, StandsFor}
 use Rattle.pp_gate.specs.Growth.{AddsGates, Grows}
 use Rattle.pp_gate.proofs.Agreement.{lit_agree}
-use Rattle.pp_bits.specs.Inputs.{AreInputs, ChosenNumber}
 use Rattle.pp_bits.specs.Number.{nat_of, StandsForNumber}
 use Rattle.pp_domain.specs.Answers.{AreOfOneData, IsEquality, IsMerge, IsUnknown}
 use Rattle.pp_domain.specs.Naming.{Naming}
+use Rattle.pp_domain.specs.Short.{IsShortWord}
 use Rattle.pp_domain.specs.Sense.{Extended, Good}
 use Rattle.pp_domain.specs.Moves.{Moves}
 use Rattle.pp_domain.proofs.AnySort.{Moves_gates}
@@ -33,19 +33,18 @@ use Rattle.pp_named_trees.proofs.Lawful.{named_lawful}
 never : {X : Type 0} → false ≡ true → X
 never e = cc
 
-pub unknown_is : (types : TypeTable) (d : NamedTrees) (gs hs : List Gate) (of : DataId) (h : ℕ) (ls name : List Literal)
-    → NamedFits types d gs → Grows gs hs 32 → IsCircuit hs → AreInputs gs hs 32 ls
-    → ((s : ℕ → Bool) → Gives s gs → (v : ℕ) → v < 2 ^ 32 → ChosenNumber gs hs s ls v) → name ≡ ls
+pub unknown_is : (types : TypeTable) (d : NamedTrees) (gs hs : List Gate) (of : DataId) (h : ℕ) (name : List Literal)
+    → NamedFits types d gs → Grows gs hs 32 → IsCircuit hs → IsShortWord gs hs d.low name
     → IsUnknown named_sense types d gs (with_node d (record { of = of; name = name })) hs
     (record { of = of; height = h; name = name }) of h
-unknown_is types d gs hs of h ls name fits grows is inputs chosen same = record {
+unknown_is types d gs hs of h name fits grows is word = record {
   node = node_kept types d gs hs 32 (record { of = of; name = name }) fits grows is named h;
   data_of = refl;
   height = refl;
   chosen = λ n a v good sorted low has.
       let at = has refl in
-      let low = (named_lawful.naming types n good.admitted).within of at.number v at.is in
-      let pick = chosen a good.gates at.number low in (
+      let short = good.matches.short of at.number v at.is in
+      let pick = word.chosen a good.gates at.number short in (
         record {
           next = pick.assignment;
           agree = pick.keeps;
@@ -57,14 +56,14 @@ unknown_is types d gs hs of h ls name fits grows is inputs chosen same = record 
             admitted = good.admitted;
           };
         },
-        ap (λ (k : ℕ). n of k) (ap (nat_of pick.assignment) same ∙ pick.number) ∙ at.is,
+        ap (λ (k : ℕ). n of k) pick.number ∙ at.is,
       );
   bounded = λ exact. never exact;
   nothing = λ exact. never exact;
 }
   where
     named : IsName hs name
-    named = subst (λ l. IsName hs l) (sym same) (record { len = inputs.len; of = inputs.of })
+    named = record { len = word.len; of = word.of }
 
 -- a good assignment goes on over gates alone
 pub Extended_kept : (types : TypeTable) (d : NamedTrees) (gs hs : List Gate) (k : ℕ) (x : Node) (n : Naming)
@@ -194,11 +193,10 @@ merge_at types d e gs hs choice left right h ls name fits trees adds stands same
     (merge_is types d gs hs choice left right h ls name fits trees adds stands same high)
 
 pub unknown_at : (types : TypeTable) (d e : NamedTrees) (gs hs : List Gate) (of : DataId) (h g : ℕ)
-    (ls name : List Literal) → NamedFits types d gs → Grows gs hs 32 → IsCircuit hs → AreInputs gs hs 32 ls
-    → ((s : ℕ → Bool) → Gives s gs → (v : ℕ) → v < 2 ^ 32 → ChosenNumber gs hs s ls v) → name ≡ ls → g ≡ h
-    → e ≡ with_node d (record { of = of; name = name })
+    (name : List Literal) → NamedFits types d gs → Grows gs hs 32 → IsCircuit hs → IsShortWord gs hs d.low name
+    → g ≡ h → e ≡ with_node d (record { of = of; name = name })
     → IsUnknown named_sense types d gs e hs (record { of = of; height = g; name = name }) of h
-unknown_at types d e gs hs of h g ls name fits grows is inputs chosen same high kept =
+unknown_at types d e gs hs of h g name fits grows is word high kept =
     subst (λ (f : NamedTrees). IsUnknown named_sense types d gs f hs (record {
       of = of;
       height = g;
@@ -209,4 +207,4 @@ unknown_at types d e gs hs of h g ls name fits grows is inputs chosen same high 
       height = k;
       name = name;
     }) of h) (sym high)
-    (unknown_is types d gs hs of h ls name fits grows is inputs chosen same))
+    (unknown_is types d gs hs of h name fits grows is word))

@@ -86,6 +86,7 @@ module _ (types : TypeTable) (d : NamedTrees) (gs hs : List Gate) (k : ℕ) (x :
   fits_kept = record {
     circuit = is;
     ok_of = IsOf_more gs hs k d.ok grows fits.ok_of;
+    low = fits.low;
     groups = groups_kept fits.groups;
     nodes = λ i y at. elim (at_push d.nodes x i y at) [
       | inl old ↦ name_later gs hs k grows y.name (fits.nodes i y old)
@@ -115,7 +116,11 @@ module _ (types : TypeTable) (d : NamedTrees) (gs hs : List Gate) (k : ℕ) (x :
     back = λ n a good. record {
       gates = Gives_old gs hs k grows a good.gates;
       ok = good.ok;
-      matches = record { expansions = good.matches.expansions; levels = good.matches.levels };
+      matches = record {
+        short = good.matches.short;
+        expansions = good.matches.expansions;
+        levels = good.matches.levels;
+      };
       admitted = good.admitted;
     };
   }
@@ -130,7 +135,8 @@ module _ (types : TypeTable) (d : NamedTrees) (gs hs : List Gate) (k : ℕ) (x :
   }
 
   pub matches_kept : (a : ℕ → Bool) (n : Naming) → NamedMatches d a n → NamedMatches (with_node d x) a n
-  matches_kept a n matches = record { expansions = matches.expansions; levels = matches.levels }
+  matches_kept a n matches =
+      record { short = matches.short; expansions = matches.expansions; levels = matches.levels }
 
   pub SameLooks_kept : SameLooks named_sense d (with_node d x)
   SameLooks_kept = record { looks = refl; compares = refl }

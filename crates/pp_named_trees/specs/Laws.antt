@@ -1,7 +1,8 @@
 -- The laws of the domain of named trees. (own)
-use Rattle.std.specs.Prelude.{◌≡◌, ℕ, Bool, true, false, List, [], ◌∷◌, length, Some, slice_get}
+use Rattle.std.specs.Prelude.{◌≡◌, ◌<◌, ◌≤◌, ◌^◌, min, ℕ, Bool, true, false, List, [], ◌∷◌, length, Some, slice_get}
 use Rattle.std.specs.Int.{w32}
-use Rattle.std.proofs.Common.{sym, ap, ◌∙◌}
+use Rattle.std.proofs.Common.{sym, ap, ◌∙◌, arith}
+use Rattle.std.proofs.Math.Pow.{pow_mono}
 use Rattle.std.proofs.lemmas.Option.{same_Some}
 use Rattle.pp_prog.specs.declared.sort.Sort.{Sort}
 use Rattle.pp_prog.specs.declared.sort.Sort.TheVariants as sort
@@ -142,11 +143,15 @@ module _ (gs : List Gate) (a b : ℕ → Bool) (agree : AgreeUpTo (length gs) a 
 pub matches_agree : (types : TypeTable) (d : NamedTrees) (gs : List Gate) (n : Naming) (a b : ℕ → Bool)
     → NamedFits types d gs → AgreeUpTo (length gs) a b → NamedMatches d a n → NamedMatches d b n
 matches_agree types d gs n a b fits agree matches = record {
+  short = matches.short;
   expansions = λ i y at.
       expansion_agree gs a b agree n d.nodes fits.nodes types y (fits.expansions i y at) (matches.expansions i y at);
   levels = λ i z at.
       levels_agree gs a b agree n d.nodes fits.nodes d.groups d.levels fits.levels (matches.levels i z at);
 }
+
+fewer : (n low high : ℕ) → n < 2 ^ low → low ≤ high → n < 2 ^ high
+fewer n low high few most = let le = pow_mono {i = low} {j = high} most in omega (arith, few, le)
 
 never : {X : Type 0} → false ≡ true → X
 never e = cc
@@ -158,6 +163,7 @@ named_laws = record {
   grows = λ types d gs hs n fits grows is. record {
     circuit = is;
     ok_of = IsOf_more gs hs n d.ok grows fits.ok_of;
+    low = fits.low;
     groups = fits.groups;
     nodes = λ i x at. name_later gs hs n grows x.name (fits.nodes i x at);
     expansions = λ i y at. expansion_later gs hs n grows d.nodes types y (fits.expansions i y at);
@@ -170,10 +176,11 @@ named_laws = record {
   decided = λ exact d n k a t v is. never exact;
   single = λ types d gs n a t v w fits good node one other. same_Some v w (sym one ∙ other);
   naming = λ types n is. is.naming;
-  names = λ types vs few.
-      let all = lists_are_ordered types vs few in record {
+  names = λ types d gs fits vs few.
+      let all = lists_are_ordered types vs (fewer (length vs) (min d.low 30) 30 few (omega arith)) in record {
         naming = ranked types vs;
         admitted = record { naming = all.naming; order = λ groups are. all.order groups };
+        reaches = all.short d.low (fewer (length vs) (min d.low 30) d.low few (omega arith));
         names = all.names;
       };
 }

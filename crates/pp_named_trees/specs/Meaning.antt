@@ -1,5 +1,5 @@
 -- What the domain of named trees means. (own)
-use Rattle.std.specs.Prelude.{◌≡◌, ◌⊎◌, ℕ, Bool, true, false, List, [], Some, slice_get}
+use Rattle.std.specs.Prelude.{◌≡◌, ◌⊎◌, ◌≤◌, ◌^◌, min, ℕ, Bool, true, false, List, [], Some, slice_get}
 use Rattle.pp_prog.specs.declared.id.DataId.{DataId}
 use Rattle.pp_prog.specs.declared.types.TypeTable.{TypeTable}
 use Rattle.pp_clause.specs.Literal.{lit_value}
@@ -11,6 +11,7 @@ use Rattle.pp_domain.specs.Naming.{Naming, IsNaming}
 use Rattle.pp_domain.specs.Sense.{Sense}
 use Rattle.pp_checks.specs.Tables.{field_table}
 use Rattle.pp_named_order.specs.Order.{IsOrder}
+use Rattle.pp_named_order.specs.Short.{AreShort}
 use Rattle.pp_named_trees.specs.declared.arena.Level.{Level}
 use Rattle.pp_named_trees.specs.declared.arena.Expansion.{Expansion}
 use Rattle.pp_named_trees.specs.declared.arena.NamedTree.{NamedTree}
@@ -29,6 +30,7 @@ pub record IsUntouched (d : NamedTrees) : Type 0 where
 pub record NamedFits (types : TypeTable) (d : NamedTrees) (gs : List Gate) : Type 0 where
   pub circuit : IsCircuit gs
   pub ok_of : IsOf gs d.ok
+  pub low : d.low ≤ 31
   pub groups : IsUntouched d ⊎ AreGroups (field_table types) d.groups
   pub nodes : (i : ℕ) (x : Node) → slice_get d.nodes i ≡ Some x → IsName gs x.name
   pub expansions : (i : ℕ) (y : Expansion) → slice_get d.expansions i ≡ Some y → ExpansionFits gs d.nodes types y
@@ -41,6 +43,7 @@ pub record NamedAdmits (types : TypeTable) (n : Naming) : Type 0 where
   pub order : (groups : List ℕ) → AreGroups (field_table types) groups → (level : DataId → ℕ) × IsOrder groups n level
 
 pub record NamedMatches (d : NamedTrees) (a : ℕ → Bool) (n : Naming) : Type 0 where
+  pub short : AreShort d.low n
   pub expansions : (i : ℕ) (y : Expansion) → slice_get d.expansions i ≡ Some y → ExpansionHolds a n y
   pub levels : (i : ℕ) (z : Level) → slice_get d.levels i ≡ Some z → LevelsHold a n d.groups d.levels
 
@@ -55,6 +58,8 @@ named_sense = record {
   looks = λ d. looked d.expansions;
   compares = λ d. 0;
   ok = λ d. d.ok;
+  limit = λ d. 2 ^ min d.low 30;
+  Reaches = λ d n. AreShort d.low n;
   Admits = NamedAdmits;
   Matches = NamedMatches;
   Stands = λ d a n t v. n t.of (nat_of a t.name) ≡ Some v;

@@ -34,8 +34,8 @@ module _ (p : Program) (c : CheckId) (round depth : ℕ) (q : Question Trees Bou
     abbrev pub IsModelOf : (ℕ → Bool) → Type 0
     IsModelOf a = IsFailing q.circuit q.frame.fails q.frame.circuit_ok a
 
-    some_naming : AdmittedFor bounded_sense p.types []
-    some_naming = bounded_laws.names p.types [] (omega arith)
+    some_naming : AdmittedFor bounded_sense p.types q.domain []
+    some_naming = bounded_laws.names p.types q.domain q.circuit is.fits [] (omega arith)
 
     run_frame : IsFrame bounded_sense p c round depth q.domain q.circuit q.frame
     run_frame = is.run refl

@@ -1,6 +1,6 @@
 -- A constructor has no more fields than its datatype is wide.
-use Rattle.std.proofs.Common.{◌≡◌, ℕ, zero, suc, ◌+◌, ◌-◌, ◌<◌, ◌≤◌, nat_le, nat_lt, Bool, true, false, List, [], ◌∷◌}
-use Rattle.std.proofs.Common.{◌++◌, drop, take, length, map, Option, None, Some, refl, sym, ap, ◌∙◌, subst, arith}
+use Rattle.std.proofs.Common.{◌≡◌, ℕ, zero, suc, ◌+◌, ◌-◌, ◌<◌, ◌≤◌, nat_le, nat_lt, true, List, [], ◌∷◌}
+use Rattle.std.proofs.Common.{◌++◌, drop, take, length, map, Option, None, Some, refl, ap, ◌∙◌, subst, arith}
 use Rattle.std.specs.Prelude.{slice_get, sum}
 use Rattle.std.proofs.lemmas.Bool.{and_parts, leb-true, ltb-true}
 use Rattle.std.proofs.lemmas.List.{map-append}
@@ -13,7 +13,7 @@ use Rattle.pp_prog.specs.declared.types.Datatype.{Datatype}
 use Rattle.pp_prog.specs.declared.types.TypeTable.{TypeTable}
 use Rattle.pp_prog.specs.Calls.{joined}
 use Rattle.pp_prog.specs.Sizes.{ctors_in, ctors_of, flat, sorts_in_ctor, width}
-use Rattle.pp_prog.specs.Table.{in_block, in_block_of}
+use Rattle.pp_prog.specs.Table.{in_block_of}
 use Rattle.pp_build.proofs.StepLists.{dropped_at}
 
 taken_at : {X : Type 0} (xs : List X) (n i : ℕ) (x : X) → slice_get xs i ≡ Some x → i < n

@@ -1,6 +1,6 @@
 -- The frame of a guess run: where one fails the check, some assignment says so.
 use Rattle.std.proofs.Common.{◌≡◌, ◌≤◌, ◌<◌, ℕ, zero, suc, ◌+◌, ◌*◌, ◌^◌, List, [], ◌∷◌}
-use Rattle.std.proofs.Common.{length, map, Bool, true, false, ◌&&◌, Some, refl, sym, ap}
+use Rattle.std.proofs.Common.{length, Bool, true, false, ◌&&◌, Some, refl, sym, ap}
 use Rattle.std.proofs.Common.{◌∙◌, subst, arith}
 use Rattle.std.specs.Prelude.{slice_get}
 use Rattle.std.specs.List.{sum_by}
@@ -27,7 +27,7 @@ use Rattle.pp_domain.specs.Answers.{Fresh}
 use Rattle.pp_domain.specs.Laws.{Lawful}
 use Rattle.pp_domain.specs.Moves.{Moves}
 use Rattle.pp_domain.specs.Sense.{Sense}
-use Rattle.pp_domain.proofs.Composition.{Moves_weaker}
+use Rattle.pp_domain.proofs.Composition.{Moves_more}
 use Rattle.pp_steps.specs.declared.step.Step.{Step}
 use Rattle.pp_steps.specs.Guesses.{GuessSteps, guess_steps}
 use Rattle.pp_steps.specs.Meaning.{Does, Missing, Obeys, Values}
@@ -43,12 +43,13 @@ use Rattle.pp_guess_values.proofs.Named.{failing_guess_is_named}
 use Rattle.pp_build.specs.Followed.{CanFollowAll}
 use Rattle.pp_symbolic.specs.declared.frame.Frame.{Frame}
 use Rattle.pp_symbolic.specs.Frame.{IsGuessFrame, IsModel, IsOwner}
+use Rattle.pp_symbolic.specs.Naming.{more_than_named}
 use Rattle.pp_symbolic.specs.Guessed.{CanGuess, IsGuessed, all_bits, guess_gates}
 use Rattle.pp_symbolic.proofs.GuessArguments.{enough_steps}
 use Rattle.pp_symbolic.proofs.GuessFollows.{goes_true}
 use Rattle.pp_symbolic.proofs.GuessWords.{word_model_fails}
-use Rattle.pp_symbolic.proofs.FlatFields.{fields_flat}
 use Rattle.pp_symbolic.proofs.GuessGates.{names_paid}
+use Rattle.pp_symbolic.proofs.Names.{names_short}
 use Rattle.pp_symbolic.proofs.RunFrame.{first_good}
 use Rattle.pp_list.proofs.Lists.{no_item}
 
@@ -130,15 +131,16 @@ module _ {D T : Type 0} (m : Sense D T) (law : Lawful m) (inexact : m.exact ≡ 
       pub can_guess : Can g
       can_guess = subst Can (sym is) can_steps
 
-      -- what they leave is at most the estimate
-      pub guess_moves : (e : D) (hs : List Gate)
+      -- what they leave is at most the estimate, also from before the domain was told of a limit
+      pub guess_moves : (before : D) → Moves m p.types before gs d gs 0 → (e : D) (hs : List Gate)
           → ((can : Can g) → Moves m p.types d gs e hs (guess_gates p.types can.have.sorts g))
-          → Moves m p.types d gs e hs most
+          → Moves m p.types before gs e hs most
       unfolding can_steps
-      guess_moves e hs moves =
+      guess_moves before told e hs moves =
           let left : (can : Can G) → Moves m p.types d gs e hs (guess_gates p.types can.have.sorts G) =
           subst (λ x. (can : Can x) → Moves m p.types d gs e hs (guess_gates p.types can.have.sorts x)) is moves in
-          Moves_weaker m p.types d e gs hs (guess_gates p.types have.sorts G) most (left can_steps) few_gates
+          Moves_more m p.types before d e gs gs hs 0 (guess_gates p.types have.sorts G) most told (left can_steps)
+          (let few = few_gates in omega arith)
 
       pub guess_size : (e : D) (hs : List Gate)
           → ((can : Can g) → Moves m p.types d gs e hs (guess_gates p.types can.have.sorts g)) → length hs ≤ most
@@ -153,16 +155,16 @@ module _ {D T : Type 0} (m : Sense D T) (law : Lawful m) (inexact : m.exact ≡ 
 
       module _ (e : D) (hs : List Gate) (frame : Frame T)
           (evaluated : (can : Can g) → IsGuessed m p.types d gs g can.have.sorts e hs frame)
+          (enough : more_than_named p.types G.steps ≤ m.limit d)
         where
-          short : IsShort p.types have.sorts G.steps
-          short = record {
-            most = flat p.types;
-            fields = λ k ctor at. fields_flat p.types k.0 ctor at;
-            few = few_names (length G.steps) (sum_by (fields_at (flat p.types) have.sorts) (all_looked_at G.steps))
-                (round_gates p.types have.sorts [] 0 0 G.steps) (length G.supposed)
-                (single p.types p.functions f round 1) most fits.steps fits.gates
-                (names_paid p.types have.sorts G.steps) single_most small;
-          }
+          few : 2 * length G.steps + sum_by (fields_at (flat p.types) have.sorts) (all_looked_at G.steps) < 2 ^ 30
+          few = few_names (length G.steps) (sum_by (fields_at (flat p.types) have.sorts) (all_looked_at G.steps))
+              (round_gates p.types have.sorts [] 0 0 G.steps) (length G.supposed)
+              (single p.types p.functions f round 1) most fits.steps fits.gates
+              (names_paid p.types have.sorts G.steps) single_most small
+
+          short : IsShort p.types have.sorts G.steps (m.limit d)
+          short = names_short p.types have.sorts G.steps (m.limit d) few enough
 
           can : Can G
           can = can_steps
@@ -171,11 +173,12 @@ module _ {D T : Type 0} (m : Sense D T) (law : Lawful m) (inexact : m.exact ≡ 
           ev = subst (λ x. (k : Can x) → IsGuessed m p.types d gs x k.have.sorts e hs frame) is evaluated can
 
           -- values with a naming give an assignment
-          model : IsNamedGuess m p f c round can.have.sorts → (a : ℕ → Bool) × IsModel m p c round e hs frame a
+          model : IsNamedGuess m d p f c round can.have.sorts → (a : ℕ → Bool) × IsModel m p c round e hs frame a
           model v =
               let follow : CanFollowAll m p.types d gs [] G.steps can.have.sorts v.naming (λ x. true) v.values v.missing
               = record {
-                good = first_good m p d gs law fresh one v.naming v.admitted;
+                good = first_good m p d gs law fresh one v.naming v.admitted
+                    (fresh.matches (λ x. true) v.naming v.reaches);
                 stand = λ k x at. absurd (no_item k x at);
                 are = v.are;
                 looked = λ k s le at. v.looked k s at;
@@ -202,12 +205,12 @@ module _ {D T : Type 0} (m : Sense D T) (law : Lawful m) (inexact : m.exact ≡ 
                 (sym (ev.ok.value a gives) ∙ holds);
             found = λ i check fails.
                 let number : i ≡ own.number = same_owner p i own.number c.0 check own.owner in
-                ∥∥₁_map (failing_guess_is_named m law p own.number f own.here c round
+                ∥∥₁_map (failing_guess_is_named m p d (law.names p.types d gs fresh.fits) own.number f own.here c round
                 (subst (λ j. GuessFails p j c round) number fails) can.have short) model;
             words = λ i check is_word a says.
                 let number : i ≡ own.number = same_owner p i own.number c.0 check own.owner in
                 subst (λ j. GuessFails p j c round) (sym number)
                 (word_model_fails m law p own.number
                 (subst (λ j. IsWordFunction p.types p.functions j) number is_word) f own.here c round can.have d gs
-                fresh e hs frame ev a says);
+                fresh (omega (arith, enough)) e hs frame ev a says);
           }

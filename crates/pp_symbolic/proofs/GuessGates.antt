@@ -1,11 +1,7 @@
 -- The steps of a guess run take no more gates than their measure says, in a domain that isn't exact; and what has to be
 -- named is paid by it.
-use Rattle.std.proofs.lemmas.List.{map-append}
-use Rattle.std.proofs.lemmas.Bool.{and_parts}
-use Rattle.std.specs.Prelude.{sum}
 use Rattle.std.proofs.Common.{◌≡◌, ℕ, suc, ◌+◌, ◌*◌, ◌≤◌, max, min, nat_eq, Bool, true, false, ◌||◌, if◌then◌else◌}
-use Rattle.std.proofs.Common.{List, [], ◌∷◌, ◌++◌, take, length, refl, sym, ap, ◌∙◌, subst, arith}
-use Rattle.std.proofs.Common.{zero, ◌<◌, ◌^◌, nat_le, nat_lt, drop, map, Option, None, Some, slice_get}
+use Rattle.std.proofs.Common.{List, [], ◌∷◌, ◌++◌, length, refl, sym, ap, ◌∙◌, subst, arith}
 use Rattle.std.specs.List.{sum_by}
 use Rattle.std.proofs.lemmas.List.Sums.{sum_by-append, sum_by-cons}
 use Rattle.pp_operators.specs.declared.class.OperatorClass.{OperatorClass}
@@ -15,7 +11,7 @@ use Rattle.pp_prog.specs.declared.id.DataId.{DataId}
 use Rattle.pp_prog.specs.declared.sort.Sort.{Sort}
 use Rattle.pp_prog.specs.declared.sort.Sort.TheVariants as sort
 use Rattle.pp_prog.specs.declared.types.TypeTable.{TypeTable}
-use Rattle.pp_prog.specs.Sizes.{bits, by_sort, flat, width, nodes}
+use Rattle.pp_prog.specs.Sizes.{bits, by_sort, flat, width}
 use Rattle.pp_domain.specs.Allowance.{bits_at, equality_gates, look_gates, nodes_at, times}
 use Rattle.pp_domain.specs.Sense.{Sense}
 use Rattle.pp_steps.specs.declared.step.Step.{Step}

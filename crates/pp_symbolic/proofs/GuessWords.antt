@@ -1,7 +1,7 @@
 -- In a word function an assignment that says that the check fails is that of a guess run that fails it: the values
 -- are those of the registers.
-use Rattle.std.proofs.Common.{◌≡◌, ℕ, List, [], ◌∷◌, length, Bool, true, Option, None, Some, refl, sym}
-use Rattle.std.proofs.Common.{◌∙◌, subst, arith}
+use Rattle.std.proofs.Common.{◌≡◌, ◌<◌, ℕ, List, [], ◌∷◌, length, Bool, true, Option, None, Some, refl, sym}
+use Rattle.std.proofs.Common.{◌∙◌, subst}
 use Rattle.std.proofs.lemmas.Bool.{and_parts}
 use Rattle.std.specs.Prelude.{slice_get}
 use Rattle.pp_prog.specs.declared.expr.Function.{Function}
@@ -44,7 +44,8 @@ module _ {D T : Type 0} (m : Sense D T) (e : D) (hs : List Gate) (a : ℕ → Bo
 module _ {D T : Type 0} (m : Sense D T) (law : Lawful m) (p : Program) (i : ℕ)
     (words : IsWordFunction p.types p.functions i) (f : Function) (here : slice_get p.functions i ≡ Some f)
     (c : CheckId) (n : ℕ) (run : HaveGuessSorts p.types (guess_steps p.functions f c n) (param_sorts f.params))
-    (d : D) (gs : List Gate) (fresh : Fresh m p.types d gs) (e : D) (hs : List Gate) (frame : Frame T)
+    (d : D) (gs : List Gate) (fresh : Fresh m p.types d gs) (has_names : 0 < m.limit d) (e : D)
+    (hs : List Gate) (frame : Frame T)
     (is : IsGuessed m p.types d gs (guess_steps p.functions f c n) run.sorts e hs frame)
     (a : ℕ → Bool) (model : IsModel m p c n e hs frame a)
   where
@@ -56,14 +57,14 @@ module _ {D T : Type 0} (m : Sense D T) (law : Lawful m) (p : Program) (i : ℕ)
         and_parts (lit_value a (m.ok e)) (all_bits a is.registers (guess_steps p.functions f c n).supposed)
         (sym (is.ok.value a model.gates) ∙ model.ok)
 
-    some : AdmittedFor m p.types []
-    some = law.names p.types [] (omega arith)
+    some : AdmittedFor m p.types d []
+    some = law.names p.types d gs fresh.fits [] has_names
 
     good : Good m p.types e is.before some.naming a
     good = record {
       gates = Gives_old is.before hs (length (guess_steps p.functions f c n).supposed) is.joined.grows a model.gates;
       ok = holds.0;
-      matches = subst (λ x. m.Matches x a some.naming) (sym same) (fresh.matches a some.naming);
+      matches = subst (λ x. m.Matches x a some.naming) (sym same) (fresh.matches a some.naming some.reaches);
       admitted = some.admitted;
     }
 

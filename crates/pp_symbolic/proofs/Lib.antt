@@ -9,6 +9,7 @@ mod GuessWords
 mod WordRegisters
 mod FlatFields
 mod GuessGates
+mod Names
 mod Owners
 mod RunFrame
 mod Ready

@@ -60,11 +60,11 @@ module _ {D T : Type 0} (m : Sense D T) (p : Program) (d : D) (gs : List Gate) (
           ap (λ h. gate_value (λ x. true) h) constant;
     }
 
-    pub first_good : (n : Naming) → m.Admits p.types n → Good m p.types d gs n (λ x. true)
-    first_good n admitted = record {
+    pub first_good : (n : Naming) → m.Admits p.types n → m.Matches d (λ x. true) n → Good m p.types d gs n (λ x. true)
+    first_good n admitted matches = record {
       gates = first_gives;
       ok = ap (λ l. lit_value (λ x. true) l) fresh.ok;
-      matches = fresh.matches (λ x. true) n;
+      matches = matches;
       admitted = admitted;
     }
 
@@ -81,7 +81,8 @@ FollowRun p c round f new next =
     (run_steps p.functions f c round).steps new ρ
 
 module _ {D T : Type 0} (m : Sense D T) (p : Program) (c : CheckId) (round depth : ℕ) (d : D) (gs : List Gate)
-    (e : D) (hs : List Gate) (frame : Frame T) (law : Lawful m) (fresh : Fresh m p.types d gs) (one : length gs ≡ 1)
+    (e : D) (hs : List Gate) (frame : Frame T) (law : Lawful m) (exact : m.exact ≡ true)
+    (fresh : Fresh m p.types d gs) (one : length gs ≡ 1)
     (told : TellRuns) (exist : RunsExist) (i : ℕ) (f : Function) (here : slice_get p.functions i ≡ Some f)
     (new : List Step) (next : ℕ) (follow : FollowRun p c round f new next) (σ : Sorts)
     (ev : IsEvaluated m p.types d gs (param_sorts f.params) depth new next σ e hs frame)
@@ -124,7 +125,8 @@ module _ {D T : Type 0} (m : Sense D T) (p : Program) (c : CheckId) (round depth
     stood_for : (n : Naming) → m.Admits p.types n → (args : List Value) → IsCalled p i f args → AreLow depth args
         → AreStoodFor m p c round depth e hs frame i f n args
     stood_for n admitted args called low =
-        let x = ev.chosen n (λ y. true) args (first_good m p d gs law fresh one n admitted)
+        let x = ev.chosen n (λ y. true) args (first_good m p d gs law fresh one n admitted
+        (law.fitting exact d n (λ y. true)))
         (record { sorted = called.arguments; low = low }) in
         record {
           assignment = x.0.next;

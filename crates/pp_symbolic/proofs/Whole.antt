@@ -1,6 +1,6 @@
 -- The evaluation as a whole: from the steps that were written to the frame's meaning.
-use Rattle.std.proofs.Common.{◌≡◌, ℕ, ◌+◌, ◌-◌, ◌≤◌, ◌<◌, ◌^◌, List, length, Result, Ok, Err, IfOk, OnOk, sym}
-use Rattle.std.proofs.Common.{subst, arith}
+use Rattle.std.proofs.Common.{◌≡◌, ℕ, ◌+◌, ◌-◌, ◌≤◌, ◌<◌, ◌^◌, true, List, length, Result, Ok, Err, IfOk, OnOk}
+use Rattle.std.proofs.Common.{sym, subst, arith}
 use Rattle.pp_prog.specs.declared.expr.Function.{Function}
 use Rattle.pp_prog.specs.declared.id.CheckId.{CheckId}
 use Rattle.pp_prog.specs.declared.program.Program.{Program}
@@ -43,7 +43,7 @@ less_all e = omega arith
 size_after : (g h e : ℕ) → g ≡ 1 → 1 ≤ e → h ≤ g + (e - 1) → h ≤ e
 size_after g h e one some grown = omega arith
 
-module _ {D T : Type 0} (m : Sense D T) (law : Lawful m) (p : Program) (plan : Plan)
+module _ {D T : Type 0} (m : Sense D T) (law : Lawful m) (exact : m.exact ≡ true) (p : Program) (plan : Plan)
     (is_plan : IsPlanOf plan p) (c : CheckId) (f : Function) (own : IsOwner p c f) (round depth : ℕ)
     (some : 1 ≤ depth) (small : estimate p.types p.functions p.checks c.0 round depth ≤ 4000000)
     (r : Run) (is : IsRunOf (run_steps p.functions f c round) r) (few : length r.steps < 2 ^ 32)
@@ -134,8 +134,8 @@ module _ {D T : Type 0} (m : Sense D T) (law : Lawful m) (p : Program) (plan : P
               let at_name = subst (λ ss. Evaluates frame (name_in ss asked)) is.steps
               (subst (λ j. Evaluates frame (name_in r.steps j)) is.fails
               (subst (λ j. Evaluates frame j) is_next (evaluates (most - 1) can_new))) in
-              is_frame m p c round depth d gs e hs frame law fresh one tell_runs runs_exist own.number f own.here new
-              name follow can_new.sorts at_name own.owner
+              is_frame m p c round depth d gs e hs frame law exact fresh one tell_runs runs_exist own.number f own.here
+              new name follow can_new.sorts at_name own.owner
 
 -- ---- facts of results
 

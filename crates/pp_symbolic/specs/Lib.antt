@@ -1,3 +1,4 @@
 pub mod Frame
 pub mod Evaluated
 pub mod Guessed
+pub mod Naming

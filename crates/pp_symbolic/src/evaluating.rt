@@ -3,7 +3,7 @@
 ghost use Rattle.std.specs.Prelude.{◌≡◌, ◌<◌, ◌≤◌, IfOk, OnOk, length};
 ghost use Rattle.pp_limits.specs.declared.TheConstants.{DEPTH, GATES, ROUNDS};
 ghost use Rattle.pp_checks.specs.Plan.{IsPlanOf};
-ghost use Rattle.pp_domain.specs.Answers.{Fresh};
+ghost use Rattle.pp_domain.specs.Answers.{IsNew};
 ghost use Rattle.pp_domain.specs.Moves.{Moves};
 ghost use Rattle.pp_estimate.specs.Estimates.{estimate};
 ghost use Rattle.pp_symbolic.specs.Frame.{IsFrame, IsGuessFrame, Suits};
@@ -19,7 +19,7 @@ use pp_gate::Circuit;
 use pp_prog::{CheckId, Program};
 use std::alloc::Global;
 
-/// The circuit of a round of a check, over a fresh domain and a circuit without inputs and gates: in mode `Real` that
+/// The circuit of a round of a check, over a new domain and a circuit without inputs and gates: in mode `Real` that
 /// of the run of the check's function with the round as its fuel, on arguments up to the depth, over an exact domain;
 /// in mode `Guess` that of its guess runs of the round, on arguments of any height, over a domain that isn't exact.
 /// What the circuit gets, its constant included, is at most the estimate of the round. After want of memory, the only
@@ -36,7 +36,7 @@ pub fn symbolic<D: Domain>(
     depth: u32,
 ) -> Result<Frame<D::Tree>, NoMemory>
     requires mode { Suits D.sense mode }
-    requires fresh { Fresh D.sense program.now.types domain.old circuit.old }
+    requires fresh { IsNew D.sense program.now.types domain.old circuit.old }
     requires empty { length circuit.old ≡ 1 }
     requires plan { IsPlanOf plan.now program.now }
     requires check { check.0 < length program.now.checks }

@@ -3,7 +3,7 @@
 ghost use Rattle.std.specs.Prelude.{◌≡◌, ◌<◌, ◌≤◌, false, IfOk, OnOk, length};
 ghost use Rattle.pp_limits.specs.declared.TheConstants.{DEPTH, GATES, ROUNDS};
 ghost use Rattle.pp_checks.specs.Plan.{IsPlanOf};
-ghost use Rattle.pp_domain.specs.Answers.{Fresh};
+ghost use Rattle.pp_domain.specs.Answers.{IsNew};
 ghost use Rattle.pp_domain.specs.Moves.{Moves};
 ghost use Rattle.pp_estimate.specs.Estimates.{estimate};
 ghost use Rattle.pp_symbolic.specs.Frame.{IsGuessFrame};
@@ -11,6 +11,7 @@ ghost use Rattle.pp_symbolic.specs.Frame.{IsGuessFrame};
 use crate::NoMemory;
 use crate::frame::Frame;
 use crate::guessed::evaluate_guess;
+use crate::naming::values_to_name;
 use crate::owner::owner;
 use pp_checks::Plan;
 use pp_compile::compile_guess;
@@ -19,8 +20,8 @@ use pp_gate::Circuit;
 use pp_prog::{CheckId, Program};
 use std::alloc::Global;
 
-/// The guess runs of the check's function of the round, over a domain that isn't exact. After want of memory the old
-/// gates stand and some new ones may be left.
+/// The guess runs of the check's function of the round, over a domain that isn't exact, which is told how many values
+/// have to be named for them. After want of memory the old gates stand and some new ones may be left.
 pub(crate) fn of_guess<D: Domain>(
     alloc: Global,
     domain: &mut D,
@@ -32,7 +33,7 @@ pub(crate) fn of_guess<D: Domain>(
     depth: u32,
 ) -> Result<Frame<D::Tree>, NoMemory>
     requires inexact { D.sense.exact ≡ false }
-    requires fresh { Fresh D.sense program.now.types domain.old circuit.old }
+    requires fresh { IsNew D.sense program.now.types domain.old circuit.old }
     requires empty { length circuit.old ≡ 1 }
     requires plan { IsPlanOf plan.now program.now }
     requires check { check.0 < length program.now.checks }
@@ -48,6 +49,7 @@ pub(crate) fn of_guess<D: Domain>(
 {
     let f = owner(program, check);
     let guess = compile_guess(alloc, program.functions.as_slice(), f, check, round)?;
+    domain.limit_to(values_to_name(program.types(), guess.steps.as_slice()));
     evaluate_guess(
         alloc,
         domain,

@@ -7,6 +7,7 @@
 //! - `evaluating`: `symbolic`. `frame`: what it answers.
 //! - `real`, `steps`: the steps of a run, and how they are performed.
 //! - `guess`, `guessed`: those of guess runs.
+//! - `naming`: how many values have to be named for them, which the domain is told, so that its names are short.
 //! - `owner`: the function that a check belongs to.
 #![tactic(auto)]
 
@@ -14,6 +15,7 @@ mod evaluating;
 mod frame;
 mod guess;
 mod guessed;
+mod naming;
 mod owner;
 mod real;
 mod steps;

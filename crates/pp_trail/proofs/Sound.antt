@@ -11,7 +11,8 @@ use Rattle.pp_clause.specs.Bound.{IsUpTo}
 use Rattle.pp_trail.specs.Trail.{lits, IsReason, IsTrail}
 use Rattle.pp_trail.specs.Marks.{ArePlaces, AreSigns, IsSound}
 use Rattle.pp_trail.proofs.Places.{IsAbsent}
-use Rattle.pp_trail.proofs.Growing.{trail_push, shows_push, signs_push, trail_take, shows_pop, signs_pop, absent_in_front, trail_append}
+use Rattle.pp_trail.proofs.Growing.{trail_push, shows_push, signs_push, trail_take, shows_pop, signs_pop}
+use Rattle.pp_trail.proofs.Growing.{absent_in_front, trail_append}
 
 pub sound_add : (cs : List (List Literal)) (ss : List Step) (marks : List (Option Mark)) (signs : List (Option Bool))
     (vars cap : ℕ) (c : List Literal) → IsSound cs ss marks signs vars cap → IsUpTo vars c

@@ -206,7 +206,7 @@ impl Trail {
 fn copy_of(alloc: Global, clauses: &Clauses) -> Result<Clauses, NoMemory>
     ensures { IfOk result (λ c. c ≡ clauses.now) }
 {
-    let mut copy = Clauses::new(alloc);
+    let mut copy = Clauses::with_capacity(alloc, clauses.len())?;
     for place in 0..clauses.len() {
         let clause = clauses.get(place as u32 + 1).copy(alloc)?;
         copy.add(clause)?;

@@ -10,7 +10,7 @@ use Rattle.pp_trail.specs.declared.step.Step.{Step}
 use Rattle.pp_trail.specs.Trail.{lits}
 use Rattle.pp_trail.proofs.Growing.{lits_push}
 use Rattle.pp_watch.specs.Lists.{code, watchers_of, with_watchers}
-use Rattle.pp_watch.specs.Watching.{clause_at, HasTrue, IsGuarded, IsLevel, IsSound}
+use Rattle.pp_watch.specs.Watching.{clause_at, HasTrue, IsShort, IsGuarded, IsLevel, IsSound}
 use Rattle.pp_watch.specs.Looking.{IsChoice, IsBound, IsFree, IsCut}
 use Rattle.pp_watch.specs.Attaching.{Attaches, CanWatch, Settles}
 use Rattle.pp_watch.specs.declared.head.Head.{Head}
@@ -117,17 +117,20 @@ settle_step s h v bound step i few c b cut is r =
     }
 
 -- the first clause without a head gets one
-pub sound_watch : (s t : State) (h : Head) (n : ℕ) (mid : List (List Watcher)) → IsSound s → CanWatch s h → n
-    ≡ length s.heads.items + 1 → code h.first < length s.lists → code h.second < length s.lists →
+pub sound_watch : (s t : State) (h : Head) (n : ℕ) (u v : Literal) (mid : List (List Watcher)) → IsSound s →
+    CanWatch s h → n ≡ length s.heads.items + 1 →
+    (code u ≢ code h.first → IsShort (clause_at s.trail.clauses (length s.heads.items)) h.first h.second u) →
+    (code v ≢ code h.second → IsShort (clause_at s.trail.clauses (length s.heads.items)) h.second h.first v) →
+    code h.first < length s.lists → code h.second < length s.lists →
     t.trail ≡ s.trail → t.levels ≡ s.levels → t.visited ≡ s.visited → t.heads.items ≡ s.heads.items ++ h ∷ [] →
     mid ≡ with_watchers s.lists h.first
-    (watchers_of s.lists h.first ++ record { number = n; blocker = h.second } ∷ []) →
+    (watchers_of s.lists h.first ++ record { number = n; blocker = h.second; third = u } ∷ []) →
     t.lists ≡ with_watchers mid h.second
-    (watchers_of mid h.second ++ record { number = n; blocker = h.first } ∷ []) → IsSound t
-sound_watch s t h n mid i can is lt1 lt2 trail levels visited heads first second = record {
+    (watchers_of mid h.second ++ record { number = n; blocker = h.first; third = v } ∷ []) → IsSound t
+sound_watch s t h n u v mid i can is one other lt1 lt2 trail levels visited heads first second = record {
   watching = rw (trail, heads, second, first)
-      (watching_attach s.trail.clauses s.trail.vars s.heads.items s.lists h n i.watching can.few is can.first_held
-      can.second_held lt1 lt2);
+      (watching_attach s.trail.clauses s.trail.vars s.heads.items s.lists h n u v i.watching can.few is can.first_held
+      can.second_held one other lt1 lt2);
   visited = rw (trail, heads, levels, visited)
       (visited_attach s.trail.clauses s.heads.items s.trail.steps s.visited s.levels.items h i.visited can.guarded
       can.kept);

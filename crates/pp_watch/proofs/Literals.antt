@@ -1,6 +1,6 @@
 -- What looks at the literals of a clause find, a literal at a time.
 use Rattle.std.proofs.Common.{ℕ, ◌+◌, ◌≡◌, ◌≢◌, ◌<◌, ◌≤◌, true, List, [], ◌∷◌, ◌++◌, sym}
-use Rattle.std.proofs.Common.{ap, ◌∙◌, subst, inl, inr, arith, length, get_or, take, drop, Option, Some, None}
+use Rattle.std.proofs.Common.{ap, ◌∙◌, subst, inl, inr, ◌⊎◌, arith, length, get_or, take, drop, Option, Some, None}
 use Rattle.std.specs.Prelude.{IfNone}
 use Rattle.std.proofs.lemmas.List.{take_more, take_all, get_or_default, take-append-drop, length-drop}
 use Rattle.std.proofs.lemmas.Bool.{false_from_ne_true}
@@ -56,6 +56,35 @@ others_more set ls i l x lt is h k = record {
 pub others_all : (set ls : List Literal) (i : ℕ) (x : Literal) → length ls ≤ i → OthersNegated set (take i ls) x →
     OthersNegated set ls x
 others_all set ls i x le h = subst (λ (z : List Literal). OthersNegated set z x) (take_all i ls le) h
+
+-- all literals are among three
+abbrev pub AreThese : List Literal → Literal → Literal → Literal → Type 0
+AreThese c a b d = (x : Literal) → has c x ≡ true → (x ≡ a) ⊎ ((x ≡ b) ⊎ (x ≡ d))
+
+pub these_none : (ls : List Literal) (a b d : Literal) → AreThese (take 0 ls) a b d
+these_none ls a b d = λ x h. absurd (has-nil x h)
+
+pub these_more : (ls : List Literal) (i : ℕ) (l a b d : Literal) → i < length ls → l ≡ get_or ls i l →
+    AreThese (take i ls) a b d → (l ≡ a) ⊎ ((l ≡ b) ⊎ (l ≡ d)) → AreThese (take (i + 1) ls) a b d
+these_more ls i l a b d lt is h k = λ x held. elim (has-push_cases (take i ls) l x
+    (ap (λ (z : List Literal). has z x) (sym (take_next ls i l lt is)) ∙ held)) [
+      | inl j ↦ h x j
+      | inr e ↦ elim k [
+        | inl p ↦ inl (e ∙ p)
+        | inr q ↦ elim q [ inl p ↦ inr (inl (e ∙ p)) | inr p ↦ inr (inr (e ∙ p)) ]
+      ]
+    ]
+
+-- two of the three are the same
+pub these_two : (c : List Literal) (a b d e : Literal) → d ≡ b → AreThese c a b d → AreThese c a b e
+these_two c a b d e same h = λ x held. elim (h x held) [
+  | inl p ↦ inl p
+  | inr q ↦ elim q [ inl p ↦ inr (inl p) | inr p ↦ inr (inl (p ∙ same)) ]
+]
+
+pub these_all : (ls : List Literal) (i : ℕ) (a b d : Literal) → length ls ≤ i → AreThese (take i ls) a b d →
+    AreThese ls a b d
+these_all ls i a b d le h = subst (λ (z : List Literal). AreThese z a b d) (take_all i ls le) h
 
 -- what holds of the literals before a place and of those from it on
 pub other_before : (set c : List Literal) (i : ℕ) (x m : Literal) → IsOther set (take i c) x m → IsOther set c x m

@@ -1,21 +1,22 @@
 -- Looks at the watchers of a false literal, one after another.
 use Rattle.std.proofs.Common.{ℕ, ◌+◌, ◌-◌, ◌≡◌, ◌≢◌, ◌<◌, ◌≤◌, true, List, [], ◌∷◌, ◌++◌}
 use Rattle.std.proofs.Common.{Vec, Global, sym, refl, ap, ◌∙◌, subst, inl, inr, ◌⊎◌, arith, length, get_or, set}
-use Rattle.std.proofs.Common.{take, length-set}
+use Rattle.std.proofs.Common.{take, length-set, All}
 use Rattle.std.specs.Prelude.{IsSome}
 use Rattle.std.specs.List.{swap_remove}
 use Rattle.std.proofs.lemmas.Bool.{cases_lt}
 use Rattle.std.proofs.lemmas.List.{get_or_default, get_or_past, take-set-le, take_all, length-take-le}
 use Rattle.pp_clause.specs.Literal.{Literal, opposite}
 use Rattle.pp_clause.specs.Clause.{has}
+use Rattle.pp_clause.specs.Bound.{IsUpTo}
 use Rattle.pp_clause.proofs.Has.{false_not_true, has-push_last, has-All}
 use Rattle.pp_trail.specs.declared.step.Step.{Step}
 use Rattle.pp_trail.specs.Trail.{Trail, IsTrail, lits}
 use Rattle.pp_trail.proofs.Growing.{lits_push}
 use Rattle.pp_watch.specs.Lists.{code, watchers_of, with_watchers, is_among}
-use Rattle.pp_watch.specs.Watching.{clause_at, head_at, HasTrue, IsEntry, IsGuarded, IsWatched, IsWatching}
+use Rattle.pp_watch.specs.Watching.{clause_at, head_at, HasTrue, IsEntry, IsShort, IsGuarded, IsWatched, IsWatching}
 use Rattle.pp_watch.specs.Watching.{IsVisited, IsSound}
-use Rattle.pp_watch.specs.Looking.{Watches, AreLookedAt, Advances, IsBeside, IsOther}
+use Rattle.pp_watch.specs.Looking.{Watches, AreLookedAt, Advances, IsBeside, IsNear, IsNumbered, IsOther}
 use Rattle.pp_watch.specs.declared.head.Head.{Head}
 use Rattle.pp_watch.specs.declared.watcher.Watcher.{Watcher}
 use Rattle.pp_watch.specs.declared.state.State.{State}
@@ -25,7 +26,7 @@ use Rattle.pp_watch.proofs.Watched.{same_or_not, no_head, watching_push, watchin
 use Rattle.pp_watch.proofs.Watched.{watching_write, listed_push}
 use Rattle.pp_watch.proofs.Watched.{listed_last, head_set_same, head_set_other}
 use Rattle.pp_watch.proofs.Guarded.{has_after, true_more, visited_set}
-use Rattle.pp_watch.proofs.States.{with_step, sound_step, grows_step, grows_none, grows_along}
+use Rattle.pp_watch.proofs.States.{clause_by_number, with_step, sound_step, grows_step, grows_none, grows_along}
 
 -- the watcher at a place, whatever stands for it past the end
 pub watcher_is : (ws : List Watcher) (i : ℕ) (d : Watcher) → i < length ws → get_or ws i d ≡ get_or ws i
@@ -90,7 +91,7 @@ looked_true s l place w h lt is t = looked_next s s l place w h lt is refl refl 
 beside_watcher : (s : State) (l : Literal) (place number : ℕ) (other : Literal) → IsBeside s l place number other →
     (w : Watcher) × ((w ≡ get_or (watchers_of s.lists l) place w) × (w.number ≡ number))
 beside_watcher s l place number other b =
-    let d : Watcher = record { number = number; blocker = other } in
+    let d : Watcher = record { number = number; blocker = other; third = other } in
     (get_or (watchers_of s.lists l) place d, (watcher_is (watchers_of s.lists l) place d b.within, b.watcher d))
 
 pub beside_true : (s : State) (l : Literal) (place number : ℕ) (other : Literal) → AreLookedAt s l (place + 1) →
@@ -139,20 +140,28 @@ beside_single s l place number other h b e =
       | inr p ↦ g.single (ap code p.1 ∙ e ∙ sym p.0)
     ]
 
+pub beside_near : (s : State) (l : Literal) (place number : ℕ) (other : Literal) → IsSound s →
+    IsBeside s l place number other → IsNear s l place number other
+beside_near s l place number other h b =
+    record { within = b.within; watcher = b.watcher; held = beside_held s l place number other h b }
+
 -- the other literal becomes true
 pub looked_step : (s : State) (l : Literal) (place number : ℕ) (other : Literal) (step : Step) → AreLookedAt s l
-    (place + 1) → IsSound s → IsBeside s l place number other → step.lit ≡ other → AreLookedAt
+    (place + 1) → IsNear s l place number other → step.lit ≡ other → AreLookedAt
     (with_step s step) l place
-looked_step s l place number other step h i b is =
-    let w = beside_watcher s l place number other b in
+looked_step s l place number other step h b is =
+    let d : Watcher = record { number = number; blocker = other; third = other } in
+    let w : Watcher = get_or (watchers_of s.lists l) place d in
+    let numbered : w.number ≡ number = b.watcher d in
     let now : has (lits (s.trail.steps ++ step ∷ [])) other ≡ true = ap (λ (z : List Literal). has z other)
     (lits_push s.trail.steps step) ∙ has-push_last (lits s.trail.steps) step.lit other (sym is) in
     let t : HasTrue (lits (s.trail.steps ++ step ∷ [])) (clause_at s.trail.clauses (number - 1)) =
-    record { literal = other; held = beside_held s l place number other i b; itself = now } in
-    looked_next s (with_step s step) l place w.0 h b.within w.1.0 refl refl (has_after s.trail.steps step) refl
+    record { literal = other; held = b.held; itself = now } in
+    looked_next s (with_step s step) l place w h b.within (watcher_is (watchers_of s.lists l) place d b.within)
+    refl refl (has_after s.trail.steps step) refl
     (λ j ne. refl)
     (λ k. subst (λ (n : ℕ). HasTrue (lits (s.trail.steps ++ step ∷ [])) (clause_at s.trail.clauses (n - 1)))
-    (sym w.1.1) t)
+    (sym numbered) t)
 
 pub length_removed : (ws : List Watcher) (i : ℕ) (w : Watcher) → i < length ws → length (swap_remove ws i w)
     ≡ length ws - 1
@@ -197,19 +206,22 @@ drop_watcher s t l place w h looked lt in' is far trail heads levels visited lis
     }
 
 -- the clause watches a literal that isn't false in place of the false one
-pub move_watcher : (s t : State) (l : Literal) (place number : ℕ) (other new : Literal) (look : ℕ)
+pub move_watcher : (s t : State) (l : Literal) (place number : ℕ) (other new third : Literal) (look : ℕ)
     (mid : List (List Watcher)) (w : Watcher) → IsSound s → AreLookedAt s l (place + 1) →
     IsBeside s l place number other → has (lits s.trail.steps) (opposite l) ≡ true → code other ≢ code l →
-    IsOther (lits s.trail.steps) (clause_at s.trail.clauses (number - 1)) other new → code l < length s.lists →
-    code new < length s.lists → t.trail ≡ s.trail → t.levels ≡ s.levels → t.visited ≡ s.visited →
+    IsOther (lits s.trail.steps) (clause_at s.trail.clauses (number - 1)) other new →
+    (code third ≢ code new → IsShort (clause_at s.trail.clauses (number - 1)) new other third) →
+    code l < length s.lists → code new < length s.lists → t.trail ≡ s.trail → t.levels ≡ s.levels →
+    t.visited ≡ s.visited →
     t.heads.items ≡ set s.heads.items (number - 1) (record { first = new; second = other; look = look }) →
-    mid ≡ with_watchers s.lists new (watchers_of s.lists new ++ record { number = number; blocker = other } ∷ []) →
+    mid ≡ with_watchers s.lists new
+    (watchers_of s.lists new ++ record { number = number; blocker = other; third = third } ∷ []) →
     w ≡ get_or (watchers_of mid l) place w →
     t.lists ≡ with_watchers mid l (swap_remove (watchers_of mid l) place w) → IsDropped s l place t
-move_watcher s t l place number other new look mid w h looked b neg ne o in1 in2 trail levels visited heads first is
-    second =
+move_watcher s t l place number other new third look mid w h looked b neg ne o short in1 in2 trail levels visited
+    heads first is second =
     let k : number - 1 < length s.heads.items = (let x = b.low in let y = b.high in omega arith) in
-    let v : Watcher = record { number = number; blocker = other } in
+    let v : Watcher = record { number = number; blocker = other; third = third } in
     let g : Head = record { first = new; second = other; look = look } in
     let back : number - 1 + 1 ≡ number = (let x = b.low in omega arith) in
     let far : code l ≢ code new = λ e. false_not_true
@@ -217,8 +229,8 @@ move_watcher s t l place number other new look mid w h looked b neg ne o in1 in2
     ∙ neg) in
     let held = beside_held s l place number other h b in
     let lists' : List (List Watcher) = with_watchers s.lists new (watchers_of s.lists new ++ v ∷ []) in
-    let entry : IsEntry s.trail.clauses (length s.heads.items) v =
-    record { low = b.low; high = b.high; held = held } in
+    let entry : IsEntry s.trail.clauses (length s.heads.items) new v =
+    record { low = b.low; high = b.high; held = held; short = short } in
     let w1 : IsWatching s.trail.clauses s.trail.vars s.heads.items lists' =
     watching_push s.trail.clauses s.trail.vars s.heads.items s.lists new v h.watching in2 entry in
     let own : IsWatched (clause_at s.trail.clauses (number - 1)) lists' (number - 1) g = record {
@@ -303,14 +315,23 @@ looked_done s l h k lt w = elim (h.each k lt w) [ inl t ↦ t | inr n ↦ absurd
 -- what stands at a place of a literal's list
 pub entry_at : (s : State) (l : Literal) (place : ℕ) (w : Watcher) → IsSound s → place < length
     (watchers_of s.lists l) → w ≡ get_or (watchers_of s.lists l) place w → IsEntry s.trail.clauses
-    (length s.heads.items) w
-entry_at s l place w h lt is = subst (λ (z : Watcher). IsEntry s.trail.clauses (length s.heads.items) z) (sym is)
+    (length s.heads.items) l w
+entry_at s l place w h lt is = subst (λ (z : Watcher). IsEntry s.trail.clauses (length s.heads.items) l z) (sym is)
     (h.watching.entries l place w lt)
 
+-- its clause is one of the state's
+pub numbered_watcher : (s : State) (l : Literal) (place : ℕ) (w : Watcher) → IsSound s → place < length
+    (watchers_of s.lists l) → w ≡ get_or (watchers_of s.lists l) place w →
+    All (IsUpTo s.trail.vars) s.trail.clauses → IsNumbered s w.number
+numbered_watcher s l place w h lt is up =
+    let entry = entry_at s l place w h lt is in
+    clause_by_number s.trail.clauses s.trail.vars w.number entry.low
+    (let a = entry.high in let b = h.watching.few in omega arith) up
+
 -- the head of a watcher's clause
-pub head_is : (s : State) (w : Watcher) (h : Head) → IsEntry s.trail.clauses (length s.heads.items) w → h
-    ≡ get_or s.heads.items (w.number - 1) h → head_at s.heads.items (w.number - 1) ≡ h
-head_is s w h e is = sym (is ∙ get_or_default s.heads.items (w.number - 1) h no_head
+pub head_is : (s : State) (l : Literal) (w : Watcher) (h : Head) → IsEntry s.trail.clauses (length s.heads.items) l w
+    → h ≡ get_or s.heads.items (w.number - 1) h → head_at s.heads.items (w.number - 1) ≡ h
+head_is s l w h e is = sym (is ∙ get_or_default s.heads.items (w.number - 1) h no_head
     (let x = e.low in let y = e.high in omega arith))
 
 pub advances_along : (r s t : State) → Advances r s → Advances s t → Advances r t
@@ -336,11 +357,11 @@ pub write_blocker : (s t : State) (l : Literal) (place number : ℕ) (other m : 
     has (clause_at s.trail.clauses (number - 1)) m ≡ true → has (lits s.trail.steps) m ≡ true →
     t.trail ≡ s.trail → t.heads ≡ s.heads → t.levels ≡ s.levels → t.visited ≡ s.visited →
     t.lists ≡ with_watchers s.lists l
-    (set (watchers_of s.lists l) place (record { number = number; blocker = m })) → IsDropped s l place t
+    (set (watchers_of s.lists l) place (record { number = number; blocker = m; third = l })) → IsDropped s l place t
 write_blocker s t l place number other m h looked b held now trail heads levels visited lists =
-    let v : Watcher = record { number = number; blocker = m } in
-    let entry : IsEntry s.trail.clauses (length s.heads.items) v =
-    record { low = b.low; high = b.high; held = held } in
+    let v : Watcher = record { number = number; blocker = m; third = l } in
+    let entry : IsEntry s.trail.clauses (length s.heads.items) l v =
+    record { low = b.low; high = b.high; held = held; short = λ ne. absurd (ne refl) } in
     let in' : code l < length s.lists = code_from_watcher s.lists l place b.within in
     let w = beside_watcher s l place number other b in
     let ws : watchers_of t.lists l ≡ set (watchers_of s.lists l) place v =

@@ -1,14 +1,16 @@
 -- States of a watch, as their parts change.
-use Rattle.std.proofs.Common.{ℕ, ◌+◌, ◌-◌, ◌≡◌, ◌<◌, ◌≤◌, true, false, List, [], ◌∷◌, ◌++◌}
+use Rattle.std.proofs.Common.{ℕ, zero, suc, ◌+◌, ◌-◌, ◌≡◌, ◌<◌, ◌≤◌, true, false, List, [], ◌∷◌, ◌++◌, All}
 use Rattle.std.proofs.Common.{Vec, Global, sym, refl, ap, ◌∙◌, subst, inl, inr, arith, length}
 use Rattle.std.proofs.Common.{append_assoc, append-nil}
 use Rattle.std.specs.Prelude.{IsSome}
 use Rattle.std.proofs.lemmas.Bool.{both_ways}
+use Rattle.std.proofs.lemmas.Option.{slice_get-get_or}
 use Rattle.std.proofs.lemmas.List.Elements.{All-append, All-nil}
 use Rattle.pp_clause.specs.Literal.{Literal, opposite}
 use Rattle.pp_clause.specs.Clause.{has}
 use Rattle.pp_clause.specs.Log.{all_negated}
 use Rattle.pp_clause.specs.New.{OthersNegated}
+use Rattle.pp_clause.specs.Bound.{IsUpTo}
 use Rattle.pp_clause.proofs.Has.{has-All, same_var_cases, opposite_twice}
 use Rattle.pp_trail.specs.declared.step.Step.{Step}
 use Rattle.pp_trail.specs.Trail.{Trail, Extends, IsFalse, IsReason, lits}
@@ -99,6 +101,22 @@ clause_of_number cs vars n k c h e = ap (clause_at cs) (let f : k ≡ n - 1 = om
 pub clause_at_number : (cs : List (List Literal)) (vars n : ℕ) (c : List Literal) → IsClauseOf cs vars n c →
     IsClauseOf cs vars n (clause_at cs (n - 1))
 clause_at_number cs vars n c h = subst (λ (z : List Literal). IsClauseOf cs vars n z) (sym h.at) h
+
+-- the clause with a number that there is
+clause_by_place : (cs : List (List Literal)) (vars k : ℕ) → k < length cs → All (IsUpTo vars) cs →
+    IsClauseOf cs vars (suc k) (clause_at cs k)
+clause_by_place cs vars k lt up = record {
+  is = slice_get-get_or cs k [] lt;
+  at = ap (clause_at cs) (let e : suc k - 1 ≡ k = omega arith in e);
+  up_to = up k [] lt;
+}
+
+pub clause_by_number : (cs : List (List Literal)) (vars n : ℕ) → 1 ≤ n → n ≤ length cs → All (IsUpTo vars) cs →
+    IsClauseOf cs vars n (clause_at cs (n - 1))
+clause_by_number cs vars zero low high up = absurd (omega arith)
+clause_by_number cs vars (suc k) low high up =
+    subst (λ (j : ℕ). IsClauseOf cs vars (suc k) (clause_at cs j)) (let e : k ≡ suc k - 1 = omega arith in e)
+    (clause_by_place cs vars k (omega arith) up)
 
 pub var_within : (cs : List (List Literal)) (vars n k : ℕ) (c : List Literal) (l : Literal) →
     IsClauseOf cs vars n c → n ≡ k + 1 → has (clause_at cs k) l ≡ true → l.var ≤ vars

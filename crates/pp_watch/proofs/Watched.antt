@@ -9,12 +9,12 @@ use Rattle.std.proofs.lemmas.List.Elements.{All-push, All-set, All-weaker, All-n
 use Rattle.pp_clause.specs.Literal.{Literal}
 use Rattle.pp_clause.specs.Clause.{has}
 use Rattle.pp_watch.specs.Lists.{code, watchers_of, with_watchers, is_among}
-use Rattle.pp_watch.specs.Watching.{clause_at, head_at, IsEntry, IsWatched, IsWatching}
+use Rattle.pp_watch.specs.Watching.{clause_at, head_at, IsEntry, IsShort, IsWatched, IsWatching}
 use Rattle.pp_watch.specs.Looking.{Watches}
 use Rattle.pp_watch.specs.declared.watcher.Watcher.{Watcher}
 use Rattle.pp_watch.specs.declared.head.Head.{Head}
 use Rattle.pp_watch.proofs.Listed.{watchers_same, watchers_other, among_push, among_last, among_removed, among_set}
-use Rattle.pp_watch.proofs.Listed.{All_removed}
+use Rattle.pp_watch.proofs.Listed.{same_code, All_removed}
 
 abbrev pub no_head : Head
 no_head = record {
@@ -28,28 +28,29 @@ same_or_not a b = elim (cases_eq a b) [ inl e ↦ inl e | inr n ↦ inr n ]
 
 -- all watchers are entries of the first clauses
 abbrev pub AreEntries : List (List Literal) → ℕ → List (List Watcher) → Type 0
-AreEntries cs count lists = (l : Literal) → All (IsEntry cs count) (watchers_of lists l)
+AreEntries cs count lists = (l : Literal) → All (IsEntry cs count l) (watchers_of lists l)
 
 pub entries_higher : (cs : List (List Literal)) (a b : ℕ) (lists : List (List Watcher)) → a ≤ b →
     AreEntries cs a lists → AreEntries cs b lists
-entries_higher cs a b lists le h = λ l. All-weaker (IsEntry cs a) (IsEntry cs b)
-    (λ w k. record { low = k.low; high = (let x = k.high in omega arith); held = k.held }) (watchers_of lists l)
-    (h l)
+entries_higher cs a b lists le h = λ l. All-weaker (IsEntry cs a l) (IsEntry cs b l)
+    (λ w k. record { low = k.low; high = (let x = k.high in omega arith); held = k.held; short = k.short })
+    (watchers_of lists l) (h l)
 
 pub entries_with : (cs : List (List Literal)) (count : ℕ) (lists : List (List Watcher)) (l : Literal)
-    (ws : List Watcher) → code l < length lists → AreEntries cs count lists → All (IsEntry cs count) ws →
+    (ws : List Watcher) → code l < length lists → AreEntries cs count lists → All (IsEntry cs count l) ws →
     AreEntries cs count (with_watchers lists l ws)
 entries_with cs count lists l ws lt h k = λ m.
     elim (same_or_not (code m) (code l)) [
-      | inl e ↦ subst (λ (z : List Watcher). All (IsEntry cs count) z) (sym (watchers_same lists l m ws e lt)) k
-      | inr ne ↦ subst (λ (z : List Watcher). All (IsEntry cs count) z) (sym (watchers_other lists l m ws ne)) (h m)
+      | inl e ↦ subst (λ (z : List Watcher). All (IsEntry cs count m) z) (sym (watchers_same lists l m ws e lt))
+          (subst (λ (x : Literal). All (IsEntry cs count x) ws) (sym (same_code m l e)) k)
+      | inr ne ↦ subst (λ (z : List Watcher). All (IsEntry cs count m) z) (sym (watchers_other lists l m ws ne)) (h m)
     ]
 
 pub entries_push : (cs : List (List Literal)) (count : ℕ) (lists : List (List Watcher)) (l : Literal)
-    (w : Watcher) → code l < length lists → AreEntries cs count lists → IsEntry cs count w →
+    (w : Watcher) → code l < length lists → AreEntries cs count lists → IsEntry cs count l w →
     AreEntries cs count (with_watchers lists l (watchers_of lists l ++ w ∷ []))
 entries_push cs count lists l w lt h k = entries_with cs count lists l (watchers_of lists l ++ w ∷ []) lt h
-    (All-push (IsEntry cs count) (watchers_of lists l) w (h l) k)
+    (All-push (IsEntry cs count l) (watchers_of lists l) w (h l) k)
 
 -- which stands in a list stands there still
 pub listed_push : (lists : List (List Watcher)) (l m : Literal) (w : Watcher) (n : ℕ) → code l < length lists →
@@ -80,7 +81,7 @@ watched_push c lists k h l w lt i = record {
 
 pub watching_push : (cs : List (List Literal)) (vars : ℕ) (heads : List Head) (lists : List (List Watcher))
     (l : Literal) (w : Watcher) → IsWatching cs vars heads lists → code l < length lists → IsEntry cs
-    (length heads) w →
+    (length heads) l w →
     IsWatching cs vars heads (with_watchers lists l (watchers_of lists l ++ w ∷ []))
 watching_push cs vars heads lists l w h lt e = record {
   sized = length-set lists (code l) (watchers_of lists l ++ w ∷ []) ∙ h.sized;
@@ -135,7 +136,7 @@ watching_remove cs vars heads lists l i w h lt in' is far = record {
   sized = length-set lists (code l) (swap_remove (watchers_of lists l) i w) ∙ h.sized;
   few = h.few;
   entries = entries_with cs (length heads) lists l (swap_remove (watchers_of lists l) i w) lt h.entries
-      (All_removed (IsEntry cs (length heads)) (watchers_of lists l) i w in' (h.entries l));
+      (All_removed (IsEntry cs (length heads) l) (watchers_of lists l) i w in' (h.entries l));
   watched = λ k b.
       let own : w.number ≡ k + 1 → head_at heads (w.number - 1) ≡ head_at heads k = λ e. ap (head_at heads)
       (let f : w.number - 1 ≡ k = omega arith in f) in
@@ -159,34 +160,39 @@ pub head_push_last : (heads : List Head) (h : Head) (k : ℕ) → k ≡ length h
 head_push_last heads h k e = get_or_push heads h no_head k (sym e)
 
 pub watching_attach : (cs : List (List Literal)) (vars : ℕ) (heads : List Head) (lists : List (List Watcher))
-    (h : Head) (n : ℕ) → IsWatching cs vars heads lists → length heads < length cs → n ≡ length heads + 1 →
-    has (clause_at cs (length heads)) h.first ≡ true → has (clause_at cs (length heads)) h.second ≡ true →
+    (h : Head) (n : ℕ) (t u : Literal) → IsWatching cs vars heads lists → length heads < length cs → n
+    ≡ length heads + 1 → has (clause_at cs (length heads)) h.first ≡ true →
+    has (clause_at cs (length heads)) h.second ≡ true →
+    (code t ≢ code h.first → IsShort (clause_at cs (length heads)) h.first h.second t) →
+    (code u ≢ code h.second → IsShort (clause_at cs (length heads)) h.second h.first u) →
     code h.first < length lists → code h.second < length lists →
     IsWatching cs vars (heads ++ h ∷ [])
     (with_watchers (with_watchers lists h.first
-    (watchers_of lists h.first ++ record { number = n; blocker = h.second } ∷ [])) h.second
+    (watchers_of lists h.first ++ record { number = n; blocker = h.second; third = t } ∷ [])) h.second
     (watchers_of (with_watchers lists h.first
-    (watchers_of lists h.first ++ record { number = n; blocker = h.second } ∷ []))
-    h.second ++ record { number = n; blocker = h.first } ∷ []))
-watching_attach cs vars heads lists h n i few is first second lt1 lt2 =
+    (watchers_of lists h.first ++ record { number = n; blocker = h.second; third = t } ∷ []))
+    h.second ++ record { number = n; blocker = h.first; third = u } ∷ []))
+watching_attach cs vars heads lists h n t u i few is first second one other lt1 lt2 =
     let len : length (heads ++ h ∷ []) ≡ length heads + 1 = length_push heads h in
     let k : ℕ = length heads in
-    let v : Watcher = record { number = n; blocker = h.second } in
-    let w : Watcher = record { number = n; blocker = h.first } in
+    let v : Watcher = record { number = n; blocker = h.second; third = t } in
+    let w : Watcher = record { number = n; blocker = h.first; third = u } in
     let back : n - 1 ≡ length heads = omega arith in
-    let entry_v : IsEntry cs (length (heads ++ h ∷ [])) v =
+    let entry_v : IsEntry cs (length (heads ++ h ∷ [])) h.first v =
     record {
       low = omega arith;
       high = omega arith;
       held = ap (λ (j : ℕ). has (clause_at cs j) h.second) back
           ∙ second;
+      short = λ y. subst (λ (j : ℕ). IsShort (clause_at cs j) h.first h.second t) (sym back) (one y);
     } in
-    let entry_w : IsEntry cs (length (heads ++ h ∷ [])) w =
+    let entry_w : IsEntry cs (length (heads ++ h ∷ [])) h.second w =
     record {
       low = omega arith;
       high = omega arith;
       held = ap (λ (j : ℕ). has (clause_at cs j) h.first) back
           ∙ first;
+      short = λ y. subst (λ (j : ℕ). IsShort (clause_at cs j) h.second h.first u) (sym back) (other y);
     } in
     let mid : List (List Watcher) = with_watchers lists h.first (watchers_of lists h.first ++ v ∷ []) in
     let long : length mid ≡ length lists = length-set lists (code h.first) (watchers_of lists h.first ++ v ∷ []) in
@@ -226,7 +232,7 @@ pub watching_none : (cs : List (List Literal)) (vars : ℕ) (lists : List (List 
 watching_none cs vars lists len none = record {
   sized = len;
   few = omega arith;
-  entries = λ l. subst (λ (z : List Watcher). All (IsEntry cs 0) z) (sym (none l)) (All-nil (IsEntry cs 0));
+  entries = λ l. subst (λ (z : List Watcher). All (IsEntry cs 0 l) z) (sym (none l)) (All-nil (IsEntry cs 0 l));
   watched = λ k lt. absurd (omega arith);
 }
 
@@ -240,13 +246,15 @@ watching_append cs ds vars heads lists h =
     record {
       sized = h.sized;
       few = omega (arith, length-append cs ds);
-      entries = λ l. All-weaker (IsEntry cs (length heads)) (IsEntry (cs ++ ds) (length heads))
-          (λ w e. record {
+      entries = λ l. All-weaker (IsEntry cs (length heads) l) (IsEntry (cs ++ ds) (length heads) l)
+          (λ w e. (let stays : clause_at (cs ++ ds) (w.number - 1) ≡ clause_at cs (w.number - 1) =
+          same (w.number - 1) (let x = e.low in let y = e.high in omega arith) in
+          record {
             low = e.low;
             high = e.high;
-            held = ap (λ (c : List Literal). has c w.blocker)
-                (same (w.number - 1) (let x = e.low in let y = e.high in omega arith)) ∙ e.held;
-          })
+            held = ap (λ (c : List Literal). has c w.blocker) stays ∙ e.held;
+            short = λ y. subst (λ (c : List Literal). IsShort c l w.blocker w.third) (sym stays) (e.short y);
+          }))
           (watchers_of lists l) (h.entries l);
       watched = λ k lt. subst (λ (c : List Literal). IsWatched c lists k (head_at heads k)) (sym (same k lt))
           (h.watched k lt);
@@ -265,13 +273,13 @@ listed_set lists l m i w n lt same h =
 
 pub watching_write : (cs : List (List Literal)) (vars : ℕ) (heads : List Head) (lists : List (List Watcher))
     (l : Literal) (i : ℕ) (w : Watcher) → IsWatching cs vars heads lists → code l < length lists →
-    ((d : Watcher) → (get_or (watchers_of lists l) i d).number ≡ w.number) → IsEntry cs (length heads) w →
+    ((d : Watcher) → (get_or (watchers_of lists l) i d).number ≡ w.number) → IsEntry cs (length heads) l w →
     IsWatching cs vars heads (with_watchers lists l (set (watchers_of lists l) i w))
 watching_write cs vars heads lists l i w h lt same e = record {
   sized = length-set lists (code l) (set (watchers_of lists l) i w) ∙ h.sized;
   few = h.few;
   entries = entries_with cs (length heads) lists l (set (watchers_of lists l) i w) lt h.entries
-      (All-set (IsEntry cs (length heads)) (watchers_of lists l) i w e (h.entries l));
+      (All-set (IsEntry cs (length heads) l) (watchers_of lists l) i w e (h.entries l));
   watched = λ k b.
       (let old = h.watched k b in
       record {

@@ -85,6 +85,12 @@ pub record IsBeside (s : State) (l : Literal) (place number : ℕ) (other : Lite
       ⊎ ((code (head_at s.heads.items (number - 1)).second ≡ code l) ×
       ((head_at s.heads.items (number - 1)).first ≡ other))
 
+-- the watcher at this place of the literal's list is the clause with this number, which has the other literal
+pub record IsNear (s : State) (l : Literal) (place number : ℕ) (other : Literal) : Type 0 where
+  pub within : place < length (watchers_of s.lists l)
+  pub watcher : (w : Watcher) → (slice_index_or (watchers_of s.lists l) place w).number ≡ number
+  pub held : has (clause_at s.trail.clauses (number - 1)) other ≡ true
+
 -- the clause with this number is one of the state's, and no variable of it is above the greatest
 abbrev pub IsNumbered : State → ℕ → Type 0
 IsNumbered s number = IsClauseOf s.trail.clauses s.trail.vars number (clause_at s.trail.clauses (number - 1))

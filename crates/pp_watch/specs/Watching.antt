@@ -1,5 +1,5 @@
 -- What holds of watched literals all the time. (own; watched literals as in the usual solvers)
-use Rattle.std.specs.Prelude.{ℕ, ◌≡◌, ◌+◌, ◌*◌, ◌-◌, ◌<◌, ◌≤◌, true, List, [], All, AllPairs, length, take}
+use Rattle.std.specs.Prelude.{ℕ, ◌≡◌, ◌≢◌, ◌+◌, ◌*◌, ◌-◌, ◌<◌, ◌≤◌, ◌⊎◌, true, List, [], All, AllPairs, length, take}
 use Rattle.std.specs.Prelude.{slice_index_or}
 use Rattle.pp_clause.specs.Literal.{Literal, opposite}
 use Rattle.pp_clause.specs.Clause.{has}
@@ -29,11 +29,18 @@ pub record HasTrue (set c : List Literal) : Type 0 where
   pub held : has c literal ≡ true
   pub itself : has set literal ≡ true
 
--- the watcher is one of the first `count` clauses, and its blocker is a literal of that clause
-pub record IsEntry (cs : List (List Literal)) (count : ℕ) (w : Watcher) : Type 0 where
+-- the clause has the third of these literals, and none but the three
+pub record IsShort (c : List Literal) (l blocker third : Literal) : Type 0 where
+  pub held : has c third ≡ true
+  pub whole : (x : Literal) → has c x ≡ true → (x ≡ l) ⊎ ((x ≡ blocker) ⊎ (x ≡ third))
+
+-- the watcher of the literal is one of the first `count` clauses, and its blocker is a literal of that clause; where
+-- its third literal isn't the watched one, the clause has no others than these three
+pub record IsEntry (cs : List (List Literal)) (count : ℕ) (l : Literal) (w : Watcher) : Type 0 where
   pub low : 1 ≤ w.number
   pub high : w.number ≤ count
   pub held : has (clause_at cs (w.number - 1)) w.blocker ≡ true
+  pub short : code w.third ≢ code l → IsShort (clause_at cs (w.number - 1)) l w.blocker w.third
 
 -- the clause at place k has the two literals of the head, and stands in the lists of both
 pub record IsWatched (c : List Literal) (lists : List (List Watcher)) (k : ℕ) (h : Head) : Type 0 where
@@ -47,7 +54,7 @@ pub record IsWatching (cs : List (List Literal)) (vars : ℕ) (heads : List Head
     (lists : List (List Watcher)) : Type 0 where
   pub sized : length lists ≡ 2 * vars + 2
   pub few : length heads ≤ length cs
-  pub entries : (l : Literal) → All (IsEntry cs (length heads)) (watchers_of lists l)
+  pub entries : (l : Literal) → All (IsEntry cs (length heads) l) (watchers_of lists l)
   pub watched : (k : ℕ) → k < length heads → IsWatched (clause_at cs k) lists k (head_at heads k)
 
 -- where a watched literal is false in the first set, or there is only one, a literal of the clause is in the second

@@ -6,7 +6,7 @@ ghost use Rattle.pp_watch.specs.Looking.{IsChoice, IsNumbered};
 ghost use Rattle.pp_watch.specs.Attaching.{Attaches, CanWatch, Settles, waiting};
 
 use crate::NoMemory;
-use crate::finding::{bound, choose, is_true, lits_of};
+use crate::finding::{bound, choose, is_true, lits_of, third};
 use crate::head::Head;
 use crate::levels::cut;
 use crate::state::State;
@@ -85,11 +85,13 @@ impl State {
         ensures more { IfOk result (λ _. length self.new.heads.items ≡ length self.old.heads.items + 1) }
         ensures sized { OnErr result (IsSized self.new) }
     {
+        let clause = lits_of(&self.trail, number);
         self.lists.push(
             head.first,
             Watcher {
                 number,
                 blocker: head.second,
+                third: third(clause, head.first, head.second),
             },
         )?;
         self.lists.push(
@@ -97,6 +99,7 @@ impl State {
             Watcher {
                 number,
                 blocker: head.first,
+                third: third(clause, head.second, head.first),
             },
         )?;
         self.heads.push(Head {

@@ -1,5 +1,5 @@
 //! Looks at the literals of clauses.
-ghost use Rattle.std.specs.Prelude.{◌≡◌, ◌≢◌, ◌<◌, ◌≤◌, ◌↔◌, IsTrue, true, false, length, IfSome, IfNone};
+ghost use Rattle.std.specs.Prelude.{◌≡◌, ◌≢◌, ◌<◌, ◌≤◌, ◌↔◌, ◌⊎◌, IsTrue, true, false, length, IfSome, IfNone};
 ghost use Rattle.pp_clause.specs.Literal.{opposite};
 ghost use Rattle.pp_clause.specs.Clause.{has};
 ghost use Rattle.pp_clause.specs.Log.{all_negated};
@@ -7,6 +7,7 @@ ghost use Rattle.pp_clause.specs.New.{OthersNegated};
 ghost use Rattle.pp_trail.specs.Trail.{lits, IsFalse};
 ghost use Rattle.pp_watch.specs.Lists.{code};
 ghost use Rattle.pp_watch.specs.Looking.{IsClauseOf, IsNotFalse, IsOther, IsChoice, IsBound, IsFree};
+ghost use Rattle.pp_watch.specs.Watching.{IsShort};
 
 use crate::head::Head;
 use pp_clause::Lit;
@@ -125,6 +126,32 @@ pub fn choose(trail: &Trail, clause: &[Lit]) -> Option<Head>
         second,
         look: 0,
     })
+}
+
+/// A literal of the clause besides these two, or the blocker, where the clause has no others than these three. Where it
+/// has more, the first of the two.
+pub fn third(clause: &[Lit], lit: Lit, blocker: Lit) -> Lit
+    requires { has clause.now blocker ≡ true }
+    ensures { code result ≢ code lit → IsShort clause.now lit blocker result }
+{
+    let mut third = blocker;
+    for other in clause {
+        if !is_among(*other, lit, blocker, third) {
+            if third.index() != blocker.index() {
+                return lit;
+            }
+            third = *other;
+        }
+    }
+    third
+}
+
+/// Whether the literal is one of these three.
+fn is_among(other: Lit, lit: Lit, blocker: Lit, third: Lit) -> bool
+    ensures { IsTrue result → (other ≡ lit) ⊎ ((other ≡ blocker) ⊎ (other ≡ third)) }
+{
+    let index = other.index();
+    index == lit.index() || index == blocker.index() || index == third.index()
 }
 
 /// The length before which levels stay, where a clause watches these literals from now on. `None` where they are two

@@ -7,7 +7,7 @@ ghost use Rattle.pp_watch.specs.Lists.{code, watchers_of, with_watchers};
 
 use crate::NoMemory;
 use crate::watcher::Watcher;
-use pp_clause::Lit;
+use pp_clause::{Clauses, Lit};
 use std::alloc::Global;
 use std::marker::Model;
 
@@ -28,14 +28,16 @@ impl Model for Lists {
 }
 
 impl Lists {
-    /// An empty list for each literal of the variables up to this one.
-    pub fn new(alloc: Global, vars: u32) -> Result<Lists, NoMemory>
+    /// An empty list for each literal of the variables up to this one, with room for the clauses that have it. So the
+    /// lists stand in memory in order, and none of these clauses makes one grow.
+    pub fn over(alloc: Global, clauses: &Clauses, vars: u32) -> Result<Lists, NoMemory>
         ensures { IfOk result (λ l. l ≡ replicate (2 * vars + 2) []) }
     {
         let count = 2 * vars as usize + 2;
+        let room = occurrences(alloc, clauses, count)?;
         let mut items = Vec::with_capacity(alloc, count)?;
-        for _ in 0..count {
-            items.push(Vec::new(alloc))?;
+        for index in 0..count {
+            items.push(Vec::with_capacity(alloc, room[index])?)?;
         }
         Ok(Lists { items })
     }
@@ -95,4 +97,19 @@ impl Lists {
             list.clear();
         }
     }
+}
+
+/// How many times each literal stands in the clauses, by index, for the indices below `count`.
+fn occurrences(alloc: Global, clauses: &Clauses, count: usize) -> Result<Vec<usize>, NoMemory>
+    ensures { IfOk result (λ v. length v.items ≡ count) }
+{
+    let mut found: Vec<usize> = vec![in alloc; 0; count]?;
+    for place in 0..clauses.len() {
+        for lit in clauses.get(place as u32 + 1).lits() {
+            if lit.index() < found.len() {
+                found[lit.index()] = found[lit.index()].saturating_add(1);
+            }
+        }
+    }
+    Ok(found)
 }

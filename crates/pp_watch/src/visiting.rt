@@ -1,14 +1,16 @@
 //! Visits what watches false literals.
 ghost use Rattle.std.specs.Prelude.{◌≡◌, ◌≢◌, ◌+◌, ◌-◌, ◌<◌, ◌≤◌, true, false, length, IfSome, IfNone, IfOk, OnErr};
+ghost use Rattle.std.specs.Prelude.{slice_index_or};
 ghost use Rattle.pp_clause.specs.Literal.{opposite};
 ghost use Rattle.pp_clause.specs.Clause.{has};
 ghost use Rattle.pp_trail.specs.Trail.{lits, IsFalse};
 ghost use Rattle.pp_watch.specs.Watching.{IsSound, IsSized, Grows, clause_at};
 ghost use Rattle.pp_watch.specs.Lists.{code, watchers_of};
-ghost use Rattle.pp_watch.specs.Looking.{AreLookedAt, AreOthersFalse, Advances, HasOther, IsBeside, IsNumbered};
+ghost use Rattle.pp_watch.specs.Looking.{AreLookedAt, AreOthersFalse, Advances, HasOther, IsBeside, IsNear};
+ghost use Rattle.pp_watch.specs.Looking.{IsNumbered};
 
 use crate::NoMemory;
-use crate::finding::{Found, is_false, is_true, lits_of, other_not_false};
+use crate::finding::{Found, is_false, is_true, lits_of, other_not_false, third};
 use crate::head::Head;
 use crate::state::State;
 use crate::watcher::Watcher;
@@ -73,6 +75,64 @@ impl State {
         if is_true(&self.trail, watcher.blocker) {
             return Ok(None);
         }
+        if watcher.third.index() == lit.index() {
+            return self.look_at_head(lit, place, watcher);
+        }
+        self.look_short(lit, place, watcher)
+    }
+
+    /// Looks at a clause of at most three literals, those of a watcher of a false one and that one.
+    fn look_short(
+        &mut self,
+        lit: Lit,
+        place: usize,
+        watcher: Watcher,
+    ) -> Result<Option<u32>, NoMemory>
+        requires sound { IsSound self.old }
+        requires negated { has (lits self.old.trail.steps) (opposite lit) ≡ true }
+        requires place { place < length (watchers_of self.old.lists lit) }
+        requires looked { AreLookedAt self.old lit (place + 1) }
+        requires watcher { watcher ≡ slice_index_or (watchers_of self.old.lists lit) place watcher }
+        requires not_true { has (lits self.old.trail.steps) watcher.blocker ≡ false }
+        requires short { code watcher.third ≢ code lit }
+        ensures advances { IfOk result (λ _. Advances self.old self.new) }
+        ensures looked { IfOk result (λ o. IfNone o (AreLookedAt self.new lit place)) }
+        ensures within { IfOk result (λ o. IfNone o (place ≤ length (watchers_of self.new.lists lit))) }
+        ensures conflict { IfOk result (λ o. IfSome o (IsFalse self.new.trail.clauses (lits self.new.trail.steps))) }
+        ensures sized { OnErr result (IsSized self.new) }
+    {
+        if is_true(&self.trail, watcher.third) {
+            return Ok(None);
+        }
+        // tells that the clauses are in range
+        let _clauses = self.trail.clauses();
+        if is_false(&self.trail, watcher.third) {
+            return Ok(self.force(lit, place, watcher.number, watcher.blocker));
+        }
+        if is_false(&self.trail, watcher.blocker) {
+            return Ok(self.force(lit, place, watcher.number, watcher.third));
+        }
+        self.look_at_head(lit, place, watcher)
+    }
+
+    /// Looks at the two literals that the clause of a watcher watches.
+    fn look_at_head(
+        &mut self,
+        lit: Lit,
+        place: usize,
+        watcher: Watcher,
+    ) -> Result<Option<u32>, NoMemory>
+        requires sound { IsSound self.old }
+        requires negated { has (lits self.old.trail.steps) (opposite lit) ≡ true }
+        requires place { place < length (watchers_of self.old.lists lit) }
+        requires looked { AreLookedAt self.old lit (place + 1) }
+        requires watcher { watcher ≡ slice_index_or (watchers_of self.old.lists lit) place watcher }
+        ensures advances { IfOk result (λ _. Advances self.old self.new) }
+        ensures looked { IfOk result (λ o. IfNone o (AreLookedAt self.new lit place)) }
+        ensures within { IfOk result (λ o. IfNone o (place ≤ length (watchers_of self.new.lists lit))) }
+        ensures conflict { IfOk result (λ o. IfSome o (IsFalse self.new.trail.clauses (lits self.new.trail.steps))) }
+        ensures sized { OnErr result (IsSized self.new) }
+    {
         let head = self.heads[watcher.number as usize - 1];
         if head.first.index() == lit.index() {
             self.look_beside(lit, place, watcher.number, head.second, head.look)
@@ -134,7 +194,12 @@ impl State {
         ensures looked { AreLookedAt self.new lit place }
         ensures within { place ≤ length (watchers_of self.new.lists lit) }
     {
-        self.lists.set(lit, place, Watcher { number, blocker });
+        let watcher = Watcher {
+            number,
+            blocker,
+            third: lit,
+        };
+        self.lists.set(lit, place, watcher);
     }
 
     /// Lets a clause watch a literal in place of a false one.
@@ -163,6 +228,7 @@ impl State {
             Watcher {
                 number,
                 blocker: other,
+                third: third(lits_of(&self.trail, number), new.lit, other),
             },
         )?;
         self.heads[number as usize - 1] = Head {
@@ -179,7 +245,7 @@ impl State {
     fn force(&mut self, lit: Lit, place: usize, number: u32, other: Lit) -> Option<u32>
         requires sound { IsSound self.old }
         requires looked { AreLookedAt self.old lit (place + 1) }
-        requires beside { IsBeside self.old lit place number other }
+        requires near { IsNear self.old lit place number other }
         requires clause { IsNumbered self.old number }
         requires not_true { has (lits self.old.trail.steps) other ≡ false }
         requires others { AreOthersFalse self.old number other }

@@ -40,11 +40,12 @@ impl Watch {
         ensures { IfOk result (λ s. s ≡ record { clauses = clauses.now; steps = []; vars = vars }) }
     {
         let trail = Trail::over(alloc, clauses, vars)?;
-        let lists = Lists::new(alloc, vars)?;
+        let lists = Lists::over(alloc, clauses, vars)?;
+        let heads = Vec::with_capacity(alloc, clauses.len())?;
         Ok(Watch {
             state: State {
                 trail,
-                heads: Vec::new(alloc),
+                heads,
                 lists,
                 levels: Vec::new(alloc),
                 visited: 0,

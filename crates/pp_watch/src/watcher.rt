@@ -8,4 +8,7 @@ pub struct Watcher {
     pub number: u32,
     /// A literal of the clause: where it is true, the clause needs no look.
     pub blocker: Lit,
+    /// Another literal of the clause, where it has no more than this one, the blocker and the one that is watched here:
+    /// then the clause is read only to watch another. Else the watched literal itself.
+    pub third: Lit,
 }

@@ -39,7 +39,7 @@ pub enum Task<'a> {
     Run {
         /// Its printed name, any text.
         function: &'a str,
-        /// How many calls may be nested, 0 to 100.
+        /// How many calls may be nested, 0 to 100000.
         fuel: u32,
     },
     /// Make a source, and verify each function of it.

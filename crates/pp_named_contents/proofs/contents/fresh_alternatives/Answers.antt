@@ -39,7 +39,8 @@ loop-place-preserved c =
       grows = Grows_more _ _ _ _ _ _ now.grows fields.grows
           (turn_next c.args.ctors.now c.loop-place.place _ _ at c.as_slice.ensures);
       circuit = fields.circuit;
-      are = are_turn _ _ _ _ _ c.args.first c.args.ctors.now c.args.lits.now c.loop-place.place _ _ _ _ _ now.grows
+      are = are_turn _ _ _ _ _ c.args.low c.args.first c.args.ctors.now c.args.lits.now c.loop-place.place _ _ _ _ _
+          now.grows
           now.circuit fields.grows fields.circuit now.are lit
           (IsOf_at _ _ _ _ c.requires.lits few c.index-lits-place.is) refl at
           c.as_slice.ensures fields.guarded c.in_ok-push.ensures.ok;

@@ -12,7 +12,7 @@ returns-in_err-plain-in_default-clause-grows c =
 
 pub returns-in_ok-name-in-Tree-clause-guarded : goal.returns-in_ok-name-in-Tree-clause-guarded
 returns-in_ok-name-in-Tree-clause-guarded c =
-    rw c.in-Tree.is (tree_guarded _ _ _ _ 0 _ c.in_ok-name-in-Tree.ensures.masked)
+    rw c.in-Tree.is (tree_guarded _ _ _ _ _ 0 _ c.in_ok-name-in-Tree.ensures.masked)
 
 pub returns-in_ok-plain-in_default-clause-grows : goal.returns-in_ok-plain-in_default-clause-grows
 returns-in_ok-plain-in_default-clause-grows c =
@@ -20,4 +20,4 @@ returns-in_ok-plain-in_default-clause-grows c =
 
 pub returns-in_ok-plain-in_default-clause-guarded : goal.returns-in_ok-plain-in_default-clause-guarded
 returns-in_ok-plain-in_default-clause-guarded c =
-    plain_guarded _ _ _ _ _ c.in_ok-plain-in_default.ensures.masked
+    plain_guarded _ _ _ _ _ _ c.in_ok-plain-in_default.ensures.masked

@@ -33,8 +33,8 @@ loop-place-preserved c =
     record {
       grows = Grows_more _ _ _ _ _ _ now.grows field.grows (gates_turn c.args.sorts.now c.loop-place.place _ at);
       circuit = field.circuit;
-      guarded = subst (λ (ss : List Sort). AreGuarded c.args.circuit.now c.guarded.new.circuit c.args.lit ss
+      guarded = subst (λ (ss : List Sort). AreGuarded c.args.circuit.now c.guarded.new.circuit c.args.low c.args.lit ss
           c.push.new.self) (sym (take_next c.args.sorts.now c.loop-place.place _ at))
-          (guarded_push _ _ _ _ _ _ _ _ _ _ _ c.requires.lit now.grows field.grows now.guarded field.guarded
+          (guarded_push _ _ _ _ _ _ _ _ _ _ _ _ c.requires.lit now.grows field.grows now.guarded field.guarded
           c.in_ok-push.ensures.ok);
     }

@@ -8,5 +8,5 @@ abbrev pub invariant-loop-place : goal.invariant-loop-place
 invariant-loop-place l = record {
   grows : Grows l.initial.circuit l.circuit (parts_gates (take l.place l.sorts));
   circuit : IsCircuit l.circuit;
-  guarded : AreGuarded l.initial.circuit l.circuit l.lit (take l.place l.sorts) l.fields;
+  guarded : AreGuarded l.initial.circuit l.circuit l.low l.lit (take l.place l.sorts) l.fields;
 }

@@ -12,7 +12,7 @@ returns-in_err-alternatives-clause-moves c =
 pub keep_all-requires : goal.keep_all-requires
 keep_all-requires c =
     record {
-      named = named_read c.args.table.now c.make_levels.new.circuit c.fresh_contents.new.circuit c.args.of _ _
+      named = named_read c.args.table.now c.make_levels.new.circuit c.fresh_contents.new.circuit _ c.args.of _ _
           c.in_ok-alternatives.ensures.fresh c.as_slice.ensures;
     }
 

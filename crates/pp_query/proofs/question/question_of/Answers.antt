@@ -1,4 +1,4 @@
 use Rattle.pp_query.proofs.question.question_of.Goals as goal
 
 pub symbolic-requires-clause-fresh : goal.symbolic-requires-clause-fresh
-symbolic-requires-clause-fresh g c = c.in_ok-domain.ensures.fresh c.args.program.now.types
+symbolic-requires-clause-fresh g c = c.in_ok-domain.ensures.new c.args.program.now.types

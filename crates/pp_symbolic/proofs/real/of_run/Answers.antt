@@ -22,7 +22,8 @@ simplify-requires-clause-reads g c =
     c.in_ok-run.ensures in
     let few : length run.steps < 2 ^ 32 =
     (let n = c.len.ensures in let t = c.if-len.false in grind (arith, nat_tests)) in
-    let can = can_run g.D.Domain.sense g.met.D.Domain.lawful p c.args.plan.now c.requires.plan c.args.check f
+    let can = can_run g.D.Domain.sense g.met.D.Domain.lawful c.requires.exact p c.args.plan.now c.requires.plan
+    c.args.check f
     c.owner-f.ensures c.args.round c.args.depth c.requires.depth.0 c.requires.size run is few
     c.args.domain.now c.args.circuit.now c.requires.fresh c.requires.empty in can.reads
 
@@ -36,7 +37,8 @@ simplify-requires-clause-asked g c =
     c.in_ok-run.ensures in
     let few : length run.steps < 2 ^ 32 =
     (let n = c.len.ensures in let t = c.if-len.false in grind (arith, nat_tests)) in
-    let can = can_run g.D.Domain.sense g.met.D.Domain.lawful p c.args.plan.now c.requires.plan c.args.check f
+    let can = can_run g.D.Domain.sense g.met.D.Domain.lawful c.requires.exact p c.args.plan.now c.requires.plan
+    c.args.check f
     c.owner-f.ensures c.args.round c.args.depth c.requires.depth.0 c.requires.size run is few
     c.args.domain.now c.args.circuit.now c.requires.fresh c.requires.empty in can.stands
 
@@ -56,7 +58,8 @@ evaluate-requires-clause-can g c =
     let is_next : next ≡ name_in run.steps run.fails = c.in_ok-fails.ensures.asked in
     let pruned : IsPruned (length (param_sorts f.params)) next (all_folded run.steps).steps c.simplify.new.steps =
     subst (λ n. IsPruned n next (all_folded run.steps).steps c.simplify.new.steps) many c.in_ok-fails.ensures.pruned in
-    let can = can_new g.D.Domain.sense g.met.D.Domain.lawful p c.args.plan.now c.requires.plan c.args.check f
+    let can = can_new g.D.Domain.sense g.met.D.Domain.lawful c.requires.exact p c.args.plan.now c.requires.plan
+    c.args.check f
     c.owner-f.ensures c.args.round c.args.depth c.requires.depth.0 c.requires.size run is few
     c.args.domain.now c.args.circuit.now c.requires.fresh c.requires.empty c.simplify.new.steps next is_next pruned in
     rw c.types.ensures (rw c.as_slice-2.ensures (rw c.as_slice-3.ensures
@@ -78,7 +81,8 @@ returns-clause-moves g c =
     let is_next : next ≡ name_in run.steps run.fails = c.in_ok-fails.ensures.asked in
     let pruned : IsPruned (length (param_sorts f.params)) next (all_folded run.steps).steps c.simplify.new.steps =
     subst (λ n. IsPruned n next (all_folded run.steps).steps c.simplify.new.steps) many c.in_ok-fails.ensures.pruned in
-    moves_run g.D.Domain.sense g.met.D.Domain.lawful p c.args.plan.now c.requires.plan c.args.check f
+    moves_run g.D.Domain.sense g.met.D.Domain.lawful c.requires.exact p c.args.plan.now c.requires.plan
+    c.args.check f
     c.owner-f.ensures c.args.round c.args.depth c.requires.depth.0 c.requires.size run is few
     c.args.domain.now c.args.circuit.now c.requires.fresh c.requires.empty c.simplify.new.steps next is_next pruned _ _
     (rw (← c.types.ensures) (rw (← c.as_slice-2.ensures) (rw (← c.as_slice-3.ensures) c.evaluate.ensures.moves)))
@@ -100,7 +104,8 @@ returns-clause-size g c =
     let pruned : IsPruned (length (param_sorts f.params)) next (all_folded run.steps).steps c.simplify.new.steps =
     subst (λ n. IsPruned n next (all_folded run.steps).steps c.simplify.new.steps) many c.in_ok-fails.ensures.pruned in
     on_ok c.evaluate.result
-    (size_run g.D.Domain.sense g.met.D.Domain.lawful p c.args.plan.now c.requires.plan c.args.check f
+    (size_run g.D.Domain.sense g.met.D.Domain.lawful c.requires.exact p c.args.plan.now c.requires.plan
+    c.args.check f
     c.owner-f.ensures c.args.round c.args.depth c.requires.depth.0 c.requires.size run is few
     c.args.domain.now c.args.circuit.now c.requires.fresh c.requires.empty c.simplify.new.steps next is_next pruned
     c.evaluate.new.domain
@@ -125,7 +130,8 @@ returns-clause-frame g c =
     subst (λ n. IsPruned n next (all_folded run.steps).steps c.simplify.new.steps) many c.in_ok-fails.ensures.pruned in
     if_ok c.evaluate.result c.evaluate.ensures.evaluated
     (λ frame evaluates.
-    frame_run g.D.Domain.sense g.met.D.Domain.lawful p c.args.plan.now c.requires.plan c.args.check f
+    frame_run g.D.Domain.sense g.met.D.Domain.lawful c.requires.exact p c.args.plan.now c.requires.plan
+    c.args.check f
     c.owner-f.ensures c.args.round c.args.depth c.requires.depth.0 c.requires.size run is few
     c.args.domain.now c.args.circuit.now c.requires.fresh c.requires.empty c.simplify.new.steps next is_next pruned
     _ _ frame

@@ -1,5 +1,7 @@
-use Rattle.std.proofs.Common.{refl, arith, ◌-◌}
+use Rattle.std.proofs.Common.{refl, sym, subst, arith, ◌-◌, List}
 use Rattle.std.specs.Vec.{with_item}
+use Rattle.pp_clause.specs.Literal.{Literal}
+use Rattle.pp_watch.specs.Watching.{IsShort}
 use Rattle.pp_watch.proofs.States.{code_of_clause}
 use Rattle.pp_watch.proofs.Looked.{IsDropped, move_watcher, code_from_watcher}
 use Rattle.pp_watch.proofs.state.State.rewatch.Goals as goal
@@ -22,8 +24,10 @@ moved : (c : goal.After-remove) → IsDropped c.args.self.now c.args.lit c.args.
 moved c =
     let low = c.requires.beside.low in
     move_watcher c.args.self.now _ c.args.lit c.args.place c.args.number c.args.other c.args.new.lit
-    c.args.new.place c.push.new.self c.remove.result
+    c.third.result c.args.new.place c.push.new.self c.remove.result
     c.requires.sound c.requires.looked c.requires.beside c.requires.negated c.requires.apart c.requires.new
+    (λ ne. subst (λ (z : List Literal). IsShort z c.args.new.lit c.args.other c.third.result)
+    (sym c.lits_of.ensures.at) (c.third.ensures ne))
     (code_from_watcher c.args.self.now.lists c.args.lit c.args.place c.requires.beside.within)
     (code_of_clause _ _ c.args.number (c.args.number - 1) _ c.args.new.lit _ _ c.requires.clause
     (omega arith) c.requires.new.held c.requires.sound.watching)

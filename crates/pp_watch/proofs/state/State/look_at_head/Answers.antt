@@ -6,7 +6,7 @@ use Rattle.pp_watch.specs.Lists.{watchers_of}
 use Rattle.pp_watch.specs.Watching.{head_at}
 use Rattle.pp_watch.specs.Looking.{Watches}
 use Rattle.pp_watch.proofs.Looked.{IsDropped, drop_watcher, code_from_watcher, entry_at, head_is}
-use Rattle.pp_watch.proofs.state.State.look.Goals as goal
+use Rattle.pp_watch.proofs.state.State.look_at_head.Goals as goal
 
 -- the state without the watcher, whose clause watches other literals
 dropped : (c : goal.After-remove) → IsDropped c.args.self.now c.args.lit c.args.place
@@ -20,12 +20,12 @@ dropped : (c : goal.After-remove) → IsDropped c.args.self.now c.args.lit c.arg
     })
 dropped c =
     let w = c.remove.result in
-    let same : c.remove.result ≡ c.get-watcher.result = c.remove.ensures.value
+    let same : c.remove.result ≡ c.args.watcher = c.remove.ensures.value
     ∙ get_or_default (watchers_of c.args.self.now.lists c.args.lit) c.args.place c.remove.result
-    c.get-watcher.result c.requires.place ∙ sym c.get-watcher.ensures in
-    let entry = entry_at c.args.self.now c.args.lit c.args.place c.get-watcher.result c.requires.sound
-    c.requires.place c.get-watcher.ensures in
-    let head = head_is c.args.self.now c.get-watcher.result c.index-head.result.now entry c.index-head.ensures in
+    c.args.watcher c.requires.place ∙ sym c.requires.watcher in
+    let entry = entry_at c.args.self.now c.args.lit c.args.place c.args.watcher c.requires.sound
+    c.requires.place c.requires.watcher in
+    let head = head_is c.args.self.now c.args.lit c.args.watcher c.index-head.result.now entry c.index-head.ensures in
     let far : Watches c.index-head.result.now c.args.lit → ⊥ = λ z. elim z [
       | inl e ↦ c.if-index.false (c.index.ensures ∙ e ∙ sym c.index-2.ensures)
       | inr e ↦ c.if-index-2.false (c.index-else-index.ensures ∙ e ∙ sym c.index-else-index-2.ensures)
