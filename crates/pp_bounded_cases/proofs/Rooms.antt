@@ -4,12 +4,12 @@ use Rattle.std.proofs.Common.{◌∷◌, length, map, sum, sym, ap, ◌∙◌, s
 use Rattle.std.proofs.Common.{Option}
 use Rattle.std.proofs.Math.Nat.{mul-le-mul_left, mul-le-mul_right}
 use Rattle.std.proofs.lemmas.List.{length-map, length-reverse}
+use Rattle.pp_list.specs.Joined.{joined}
 use Rattle.pp_prog.specs.declared.id.CtorId.{CtorId}
 use Rattle.pp_prog.specs.declared.id.DataId.{DataId}
 use Rattle.pp_prog.specs.declared.types.Ctor.{Ctor}
 use Rattle.pp_prog.specs.declared.types.Datatype.{Datatype}
 use Rattle.pp_prog.specs.declared.types.TypeTable.{TypeTable}
-use Rattle.pp_prog.specs.Calls.{joined}
 use Rattle.pp_prog.specs.Sizes.{ctors_in, ctors_of, flat, sorts_in_ctor, width}
 use Rattle.pp_gate.specs.declared.gate.Gate.{Gate}
 use Rattle.pp_domain.specs.Allowance.{construct_gates, expand_gates_of, look_gates, look_at_gates, times}

@@ -1,12 +1,12 @@
 -- How large full trees of the samples are.
 use Rattle.std.proofs.Common.{◌≡◌, ℕ, zero, suc, ◌+◌, ◌*◌, ◌≤◌, List, map, sum, length, slice_get, refl, arith, ap, sym}
 use Rattle.std.proofs.Common.{◌∙◌, subst, inl, inr}
+use Rattle.pp_list.specs.Joined.{joined}
 use Rattle.pp_prog.specs.declared.id.DataId.{DataId}
 use Rattle.pp_prog.specs.declared.sort.Sort.TheVariants as sort
 use Rattle.pp_prog.specs.declared.types.Ctor.{Ctor}
 use Rattle.pp_prog.specs.declared.types.Datatype.{Datatype}
 use Rattle.pp_prog.specs.declared.types.TypeTable.{TypeTable}
-use Rattle.pp_prog.specs.Calls.{joined}
 use Rattle.pp_prog.specs.Sizes.{bits, ctors_in, ctors_of, nodes, sorts_in_ctor}
 use Rattle.pp_bounded_trees.proofs.Candidates.{bits_of_bool, bits_of_int}
 use Rattle.pp_bounded_samples.specs.Sample.{IsLow, IsSample, IsSmall, sample_ctors, sample_datatypes, tree_of}

@@ -1,6 +1,8 @@
 -- The gates that operations on symbols take, as steps with the symbols' sorts and heights count them.
 use Rattle.std.proofs.Common.{◌≡◌, ℕ, ◌+◌, ◌*◌, max, min, length, sym, subst, arith, Bool, true, false, if◌then◌else◌}
 use Rattle.std.proofs.Common.{List, Some, slice_get, refl, ap, ◌∙◌}
+use Rattle.std.proofs.lemmas.Option.{same_Some}
+use Rattle.pp_prog.proofs.PartSorts.{equality_parts}
 use Rattle.pp_prog.specs.declared.id.CtorId.{CtorId}
 use Rattle.pp_prog.specs.declared.sort.Sort.{Sort}
 use Rattle.pp_prog.specs.declared.sort.Sort.TheVariants as sort
@@ -10,10 +12,7 @@ use Rattle.pp_operators.specs.declared.class.OperatorClass.{OperatorClass}
 use Rattle.pp_operators.specs.declared.class.OperatorClass.TheVariants as class
 use Rattle.pp_tree.specs.declared.operator.BinaryOp.{BinaryOp}
 use Rattle.pp_tree.specs.declared.operator.BinaryOp.TheVariants.{Equal}
-use Rattle.pp_prog.specs.ExprSorts.{sort_if, then_sort}
 use Rattle.pp_prog.specs.Sizes.{bits, by_sort, nodes}
-use Rattle.pp_prog.specs.Sorts.{same_sort}
-use Rattle.pp_prog.proofs.ValueSorts.{one_sort}
 use Rattle.pp_gate.specs.declared.gate.Gate.{Gate}
 use Rattle.pp_domain.specs.declared.symbol.Symbol.{Symbol}
 use Rattle.pp_domain.specs.declared.symbol.Symbol.TheVariants as symbol
@@ -30,12 +29,8 @@ use Rattle.pp_build_operators.specs.Budget.{goes_down_gates, operator_gates, sym
 use Rattle.pp_build_operators.proofs.SymbolSorts.{compare_gates_are, symbol_sort_is}
 
 equal_sorts : (p q r : Sort) → operated_sort Equal (Some p) (Some q) ≡ Some r → p ≡ q
-equal_sorts p q r e = when (same_sort p q) refl e
-  where
-    when : (b : Bool) → same_sort p q ≡ b → then_sort (sort_if b p) (λ (v : Sort). Some sort.Bool) ≡ Some r
-        → p ≡ q
-    when true same f = one_sort p q same
-    when false same f = absurd (cc)
+equal_sorts p q r e =
+    let k = (equality_parts (Some p) (Some q) r e).1 in same_Some p q (k.0 ∙ sym k.1)
 
 module _ {D T : Type 0} (m : Sense D T) (types : TypeTable) where
   pub choose_gates_are : (d : D) (gs : List Gate) (s : Sort) (x y : Symbol T) → IsSymbol m d gs s x

@@ -1,9 +1,10 @@
 -- What operators make of numbers and truth values: which of them have a value, of which sort, and how many gates they
 -- have.
-use Rattle.std.proofs.Common.{◌≡◌, ℕ, ℤ, Bool, true, false, Some, None, Ok, refl, ap, ◌∙◌, arith}
+use Rattle.std.proofs.Common.{◌≡◌, ℕ, ℤ, Bool, true, false, Some, None, Ok, refl, ap, ◌∙◌, arith, sym}
 use Rattle.std.specs.Prelude.{pos, not, ◌&&◌, int_le, int_lt}
 use Rattle.std.specs.Int.{w32}
 use Rattle.std.proofs.lemmas.Int.{ints}
+use Rattle.pp_prog.proofs.PartSorts.{equality_parts}
 use Rattle.pp_word.specs.Word.{word_div, word_rem, word_neg, word_not}
 use Rattle.pp_tree.specs.declared.operator.BinaryOp.{BinaryOp}
 use Rattle.pp_tree.specs.declared.operator.BinaryOp.TheVariants.{Add, Sub, Mul, Div, Rem, Equal, Differ, Less, AtMost}
@@ -18,8 +19,7 @@ use Rattle.pp_prog.specs.declared.value.Value.{Value}
 use Rattle.pp_prog.specs.declared.value.Value.TheOpen as layer
 use Rattle.pp_prog.specs.declared.value.Value.TheVariants.{Int, Bool as Truth, outs-Int, outs-Bool}
 use Rattle.pp_prog.specs.declared.value.Value.TheViews.{out-Value}
-use Rattle.pp_prog.specs.ExprSorts.{sort_if, then_sort, unary_sort}
-use Rattle.pp_prog.specs.Sorts.{same_sort}
+use Rattle.pp_prog.specs.ExprSorts.{unary_sort}
 use Rattle.pp_eval.specs.Measure.{goes_down, layer_down}
 use Rattle.pp_eval.specs.Operators.{number, number_in, on_layers, on_numbers, on_truths, truth, truth_in, unary}
 use Rattle.pp_eval.specs.Part.{Part, and_then}
@@ -169,14 +169,10 @@ pub truth_sort : (op : BinaryOp) (u : Sort) → is_equality op ≡ false
 truth_sort And u other h = cc
 truth_sort op u other h = cc
 
-equal_sort : (b : Bool) (s u : Sort) → then_sort (sort_if b s) (λ (t : Sort). Some sort.Bool) ≡ Some u → u ≡ sort.Bool
-equal_sort true s u h = cc
-equal_sort false s u h = cc
-
 pub equality_sort : (op : BinaryOp) (s t u : Sort) → is_equality op ≡ true → operated_sort op (Some s) (Some t) ≡ Some u
     → u ≡ sort.Bool
-equality_sort Equal s t u is h = equal_sort (same_sort s t) s u h
-equality_sort Differ s t u is h = equal_sort (same_sort s t) s u h
+equality_sort Equal s t u is h = sym (equality_parts (Some s) (Some t) u h).1.2
+equality_sort Differ s t u is h = sym (equality_parts (Some s) (Some t) u h).1.2
 equality_sort op s t u is h = absurd (cc)
 
 -- ---- their gates

@@ -1,7 +1,8 @@
 -- Several conditions that are one, and what they call.
 use Rattle.std.proofs.Common.{◌≡◌, ℕ, List, ◌++◌, map, Option, Some, None, refl, ap, ◌∙◌}
 use Rattle.std.specs.Option.{option_map}
-use Rattle.pp_prog.specs.Calls.{calls, joined, or_none, pre_calls}
+use Rattle.pp_list.specs.Joined.{joined, or_none}
+use Rattle.pp_prog.specs.Calls.{calls, pre_calls}
 use Rattle.pp_tree.specs.declared.operator.BinaryOp.TheVariants.{AndAlso}
 use Rattle.pp_prog.specs.declared.expr.Expr.{Expr}
 use Rattle.pp_prog.proofs.CallForms.{calls_of_binary}

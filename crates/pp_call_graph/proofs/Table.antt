@@ -3,6 +3,7 @@ use Rattle.std.proofs.Common.{◌≡◌, ℕ, ◌+◌, ◌<◌, ◌≤◌, List,
 use Rattle.std.proofs.Common.{refl, sym, ap, ◌∙◌, subst, arith, append_assoc, length-append}
 use Rattle.std.proofs.lemmas.List.{append-nil, take_more}
 use Rattle.std.specs.Prelude.{slice_get}
+use Rattle.pp_list.specs.Joined.{joined}
 use Rattle.pp_call_graph.proofs.Conditions.{both_parts, calls_of_one}
 use Rattle.pp_call_graph.proofs.Numberless.{table_of_bare}
 use Rattle.pp_call_graph.proofs.Translated.{calls_of_translation, calls_of_translations}
@@ -12,7 +13,7 @@ use Rattle.pp_call_graph.specs.TypedCalls as typed_side
 use Rattle.pp_graph.specs.Reaches.{AreGroups}
 use Rattle.pp_instances.specs.declared.member.Instance.{Instance}
 use Rattle.pp_instances.specs.declared.member.Member.{Member}
-use Rattle.pp_prog.specs.Calls.{call_table, function_calls, joined, post_calls}
+use Rattle.pp_prog.specs.Calls.{call_table, function_calls, post_calls}
 use Rattle.pp_prog.specs.declared.expr.Function.{Function}
 use Rattle.pp_translation.specs.Functions.{function_if, function_of, functions_of, post_at}
 use Rattle.pp_typed.specs.declared.sort.GenericSort.{GenericSort}

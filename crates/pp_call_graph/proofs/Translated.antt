@@ -1,5 +1,7 @@
 -- What a typed expression calls is what the expression of the program calls that it is.
 use Rattle.std.proofs.Common.{◌≡◌, ℕ, List, [], ◌∷◌, ◌++◌, map, Option, Some, None, refl, sym, ap, ◌∙◌, subst}
+use Rattle.pp_typed.specs.Parts.{case_parts}
+use Rattle.pp_list.specs.Joined.{joined}
 use Rattle.pp_call_graph.proofs.Conditions.{both_parts}
 use Rattle.pp_prog.proofs.CallForms.{calls_of_int, calls_of_bool, calls_of_var, calls_of_unary, calls_of_binary}
 use Rattle.pp_prog.proofs.CallForms.{calls_of_construct, calls_of_field, calls_of_if, calls_of_match, calls_of_val}
@@ -7,7 +9,7 @@ use Rattle.pp_prog.proofs.CallForms.{calls_of_assert, calls_of_call, calls_of_ca
 use Rattle.pp_call_graph.specs.TypedCalls as typed_side
 use Rattle.pp_call_graph.specs.TypedCalls.{case_calls, kind_calls, typed_calls}
 use Rattle.pp_instances.specs.declared.member.Member.{Member}
-use Rattle.pp_prog.specs.Calls.{calls, calls_in_case, joined}
+use Rattle.pp_prog.specs.Calls.{calls, calls_in_case}
 use Rattle.pp_prog.specs.declared.expr.Case.{Case}
 use Rattle.pp_prog.specs.declared.expr.Expr.{Expr}
 use Rattle.pp_translation.specs.Exprs.{CaseAt, Translated, case_for, case_step, expr_at, expr_of, expr_step, kind_step}
@@ -115,7 +117,7 @@ module _ (typed : Typed) (roots functions : List Member) (args : List GenericSor
       ap calls (fold-roll-TypedKind Expr CaseAt Translated (kind_step typed roots functions args)
       (case_step typed roots functions args) (expr_step typed roots functions args) (kind_below y))
       ∙ level y
-      ∙ sym (fold-roll-TypedKind Ns Ns Ns (typed_side.kind_step functions args) (typed_side.case_step functions args)
+      ∙ sym (fold-roll-TypedKind Ns Ns Ns (typed_side.kind_step functions args) case_parts
       (typed_side.expr_step functions args) (kind_below y))
 
   abbrev case_below : layer.TypedCase-F K C E → layer.TypedCase-F TypedKind TypedCase TypedExpr
@@ -125,7 +127,7 @@ module _ (typed : Typed) (roots functions : List Member) (args : List GenericSor
       → let y : layer.TypedCase-F K C E = record { pattern = p; guard = o; body = b } in
       calls_in_case (case_step typed roots functions args
       (map-TypedCase TypedKind TypedCase TypedExpr Expr CaseAt Translated in_kind in_case in_expr (case_below y)) s)
-      ≡ typed_side.case_step functions args
+      ≡ case_parts
       (map-TypedCase TypedKind TypedCase TypedExpr Ns Ns Ns (kind_calls functions args) (case_calls functions args)
       (typed_calls functions args) (case_below y))
   at_parts p None b s =
@@ -144,7 +146,7 @@ module _ (typed : Typed) (roots functions : List Member) (args : List GenericSor
       (fold-roll-TypedCase Expr CaseAt Translated (kind_step typed roots functions args)
       (case_step typed roots functions args) (expr_step typed roots functions args) (case_below y))
       ∙ at_parts y.pattern y.guard y.body s
-      ∙ sym (fold-roll-TypedCase Ns Ns Ns (typed_side.kind_step functions args) (typed_side.case_step functions args)
+      ∙ sym (fold-roll-TypedCase Ns Ns Ns (typed_side.kind_step functions args) case_parts
       (typed_side.expr_step functions args) (case_below y))
 
   abbrev expr_below : layer.TypedExpr-F K C E → layer.TypedExpr-F TypedKind TypedCase TypedExpr
@@ -156,7 +158,7 @@ module _ (typed : Typed) (roots functions : List Member) (args : List GenericSor
       (fold-roll-TypedExpr Expr CaseAt Translated (kind_step typed roots functions args)
       (case_step typed roots functions args) (expr_step typed roots functions args) (expr_below y))
       ∙ y.kind.1
-      ∙ sym (fold-roll-TypedExpr Ns Ns Ns (typed_side.kind_step functions args) (typed_side.case_step functions args)
+      ∙ sym (fold-roll-TypedExpr Ns Ns Ns (typed_side.kind_step functions args) case_parts
       (typed_side.expr_step functions args) (expr_below y))
 
   -- what a typed expression calls is what its translation calls

@@ -1,10 +1,11 @@
 -- Which functions of a program typed functions call at the type arguments of an instance, contracts included, in the
 -- order in which their translations call them. Source: own.
 use Rattle.std.specs.Prelude.{ℕ, List, [], ◌∷◌, ◌++◌, map, Option, Some, None, slice_get}
+use Rattle.pp_list.specs.Joined.{joined}
 use Rattle.pp_instances.specs.declared.member.Instance.{Instance}
 use Rattle.pp_instances.specs.declared.member.Member.{Member}
-use Rattle.pp_prog.specs.Calls.{joined, or_none}
 use Rattle.pp_translation.specs.Numbers.{function_number}
+use Rattle.pp_typed.specs.Parts.{case_parts, kind_parts}
 use Rattle.pp_typed.specs.Put.{put}
 use Rattle.pp_typed.specs.declared.expr.TypedCase.{TypedCase}
 use Rattle.pp_typed.specs.declared.expr.TypedExpr.{TypedExpr}
@@ -24,36 +25,23 @@ module _ (functions : List Member) (args : List GenericSort) where
 
   -- one level, with the calls of the parts in their place
   abbrev pub kind_step : layer.TypedKind-F (List ℕ) (List ℕ) (List ℕ) → List ℕ
-  kind_step (layer.Int n) = []
-  kind_step (layer.Bool b) = []
-  kind_step (layer.Local i) = []
   kind_step (layer.Call f sorts es) = joined es ++ callee f sorts ∷ []
-  kind_step (layer.Construct c sorts es) = joined es
-  kind_step (layer.Field e j) = e
-  kind_step (layer.Unary op a) = a
-  kind_step (layer.Binary op a b) = a ++ b
-  kind_step (layer.If c a b) = c ++ a ++ b
-  kind_step (layer.Match e cases) = e ++ joined cases
-  kind_step (layer.Val bound rest) = bound ++ rest
-  kind_step (layer.Assert c rest) = c ++ rest
-
-  abbrev pub case_step : layer.TypedCase-F (List ℕ) (List ℕ) (List ℕ) → List ℕ
-  case_step c = or_none c.guard ++ c.body
+  kind_step y = kind_parts y
 
   abbrev pub expr_step : layer.TypedExpr-F (List ℕ) (List ℕ) (List ℕ) → List ℕ
   expr_step e = e.kind
 
   -- the functions that an expression calls
   abbrev pub typed_calls : TypedExpr → List ℕ
-  typed_calls = fold-TypedExpr (List ℕ) (List ℕ) (List ℕ) kind_step case_step expr_step
+  typed_calls = fold-TypedExpr (List ℕ) (List ℕ) (List ℕ) kind_step case_parts expr_step
 
   -- the functions that a case calls, in its guard and its body
   abbrev pub case_calls : TypedCase → List ℕ
-  case_calls = fold-TypedCase (List ℕ) (List ℕ) (List ℕ) kind_step case_step expr_step
+  case_calls = fold-TypedCase (List ℕ) (List ℕ) (List ℕ) kind_step case_parts expr_step
 
   -- the functions that are called below an expression
   abbrev pub kind_calls : TypedKind → List ℕ
-  kind_calls = fold-TypedKind (List ℕ) (List ℕ) (List ℕ) kind_step case_step expr_step
+  kind_calls = fold-TypedKind (List ℕ) (List ℕ) (List ℕ) kind_step case_parts expr_step
 
   -- the functions that expressions call, and that cases call
   abbrev pub all_calls : List TypedExpr → List ℕ

@@ -1,10 +1,10 @@
 -- The kinds and offsets of those sites that carry a check.
 use Rattle.std.proofs.Common.{◌≡◌, List, [], ◌∷◌, ◌++◌, map, Contains, Option, Some, None, refl, sym, ap, ◌∙◌, subst}
+use Rattle.pp_list.specs.Joined.{joined}
 use Rattle.pp_check_places.proofs.Marked.{KindAt, kind_of, offset_of}
 use Rattle.pp_check_places.proofs.SiteKinds.{site_kinds}
 use Rattle.pp_instances.proofs.Kept.{nothing_in}
 use Rattle.pp_order.proofs.Made.{in_head, in_tail, in_more}
-use Rattle.pp_prog.specs.Calls.{joined}
 use Rattle.pp_prog.specs.Listing.{Site, as_kind, assertion, carried, division, matching, measure, plain, postcondition}
 use Rattle.pp_prog.specs.Listing.{precondition}
 use Rattle.pp_prog.specs.declared.check.CheckKind.{CheckKind}

@@ -3,6 +3,7 @@ use Rattle.std.proofs.Common.{◌≡◌, ℕ, List, [], ◌∷◌, ◌++◌, map
 use Rattle.std.proofs.Common.{append_assoc, ⊎_elim}
 use Rattle.std.proofs.lemmas.List.{append-nil, map-append}
 use Rattle.std.proofs.lemmas.List.Elements.{All-contains, All-head, All-tail, Contains-append_cases}
+use Rattle.pp_list.specs.Joined.{joined}
 use Rattle.pp_check_places.proofs.Apart.{all_differ, at_some, differ_from, none_at, two_differ}
 use Rattle.pp_check_places.proofs.Chosen.{Differ}
 use Rattle.pp_check_places.proofs.Marked.{IsMarked, KindAt, all_at, kind_of, none_marked, offset_of, two_marked}
@@ -16,7 +17,7 @@ use Rattle.pp_prog.specs.declared.expr.Expr.{Expr}
 use Rattle.pp_translation.specs.Exprs.{expr_at}
 use Rattle.pp_translation.specs.Places.{def_offsets, post_offsets, site_offsets}
 use Rattle.pp_typed.specs.Apart.{IsApart, Mark, def_marks, marks, post_marks}
-use Rattle.pp_typed.specs.Stand.{DefStands, ExprStands, Offset, PostStands, Stands, joined, offsets}
+use Rattle.pp_typed.specs.Stand.{DefStands, ExprStands, Offset, PostStands, Stands, offsets}
 use Rattle.pp_typed.specs.declared.expr.TypedExpr.{TypedExpr}
 use Rattle.pp_typed.specs.declared.sort.GenericSort.{GenericSort}
 use Rattle.pp_typed.specs.declared.typed.Typed.{Typed}

@@ -3,13 +3,13 @@ use Rattle.std.proofs.Common.{◌≡◌, ℕ, true, List, [], ◌∷◌, ◌++�
 use Rattle.std.specs.Option.{option_map}
 use Rattle.std.proofs.lemmas.Bool.{and_parts}
 use Rattle.std.proofs.lemmas.List.{append-nil}
+use Rattle.pp_list.specs.Joined.{joined, or_none}
 use Rattle.pp_check_places.proofs.Defs.{before_post, def_checks, def_kinds_are, post_kinds}
 use Rattle.pp_check_places.proofs.Marked.{kind_of}
 use Rattle.pp_check_places.proofs.SiteKinds.{Kinds, kinds, site_kinds, bare_kinds, kinds_binary}
 use Rattle.pp_check_places.proofs.Sited.{HasKinds, before, expr_sited, none_has, two}
 use Rattle.pp_instances.specs.declared.member.Instance.{Instance}
 use Rattle.pp_instances.specs.declared.member.Member.{Member}
-use Rattle.pp_prog.specs.Calls.{joined, or_none}
 use Rattle.pp_prog.specs.ExprSorts.{is_of_sort, is_sorted, is_sorted_measure, is_sorted_post, is_sorted_pre, sort_of}
 use Rattle.pp_prog.specs.Listing.{function_sites, measure_sites, post_sites, postcondition, pre_sites}
 use Rattle.pp_prog.specs.Sorts.{param_sorts}

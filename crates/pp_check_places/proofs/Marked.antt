@@ -2,10 +2,10 @@
 use Rattle.std.proofs.Common.{◌≡◌, List, [], ◌∷◌, ◌++◌, map, Contains, refl, sym, ap, ◌∙◌, subst, ⊎_elim}
 use Rattle.std.proofs.lemmas.List.{append-nil, map-append}
 use Rattle.std.proofs.lemmas.List.Elements.{Contains-append_cases, Contains-append_left, Contains-append_right}
+use Rattle.pp_list.specs.Joined.{joined}
 use Rattle.pp_check_places.proofs.SiteKinds.{Kinds}
 use Rattle.pp_instances.proofs.Kept.{nothing_in}
 use Rattle.pp_order.proofs.Made.{in_head, in_tail, in_more}
-use Rattle.pp_prog.specs.Calls.{joined}
 use Rattle.pp_prog.specs.declared.check.CheckKind.{CheckKind}
 use Rattle.pp_prog.specs.declared.check.CheckKind.TheVariants as kind
 use Rattle.pp_typed.specs.Apart.{Mark, SiteKind, a_call, a_division, a_match, an_assertion}

@@ -1,6 +1,8 @@
 -- A typed expression has as many marks as the sites of the expression that it is, with their kinds and at their
 -- offsets.
 use Rattle.std.proofs.Common.{◌≡◌, List, [], ◌∷◌, map, Option, Some, None, sym, ap, subst, Bool, true, false}
+use Rattle.pp_typed.specs.Parts.{case_parts, kind_parts}
+use Rattle.pp_list.specs.Joined.{joined}
 use Rattle.pp_check_places.proofs.Marked.{IsMarked, around_marked, call_marked, division_marked, last_marked}
 use Rattle.pp_check_places.proofs.Marked.{none_marked, two_marked, under_marked, with_kinds}
 use Rattle.pp_check_places.proofs.SiteKinds.{Kinds, case_kinds, division_kinds, kinds, operator_kinds, kinds_assert}
@@ -18,10 +20,10 @@ use Rattle.pp_translation.specs.Places.{division_offset, operator_offset, site_o
 use Rattle.pp_operators.specs.Classes.{is_division}
 use Rattle.pp_tree.specs.declared.operator.BinaryOp.{BinaryOp}
 use Rattle.pp_typed.specs.Apart.{Mark, a_match, an_assertion, case_marks, expr_marks, kind_marks, division_mark, marks}
-use Rattle.pp_typed.specs.Apart.{operator_mark, a_call, a_division}
+use Rattle.pp_typed.specs.Apart.{operator_mark}
 use Rattle.pp_typed.specs.Apart as apart
 use Rattle.pp_typed.specs.Put.{put}
-use Rattle.pp_typed.specs.Stand.{Offset, case_offsets, expr_offsets, joined, kind_offsets, offsets}
+use Rattle.pp_typed.specs.Stand.{Offset, expr_offsets, offsets}
 use Rattle.pp_typed.specs.declared.expr.TypedCase.{TypedCase}
 use Rattle.pp_typed.specs.declared.expr.TypedExpr.{TypedExpr}
 use Rattle.pp_typed.specs.declared.expr.TypedKind.{TypedKind}
@@ -64,10 +66,10 @@ abbrev sites_in_case : TypedCase → Os
 sites_in_case = fold-TypedCase places.Below Os Os places.kind_step places.case_step places.expr_step
 
 abbrev offsets_below : TypedKind → Os
-offsets_below = fold-TypedKind Os Os Os kind_offsets case_offsets expr_offsets
+offsets_below = fold-TypedKind Os Os Os kind_parts case_parts expr_offsets
 
 abbrev offsets_in_case : TypedCase → Os
-offsets_in_case = fold-TypedCase Os Os Os kind_offsets case_offsets expr_offsets
+offsets_in_case = fold-TypedCase Os Os Os kind_parts case_parts expr_offsets
 
 module _ (typed : Typed) (roots functions : List Member) (args : List GenericSort) where
   abbrev step : layer.TypedKind-F Expr CaseAt Translated → Expr
@@ -141,7 +143,7 @@ module _ (typed : Typed) (roots functions : List Member) (args : List GenericSor
 
   abbrev told_offsets : layer.TypedKind-F TypedKind TypedCase TypedExpr → Os
   told_offsets z =
-      kind_offsets (map-TypedKind TypedKind TypedCase TypedExpr Os Os Os offsets_below offsets_in_case offsets z)
+      kind_parts (map-TypedKind TypedKind TypedCase TypedExpr Os Os Os offsets_below offsets_in_case offsets z)
 
   abbrev told_expr : layer.TypedKind-F TypedKind TypedCase TypedExpr → Expr
   told_expr z = step (map-TypedKind TypedKind TypedCase TypedExpr Expr CaseAt Translated in_kind in_case whole z)
@@ -190,7 +192,7 @@ module _ (typed : Typed) (roots functions : List Member) (args : List GenericSor
       (ap (λ (f : places.Below). f here)
       (fold-roll-TypedKind places.Below Os Os places.kind_step places.case_step places.expr_step z))
       (ap kinds (fold-roll-TypedKind Expr CaseAt Translated step case_step expr_step z))
-      (ap (λ l. here ∷ l) (fold-roll-TypedKind Os Os Os kind_offsets case_offsets expr_offsets z)) (level y here)
+      (ap (λ l. here ∷ l) (fold-roll-TypedKind Os Os Os kind_parts case_parts expr_offsets z)) (level y here)
 
   abbrev under_case : layer.TypedCase-F T K E → layer.TypedCase-F TypedKind TypedCase TypedExpr
   under_case y = map-TypedCase T K E TypedKind TypedCase TypedExpr (λ z. z.0) (λ z. z.0) (λ z. z.0) y
@@ -204,7 +206,7 @@ module _ (typed : Typed) (roots functions : List Member) (args : List GenericSor
       (map-TypedCase TypedKind TypedCase TypedExpr places.Below Os Os sites_below sites_in_case site_offsets z))
       (case_kinds
       (case_step (map-TypedCase TypedKind TypedCase TypedExpr Expr CaseAt Translated in_kind in_case whole z) s))
-      (case_offsets (map-TypedCase TypedKind TypedCase TypedExpr Os Os Os offsets_below offsets_in_case offsets z))
+      (case_parts (map-TypedCase TypedKind TypedCase TypedExpr Os Os Os offsets_below offsets_in_case offsets z))
   case_level p None b s = with_kinds b.1 (kinds_in_case (pattern_at typed roots p s) None (expr_of (whole b.0)))
   case_level p (Some g) b s =
       with_kinds (two_marked g.1 b.1)
@@ -216,7 +218,7 @@ module _ (typed : Typed) (roots functions : List Member) (args : List GenericSor
       moved (fold-roll-TypedCase apart.Below Ms Ms kind_marks case_marks expr_marks z)
       (fold-roll-TypedCase places.Below Os Os places.kind_step places.case_step places.expr_step z)
       (ap (λ (f : CaseAt). case_kinds (f s)) (fold-roll-TypedCase Expr CaseAt Translated step case_step expr_step z))
-      (fold-roll-TypedCase Os Os Os kind_offsets case_offsets expr_offsets z) (case_level y.pattern y.guard y.body s)
+      (fold-roll-TypedCase Os Os Os kind_parts case_parts expr_offsets z) (case_level y.pattern y.guard y.body s)
 
   abbrev under_expr : layer.TypedExpr-F T K E → layer.TypedExpr-F TypedKind TypedCase TypedExpr
   under_expr y = map-TypedExpr T K E TypedKind TypedCase TypedExpr (λ z. z.0) (λ z. z.0) (λ z. z.0) y
@@ -228,7 +230,7 @@ module _ (typed : Typed) (roots functions : List Member) (args : List GenericSor
       (fold-roll-TypedExpr places.Below Os Os places.kind_step places.case_step places.expr_step z)
       (ap (λ (t : Translated). kinds (expr_of t))
       (fold-roll-TypedExpr Expr CaseAt Translated step case_step expr_step z))
-      (fold-roll-TypedExpr Os Os Os kind_offsets case_offsets expr_offsets z) (y.kind.1 (y.source, y.at))
+      (fold-roll-TypedExpr Os Os Os kind_parts case_parts expr_offsets z) (y.kind.1 (y.source, y.at))
 
   -- the marks of an expression
   pub expr_marked : (e : TypedExpr)

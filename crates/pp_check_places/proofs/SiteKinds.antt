@@ -1,9 +1,11 @@
 -- The kinds of the checks that the sites of an expression may carry, in the order of evaluation. They don't depend on
 -- the numbers of checks.
-use Rattle.std.proofs.Common.{◌≡◌, ℕ, ℤ, Bool, List, [], ◌∷◌, ◌++◌, map, Option, Some, None, refl, sym, ap, ◌∙◌, subst}
+use Rattle.std.proofs.Common.{◌≡◌, ℕ, ℤ, Bool, List, [], ◌∷◌, ◌++◌, map, Option, Some, None, refl, sym, ap, ◌∙◌}
 use Rattle.std.specs.Option.{option_map}
 use Rattle.std.specs.Prelude.{List, [], ◌∷◌, ◌++◌, map, Option, true, false}
-use Rattle.pp_prog.specs.Calls.{joined, or_none}
+use Rattle.pp_list.proofs.With.{With, elements}
+use Rattle.pp_prog.proofs.Induction.{case_under, each_expr, under}
+use Rattle.pp_list.specs.Joined.{joined, or_none}
 use Rattle.pp_prog.specs.Listing.{Site, plain, division, assertion, precondition, measure, matching, postcondition}
 use Rattle.pp_prog.specs.declared.check.CheckKind.{CheckKind}
 use Rattle.pp_prog.specs.declared.check.CheckKind.TheVariants as kind
@@ -11,7 +13,7 @@ use Rattle.pp_operators.specs.Classes.{is_division}
 use Rattle.pp_tree.specs.declared.operator.BinaryOp.{BinaryOp}
 use Rattle.pp_prog.specs.declared.expr.Case.{Case}
 use Rattle.pp_prog.specs.declared.expr.Expr.{Expr}
-use Rattle.pp_prog.specs.declared.expr.Expr.TheFolds.{fold-roll-Case, fold-roll-Expr, fold-Case, ind-Expr, map-Case}
+use Rattle.pp_prog.specs.declared.expr.Expr.TheFolds.{fold-roll-Case, fold-roll-Expr, fold-Case, map-Case}
 use Rattle.pp_prog.specs.declared.expr.Expr.TheFolds.{map-Expr, fold-Expr}
 use Rattle.pp_prog.specs.declared.expr.Expr.TheOpen as layer
 use Rattle.pp_prog.specs.declared.expr.Expr.TheVariants as prog
@@ -139,34 +141,19 @@ IsSame x = kinds (bare x) ≡ kinds x
 abbrev IsSameCase : Case → Type 0
 IsSameCase y = case_kinds (bare_in_case y) ≡ case_kinds y
 
-abbrev E : Type 0
-E = (x : Expr) × IsSame x
-
-abbrev K : Type 0
-K = (y : Case) × IsSameCase y
-
-abbrev first : E → Expr
-first y = y.0
-
-abbrev first_case : K → Case
-first_case y = y.0
-
-abbrev under : layer.Expr-F E K → Layer
-under y = map-Expr E K Expr Case (λ z. z.0) (λ z. z.0) y
-
-all_same : (ys : List E) → joined (map kinds (map bare (map (λ z. z.0) ys))) ≡ joined (map kinds (map (λ z. z.0) ys))
+all_same : (ys : List (With IsSame)) → joined (map kinds (map bare (elements ys))) ≡ joined (map kinds (elements ys))
 all_same [] = refl
 all_same (y ∷ ys) =
-    ap (λ l. l ++ joined (map kinds (map bare (map first ys)))) y.1 ∙ ap (λ l. kinds y.0 ++ l) (all_same ys)
+    ap (λ l. l ++ joined (map kinds (map bare (elements ys)))) y.1 ∙ ap (λ l. kinds y.0 ++ l) (all_same ys)
 
-cases_same : (ys : List K)
-    → joined (map case_kinds (map bare_in_case (map (λ z. z.0) ys))) ≡ joined (map case_kinds (map (λ z. z.0) ys))
+cases_same : (ys : List (With IsSameCase))
+    → joined (map case_kinds (map bare_in_case (elements ys))) ≡ joined (map case_kinds (elements ys))
 cases_same [] = refl
 cases_same (y ∷ ys) =
-    ap (λ l. l ++ joined (map case_kinds (map bare_in_case (map first_case ys)))) y.1
+    ap (λ l. l ++ joined (map case_kinds (map bare_in_case (elements ys)))) y.1
     ∙ ap (λ l. case_kinds y.0 ++ l) (cases_same ys)
 
-level : (y : layer.Expr-F E K)
+level : (y : layer.Expr-F (With IsSame) (With IsSameCase))
     → kinds (bare_step (map-Expr Expr Case Expr Case bare bare_in_case (under y)))
     ≡ kinds_step (map-Expr Expr Case Kinds Kinds kinds case_kinds (under y))
 level (layer.Int n) = kinds_int n
@@ -176,14 +163,14 @@ level (layer.Unary op a) = kinds_unary op (bare a.0) ∙ a.1
 level (layer.Binary op a b check) =
     kinds_binary op (bare a.0) (bare b.0) None ∙ ap (λ l. l ++ kinds (bare b.0) ++ operator_kinds op) a.1
     ∙ ap (λ l. kinds a.0 ++ l ++ operator_kinds op) b.1
-level (layer.Construct c args) = kinds_construct c (map bare (map first args)) ∙ all_same args
+level (layer.Construct c args) = kinds_construct c (map bare (elements args)) ∙ all_same args
 level (layer.Field e k) = kinds_field (bare e.0) k ∙ e.1
 level (layer.If c a b) =
     kinds_if (bare c.0) (bare a.0) (bare b.0) ∙ ap (λ l. l ++ kinds (bare a.0) ++ kinds (bare b.0)) c.1
     ∙ ap (λ l. kinds c.0 ++ l ++ kinds (bare b.0)) a.1 ∙ ap (λ l. kinds c.0 ++ kinds a.0 ++ l) b.1
 level (layer.Match e cases check) =
-    kinds_match (bare e.0) (map bare_in_case (map first_case cases)) None
-    ∙ ap (λ l. l ++ kind.Match ∷ joined (map case_kinds (map bare_in_case (map first_case cases)))) e.1
+    kinds_match (bare e.0) (map bare_in_case (elements cases)) None
+    ∙ ap (λ l. l ++ kind.Match ∷ joined (map case_kinds (map bare_in_case (elements cases)))) e.1
     ∙ ap (λ l. kinds e.0 ++ kind.Match ∷ l) (cases_same cases)
 level (layer.Val bound rest) =
     kinds_val (bare bound.0) (bare rest.0) ∙ ap (λ l. l ++ kinds (bare rest.0)) bound.1
@@ -192,32 +179,28 @@ level (layer.Assert check c rest) =
     kinds_assert unnumbered (bare c.0) (bare rest.0) ∙ ap (λ l. l ++ kind.Assertion ∷ kinds (bare rest.0)) c.1
     ∙ ap (λ l. kinds c.0 ++ kind.Assertion ∷ l) rest.1
 level (layer.Call g args pre down) =
-    kinds_call g (map bare (map first args)) None None
+    kinds_call g (map bare (elements args)) None None
     ∙ ap (λ l. l ++ kind.Precondition ∷ kind.Measure ∷ []) (all_same args)
 
-at_level : (y : layer.Expr-F E K) → IsSame (roll-Expr (under y))
+at_level : (y : layer.Expr-F (With IsSame) (With IsSameCase)) → IsSame (roll-Expr (under y))
 at_level y =
     ap kinds (fold-roll-Expr Expr Case bare_step bare_case (under y)) ∙ level y ∙ sym (rolled (under y))
 
-abbrev under_case : layer.Case-F E K → layer.Case-F Expr Case
-under_case y = map-Case E K Expr Case (λ z. z.0) (λ z. z.0) y
-
-at_parts : (p : Pattern) (o : Option E) (b : E)
-    → IsSameCase (roll-Case (under_case (record { pattern = p; guard = o; body = b })))
+at_parts : (p : Pattern) (o : Option (With IsSame)) (b : With IsSame)
+    → IsSameCase (roll-Case (case_under IsSameCase (record { pattern = p; guard = o; body = b })))
 at_parts p None b =
-    let z = under_case (record { pattern = p; guard = None; body = b }) in
+    let z = case_under IsSameCase (record { pattern = p; guard = None; body = b }) in
     ap case_kinds (fold-roll-Case Expr Case bare_step bare_case z) ∙ kinds_in_case p None (bare b.0) ∙ b.1
     ∙ sym (rolled_case z)
 at_parts p (Some e) b =
-    let z = under_case (record { pattern = p; guard = Some e; body = b }) in
+    let z = case_under IsSameCase (record { pattern = p; guard = Some e; body = b }) in
     ap case_kinds (fold-roll-Case Expr Case bare_step bare_case z) ∙ kinds_in_case p (Some (bare e.0)) (bare b.0)
     ∙ ap (λ l. l ++ kinds (bare b.0)) e.1 ∙ ap (λ l. kinds e.0 ++ l) b.1 ∙ sym (rolled_case z)
 
-at_case : (y : layer.Case-F E K) → IsSameCase (roll-Case (map-Case E K Expr Case (λ z. z.0) (λ z. z.0) y))
+at_case : (y : layer.Case-F (With IsSame) (With IsSameCase)) → IsSameCase (roll-Case (case_under IsSameCase y))
 at_case y = at_parts y.pattern y.guard y.body
 
 -- the kinds of an expression are those without the numbers of its checks
 pub bare_kinds : (x : Expr) → IsSame x
 bare_kinds =
-    ind-Expr IsSame IsSameCase (λ x y is. subst (λ z. IsSame (roll-Expr z)) is (at_level y))
-    (λ x y is. subst (λ z. IsSameCase (roll-Case z)) is (at_case y))
+    each_expr IsSame IsSameCase at_level at_case

@@ -2,9 +2,13 @@
 use Rattle.std.proofs.Common.{◌≡◌, List, [], ◌∷◌, ◌++◌, map, Option, Some, None, refl, sym, ap, ◌∙◌, subst}
 use Rattle.std.proofs.lemmas.List.{map-append}
 use Rattle.std.specs.Prelude.{slice_get, Bool, true, false}
+use Rattle.pp_list.proofs.With.{With, elements}
+use Rattle.pp_prog.proofs.Induction.{case_under, each_expr, under}
+use Rattle.pp_prog.specs.ExprSorts.{case_sorts}
+use Rattle.pp_prog.specs.Listing.{sites_in_case, with_case_sites, with_sites}
+use Rattle.pp_list.specs.Joined.{joined}
 use Rattle.pp_check_places.proofs.SiteKinds.{Kinds, case_kinds, kinds, kinds_step, case_kinds_step, division_kinds}
 use Rattle.pp_check_places.proofs.SiteKinds.{operator_kinds, site_kind, site_kinds, rolled, rolled_case}
-use Rattle.pp_prog.specs.Calls.{joined}
 use Rattle.pp_prog.specs.ExprSorts.{Sorting, alike, arm_with, arms_sort, field_sort, sort_of, sort_step, sorts_in}
 use Rattle.pp_prog.specs.ExprSorts as sorts
 use Rattle.pp_prog.specs.Listing.{CaseSites, Site, Sites, assertion, precondition, measure, at_sort, case_sites}
@@ -17,8 +21,8 @@ use Rattle.pp_operators.specs.Classes.{is_division}
 use Rattle.pp_tree.specs.declared.operator.BinaryOp.{BinaryOp}
 use Rattle.pp_prog.specs.declared.expr.Case.{Case}
 use Rattle.pp_prog.specs.declared.expr.Expr.{Expr}
-use Rattle.pp_prog.specs.declared.expr.Expr.TheFolds.{fold-Case, fold-roll-Case, fold-roll-Expr, ind-Expr, map-Case}
-use Rattle.pp_prog.specs.declared.expr.Expr.TheFolds.{map-Expr, para-Case, para-roll-Case, para-roll-Expr}
+use Rattle.pp_prog.specs.declared.expr.Expr.TheFolds.{fold-roll-Case, fold-roll-Expr, map-Case}
+use Rattle.pp_prog.specs.declared.expr.Expr.TheFolds.{map-Expr, para-roll-Case, para-roll-Expr}
 use Rattle.pp_prog.specs.declared.expr.Expr.TheOpen as layer
 use Rattle.pp_prog.specs.declared.expr.Expr.TheViews.{roll-Case, roll-Expr}
 use Rattle.pp_prog.specs.declared.expr.Pattern.{Pattern}
@@ -72,10 +76,10 @@ module _ (p : Program) where
   Placed = sites p.types p.functions
 
   abbrev SortedArm : Case → sorts.Arm
-  SortedArm = fold-Case Sorting sorts.Arm (sort_step p.types p.functions) sorts.arm_step
+  SortedArm = case_sorts p.types p.functions
 
   abbrev PlacedArm : Case → CaseSites
-  PlacedArm = para-Case Sites CaseSites (site_step p.types p.functions) (case_sites p.types p.functions)
+  PlacedArm = sites_in_case p.types p.functions
 
   abbrev IsSited : Expr → Type 0
   IsSited e = (scope : List Sort) (s : Sort) → Sorted e scope ≡ Some s → HasKinds (Placed e scope) (kinds e)
@@ -84,51 +88,32 @@ module _ (p : Program) where
   IsSitedCase k = (s u : Sort) (scope : List Sort) → sorts.arm_sort p.types p.functions (SortedArm k) s scope ≡ Some u
       → HasKinds (PlacedArm k s scope) (case_kinds k)
 
-  abbrev E : Type 0
-  E = (e : Expr) × IsSited e
-
-  abbrev K : Type 0
-  K = (k : Case) × IsSitedCase k
-
-  abbrev exprs : List E → List Expr
-  exprs ys = map (λ y. y.0) ys
-
-  abbrev cases : List K → List Case
-  cases ys = map (λ y. y.0) ys
-
-  abbrev with_sites : List Expr → List (Expr × Sites)
-  with_sites es = map (λ e. (e, Placed e)) es
-
-  abbrev with_case_sites : List Case → List (Case × CaseSites)
-  with_case_sites ks = map (λ k. (k, PlacedArm k)) ks
-
-  all_sited : (ys : List E) (ts : List Sort) (scope : List Sort)
-      → sorts_in scope (map Sorted (exprs ys)) ≡ map Some ts
-      → HasKinds (sites_of_all (with_sites (exprs ys)) scope) (joined (map kinds (exprs ys)))
+  all_sited : (ys : List (With IsSited)) (ts : List Sort) (scope : List Sort)
+      → sorts_in scope (map Sorted (elements ys)) ≡ map Some ts
+      → HasKinds (sites_of_all (with_sites p.types p.functions (elements ys)) scope) (joined (map kinds (elements ys)))
   all_sited [] ts scope h = none_has
   all_sited (y ∷ ys) [] scope h = cc
   all_sited (y ∷ ys) (t ∷ ts) scope h =
       let here : Sorted y.0 scope ≡ Some t = cc in
-      let rest : sorts_in scope (map Sorted (exprs ys)) ≡ map Some ts = cc in
+      let rest : sorts_in scope (map Sorted (elements ys)) ≡ map Some ts = cc in
       two (y.1 scope t here) (all_sited ys ts scope rest)
 
-  cases_sited : (ys : List K) (s u : Sort) (scope : List Sort) → EachArm p s u scope (map SortedArm (cases ys))
-      → HasKinds (sites_of_cases (with_case_sites (cases ys)) s scope) (joined (map case_kinds (cases ys)))
+  cases_sited : (ys : List (With IsSitedCase)) (s u : Sort) (scope : List Sort)
+      → EachArm p s u scope (map SortedArm (elements ys))
+      → HasKinds (sites_of_cases (with_case_sites p.types p.functions (elements ys)) s scope)
+      (joined (map case_kinds (elements ys)))
   cases_sited [] s u scope each = none_has
   cases_sited (y ∷ ys) s u scope each = two (y.1 s u scope each.0) (cases_sited ys s u scope each.1)
 
-  abbrev under : layer.Expr-F E K → layer.Expr-F Expr Case
-  under y = map-Expr E K Expr Case (λ z. z.0) (λ z. z.0) y
-
-  abbrev sorted : layer.Expr-F E K → Sorting
+  abbrev sorted : layer.Expr-F (With IsSited) (With IsSitedCase) → Sorting
   sorted y = sort_step p.types p.functions (map-Expr Expr Case Sorting sorts.Arm Sorted SortedArm (under y))
 
-  abbrev placed : layer.Expr-F E K → Sites
+  abbrev placed : layer.Expr-F (With IsSited) (With IsSitedCase) → Sites
   placed y =
       site_step p.types p.functions
       (map-Expr Expr Case (Expr × Sites) (Case × CaseSites) (λ e. (e, Placed e)) (λ k. (k, PlacedArm k)) (under y))
 
-  level : (y : layer.Expr-F E K) (scope : List Sort) (s : Sort) → sorted y scope ≡ Some s
+  level : (y : layer.Expr-F (With IsSited) (With IsSitedCase)) (scope : List Sort) (s : Sort) → sorted y scope ≡ Some s
       → HasKinds (placed y scope) (kinds_step (map-Expr Expr Case Kinds Kinds kinds case_kinds (under y)))
   level (layer.Int n) scope s h = none_has
   level (layer.Bool b) scope s h = none_has
@@ -138,7 +123,7 @@ module _ (p : Program) where
       let t = binary_parts op (Sorted a.0 scope) (Sorted b.0 scope) s h in
       two (two (a.1 scope t.0.0 t.0.1) (b.1 scope t.1.0 t.1.1)) (operator_has op check)
   level (layer.Construct c args) scope s h =
-      let k = tree_sort_is (slice_get p.types.ctors c.0) (sorts_in scope (map Sorted (exprs args))) s h in
+      let k = tree_sort_is (slice_get p.types.ctors c.0) (sorts_in scope (map Sorted (elements args))) s h in
       all_sited args k.0.fields scope k.2
   level (layer.Field e k) scope s h =
       let d = tree_then (Sorted e.0 scope) (λ d. field_sort p.types p.functions d k) s h in
@@ -148,11 +133,11 @@ module _ (p : Program) where
       let both = alike_are (Sorted a.0 scope) (Sorted b.0 scope) s t.1 in
       two (two (c.1 scope sort.Bool t.0) (a.1 scope s both.0)) (b.1 scope s both.1)
   level (layer.Match e ys check) scope s h =
-      let arms = map SortedArm (cases ys) in
-      let placed_cases = with_case_sites (cases ys) in
+      let arms = map SortedArm (elements ys) in
+      let placed_cases = with_case_sites p.types p.functions (elements ys) in
       let go : Sort → List Site =
       λ t. matching t (unguarded placed_cases) check ∷ sites_of_cases placed_cases t scope in
-      let ks = kind.Match ∷ joined (map case_kinds (cases ys)) in
+      let ks = kind.Match ∷ joined (map case_kinds (elements ys)) in
       let t = sort_then (Sorted e.0 scope) (λ t. arms_sort p.types p.functions arms t scope) s h in
       let after = before (matching t.0 (unguarded placed_cases) check)
       (cases_sited ys t.0 s scope (each_arm p t.0 s scope arms t.2)) in
@@ -166,19 +151,19 @@ module _ (p : Program) where
       let t = bool_then (Sorted c.0 scope) (Sorted rest.0 scope) s h in
       two (c.1 scope sort.Bool t.0) (before (assertion check) (rest.1 scope s t.1))
   level (layer.Call g args pre down) scope s h =
-      let f = call_sort_is (slice_get p.functions g.0) (sorts_in scope (map Sorted (exprs args))) s h in
+      let f = call_sort_is (slice_get p.functions g.0) (sorts_in scope (map Sorted (elements args))) s h in
       two (all_sited args (param_sorts f.0.params) scope f.2)
       (before (precondition g pre) (before (measure g down) none_has))
 
   -- ---- one case
 
-  plain_sited : (pattern : Pattern) (b : E) (ss : Option (List Sort)) (scope : List Sort) (u : Sort)
+  plain_sited : (pattern : Pattern) (b : With IsSited) (ss : Option (List Sort)) (scope : List Sort) (u : Sort)
       → arm_with (record { pattern = pattern; guard = None; body = Sorted b.0 }) scope ss ≡ Some u
       → HasKinds (with_bound ss (λ bound. guard_sites None (scope ++ bound) ++ Placed b.0 (scope ++ bound))) (kinds b.0)
   plain_sited pattern b None scope u h = cc
   plain_sited pattern b (Some ts) scope u h = b.1 (scope ++ ts) u h
 
-  guarded_sited : (pattern : Pattern) (g b : E) (ss : Option (List Sort)) (scope : List Sort) (u : Sort)
+  guarded_sited : (pattern : Pattern) (g b : With IsSited) (ss : Option (List Sort)) (scope : List Sort) (u : Sort)
       → arm_with (record { pattern = pattern; guard = Some (Sorted g.0); body = Sorted b.0 }) scope ss ≡ Some u
       → HasKinds
       (with_bound ss (λ bound. guard_sites (Some (g.0, Placed g.0)) (scope ++ bound) ++ Placed b.0 (scope ++ bound)))
@@ -188,11 +173,8 @@ module _ (p : Program) where
       let are = bool_then (Sorted g.0 (scope ++ ts)) (Sorted b.0 (scope ++ ts)) u h in
       two (g.1 (scope ++ ts) sort.Bool are.0) (b.1 (scope ++ ts) u are.1)
 
-  abbrev case_under : layer.Case-F E K → layer.Case-F Expr Case
-  case_under y = map-Case E K Expr Case (λ z. z.0) (λ z. z.0) y
-
-  by_parts : (pattern : Pattern) (guard : Option E) (b : E) (s u : Sort) (scope : List Sort)
-      → let z = case_under (record { pattern = pattern; guard = guard; body = b }) in
+  by_parts : (pattern : Pattern) (guard : Option (With IsSited)) (b : With IsSited) (s u : Sort) (scope : List Sort)
+      → let z = case_under IsSitedCase (record { pattern = pattern; guard = guard; body = b }) in
       sorts.arm_sort p.types p.functions (sorts.arm_step
       (map-Case Expr Case Sorting sorts.Arm Sorted SortedArm z)) s scope
       ≡ Some u
@@ -203,9 +185,9 @@ module _ (p : Program) where
   by_parts pattern None b s u scope h = plain_sited pattern b (bound_sorts p.types.ctors pattern s) scope u h
   by_parts pattern (Some g) b s u scope h = guarded_sited pattern g b (bound_sorts p.types.ctors pattern s) scope u h
 
-  at_case : (y : layer.Case-F E K) → IsSitedCase (roll-Case (case_under y))
+  at_case : (y : layer.Case-F (With IsSited) (With IsSitedCase)) → IsSitedCase (roll-Case (case_under IsSitedCase y))
   at_case y s u scope h =
-      let z = case_under y in
+      let z = case_under IsSitedCase y in
       let sort_is = fold-roll-Case Sorting sorts.Arm (sort_step p.types p.functions) sorts.arm_step z in
       let sites_are =
       para-roll-Case Sites CaseSites (site_step p.types p.functions) (case_sites p.types p.functions) z in
@@ -214,7 +196,7 @@ module _ (p : Program) where
       (by_parts y.pattern y.guard y.body s u scope
       (sym (ap (λ (a : sorts.Arm). sorts.arm_sort p.types p.functions a s scope) sort_is) ∙ h)))
 
-  at_level : (y : layer.Expr-F E K) → IsSited (roll-Expr (under y))
+  at_level : (y : layer.Expr-F (With IsSited) (With IsSitedCase)) → IsSited (roll-Expr (under y))
   at_level y scope s h =
       let z = under y in
       let sort_is = fold-roll-Expr Sorting sorts.Arm (sort_step p.types p.functions) sorts.arm_step z in
@@ -227,5 +209,4 @@ module _ (p : Program) where
   -- the sites of an expression that has a sort have its kinds
   pub expr_sited : (e : Expr) → IsSited e
   expr_sited =
-      ind-Expr IsSited IsSitedCase (λ x y is. subst (λ z. IsSited (roll-Expr z)) is (at_level y))
-      (λ x y is. subst (λ z. IsSitedCase (roll-Case z)) is (at_case y))
+      each_expr IsSited IsSitedCase at_level at_case

@@ -6,12 +6,14 @@ use Rattle.std.specs.Prelude.{nat_eq, ◌||◌}
 use Rattle.std.proofs.lemmas.Bool.Decides.{eqb_tells}
 use Rattle.std.proofs.lemmas.Bool.{or_right}
 use Rattle.std.proofs.lemmas.Option.{same_Some, slice_get_within}
+use Rattle.pp_list.proofs.With.{With, elements}
+use Rattle.pp_prog.proofs.Induction.{each_pattern, pattern_under}
+use Rattle.pp_list.specs.Joined.{joined}
 use Rattle.pp_graph.specs.Rows.{is_set, marked}
 use Rattle.pp_prog.specs.declared.expr.Pattern.{Pattern}
-use Rattle.pp_prog.specs.declared.expr.Pattern.TheFolds.{fold-roll-Pattern, ind-Pattern, map-Pattern}
+use Rattle.pp_prog.specs.declared.expr.Pattern.TheFolds.{fold-roll-Pattern, map-Pattern}
 use Rattle.pp_prog.specs.declared.expr.Pattern.TheOpen as pattern
 use Rattle.pp_prog.specs.declared.expr.Pattern.TheViews.{roll-Pattern}
-use Rattle.pp_prog.specs.Calls.{joined}
 use Rattle.pp_checks.specs.Marks.{Marking, is_live, marking_step, marks_of}
 use Rattle.pp_checks.specs.Plain.{Binding, IsInside, Origin, Scope, apart, below, bound_by, bound_step}
 use Rattle.pp_checks.specs.Plain.{directly, further}
@@ -112,32 +114,29 @@ module _ (inner : Origin) (live : Bool) where
   abbrev AreAlike : Pattern → Type 0
   AreAlike q = (top : Origin) (t : Bool) → IsMark top t → AreMarks (bound_by inner q top) (marks_of q t live)
 
-  abbrev P : Type 0
-  P = (q : Pattern) × AreAlike q
-
-  fields_alike : (ys : List P)
-      → AreMarks (joined (map (λ (b : Binding). b inner) (map (bound_by inner) (map (λ (y : P). y.0) ys))))
-      (joined (map (λ (m : Marking). m live live) (map marks_of (map (λ (y : P). y.0) ys))))
+  fields_alike : (ys : List (With AreAlike))
+      → AreMarks (joined (map (λ (b : Binding). b inner) (map (bound_by inner) (elements ys))))
+      (joined (map (λ (m : Marking). m live live) (map marks_of (elements ys))))
   fields_alike [] = tt
   fields_alike (y ∷ ys) =
       marks_joined (bound_by inner y.0 inner)
-      (joined (map (λ (b : Binding). b inner) (map (bound_by inner) (map (λ (y : P). y.0) ys))))
+      (joined (map (λ (b : Binding). b inner) (map (bound_by inner) (elements ys))))
       (marks_of y.0 live live)
-      (joined (map (λ (m : Marking). m live live) (map marks_of (map (λ (y : P). y.0) ys))))
+      (joined (map (λ (m : Marking). m live live) (map marks_of (elements ys))))
       (y.1 inner live (inr (refl, refl))) (fields_alike ys)
 
-  level : (y : pattern.Pattern-F P) (top : Origin) (t : Bool) → IsMark top t
-      → AreMarks (bound_step inner (map-Pattern Pattern Binding (bound_by inner) (map-Pattern P Pattern (λ z. z.0) y))
-      top) (marking_step (map-Pattern Pattern Marking marks_of (map-Pattern P Pattern (λ z. z.0) y)) t live)
+  level : (y : pattern.Pattern-F (With AreAlike)) (top : Origin) (t : Bool) → IsMark top t
+      → AreMarks (bound_step inner (map-Pattern Pattern Binding (bound_by inner) (pattern_under y))
+      top) (marking_step (map-Pattern Pattern Marking marks_of (pattern_under y)) t live)
   level pattern.Any top t h = tt
   level (pattern.Bind q) top t h = (h, q.1 top t h)
   level (pattern.Int n) top t h = tt
   level (pattern.Bool b) top t h = tt
   level (pattern.Ctor c ys) top t h = fields_alike ys
 
-  at_level : (y : pattern.Pattern-F P) → AreAlike (roll-Pattern (map-Pattern P Pattern (λ z. z.0) y))
+  at_level : (y : pattern.Pattern-F (With AreAlike)) → AreAlike (roll-Pattern (pattern_under y))
   at_level y top t h =
-      let z = map-Pattern P Pattern (λ w. w.0) y in
+      let z = pattern_under y in
       let one = fold-roll-Pattern Binding (bound_step inner) z in
       let two = fold-roll-Pattern Marking marking_step z in
       subst (λ (b : Binding). AreMarks (b top) (marks_of (roll-Pattern z) t live)) (sym one)
@@ -147,7 +146,7 @@ module _ (inner : Origin) (live : Bool) where
   -- a pattern's variables and their marks
   pub pattern_marks : (q : Pattern) → AreMarks (bound_by inner q apart) (marks_of q false live)
   pattern_marks q =
-      ind-Pattern AreAlike (λ x y is. subst (λ z. AreAlike (roll-Pattern z)) is (at_level y)) q apart false
+      each_pattern AreAlike at_level q apart false
       (inl (refl, refl))
 
 -- ---- the marks of a scope

@@ -2,6 +2,9 @@
 use Rattle.std.proofs.Common.{◌≡◌, ℕ, Bool, true, false, List, [], ◌∷◌, ◌++◌, map, Option, Some, None, length}
 use Rattle.std.proofs.Common.{replicate, slice_get, refl, sym, ap, ◌∙◌, subst, Contains, append_assoc}
 use Rattle.std.specs.Prelude.{if◌then◌else◌}
+use Rattle.pp_list.proofs.With.{With, elements}
+use Rattle.pp_prog.proofs.Induction.{case_under, under}
+use Rattle.pp_list.specs.Joined.{joined}
 use Rattle.pp_graph.proofs.Paths.{nothing}
 use Rattle.pp_prog.specs.declared.expr.Case.{Case}
 use Rattle.pp_prog.specs.declared.expr.Expr.{Expr}
@@ -15,7 +18,6 @@ use Rattle.pp_prog.specs.declared.id.CheckId.{CheckId}
 use Rattle.pp_prog.specs.declared.id.DataId.{DataId}
 use Rattle.pp_prog.specs.declared.sort.Sort.{Sort}
 use Rattle.pp_prog.specs.declared.sort.Sort.TheVariants as sort
-use Rattle.pp_prog.specs.Calls.{joined}
 use Rattle.pp_checks.specs.Marks.{CaseDescents, Seen, case_step, descents, descents_at, descents_from, descents_in_case}
 use Rattle.pp_checks.specs.Marks.{first_param, if_tree, in_all, in_cases, is_live, is_tree, is_tree_param}
 use Rattle.pp_checks.specs.Marks.{marks_of, plain_descents, post_descents, pre_descents, seen, seen_step, tree_param}
@@ -45,37 +47,24 @@ module _ (functions : List Function) (p c : ℕ) where
       (o : Option ℕ) (scope : Scope) (marks : List Bool) → MarksInside p scope marks
       → ListsIn functions p c (LookCase k (is_live p marks o) marks) (parts_of_case scope (below_match o) k)
 
-  abbrev E : Type 0
-  E = (e : Expr) × IsListed e
-
-  abbrev K : Type 0
-  K = (k : Case) × AreListed k
-
-  abbrev exprs : List E → List Expr
-  exprs ys = map (λ y. y.0) ys
-
-  abbrev cases_in : List K → List Case
-  cases_in ys = map (λ y. y.0) ys
-
-  all_listed : (ys : List E) (scope : Scope) (marks : List Bool) → MarksInside p scope marks
-      → ListsIn functions p c (in_all (map Look (exprs ys)) marks) (each_in scope (exprs ys))
+  all_listed : (ys : List (With IsListed)) (scope : Scope) (marks : List Bool) → MarksInside p scope marks
+      → ListsIn functions p c (in_all (map Look (elements ys)) marks) (each_in scope (elements ys))
   all_listed [] scope marks agree = list_none functions p c
   all_listed (y ∷ ys) scope marks agree =
       list_more functions p c (y.1 scope marks agree) (all_listed ys scope marks agree)
 
-  cases_listed : (ys : List K) (o : Option ℕ) (scope : Scope) (marks : List Bool) → MarksInside p scope marks
-      → ListsIn functions p c (in_cases (map LookCase (cases_in ys)) (is_live p marks o) marks)
-      (joined (map (parts_of_case scope (below_match o)) (cases_in ys)))
+  cases_listed : (ys : List (With AreListed)) (o : Option ℕ) (scope : Scope) (marks : List Bool)
+      → MarksInside p scope marks
+      → ListsIn functions p c (in_cases (map LookCase (elements ys)) (is_live p marks o) marks)
+      (joined (map (parts_of_case scope (below_match o)) (elements ys)))
   cases_listed [] o scope marks agree = list_none functions p c
   cases_listed (y ∷ ys) o scope marks agree =
       list_append functions p c (y.1 o scope marks agree) (cases_listed ys o scope marks agree)
 
   -- ---- an expression by its parts
 
-  abbrev under : layer.Expr-F E K → layer.Expr-F Expr Case
-  under y = map-Expr E K Expr Case (λ e. e.0) (λ k. k.0) y
-
-  level : (y : layer.Expr-F E K) (scope : Scope) (marks : List Bool) → MarksInside p scope marks
+  level : (y : layer.Expr-F (With IsListed) (With AreListed)) (scope : Scope) (marks : List Bool)
+      → MarksInside p scope marks
       → Lists functions p c ((seen_step functions p (map-Expr Expr Case Seen CaseDescents Look LookCase (under y))).1
       marks) (scope, roll-Expr (under y))
   level (layer.Int n) scope marks agree =
@@ -91,7 +80,7 @@ module _ (functions : List Function) (p c : ℕ) where
       of_parts functions p c scope (layer.Binary op a.0 b.0 check) (λ g xs pre k e. (cc))
       (list_more functions p c (a.1 scope marks agree) (list_one functions p c (b.1 scope marks agree)))
   level (layer.Construct k args) scope marks agree =
-      of_parts functions p c scope (layer.Construct k (exprs args)) (λ g xs pre k e. (cc))
+      of_parts functions p c scope (layer.Construct k (elements args)) (λ g xs pre k e. (cc))
       (all_listed args scope marks agree)
   level (layer.Field e k) scope marks agree =
       of_parts functions p c scope (layer.Field e.0 k) (λ g xs pre k e. (cc))
@@ -102,10 +91,10 @@ module _ (functions : List Function) (p c : ℕ) where
       (list_more functions p c (t.1 scope marks agree) (list_one functions p c (a.1 scope marks agree)))
       (list_one functions p c (b.1 scope marks agree)))
   level (layer.Match e cases check) scope marks agree =
-      of_parts functions p c scope (layer.Match e.0 (cases_in cases) check) (λ g xs pre k e. (cc))
+      of_parts functions p c scope (layer.Match e.0 (elements cases) check) (λ g xs pre k e. (cc))
       (list_more functions p c (e.1 scope marks agree)
-      (subst (λ b. ListsIn functions p c (in_cases (map LookCase (cases_in cases)) (is_live p marks (Look e.0).0) marks)
-      (joined (map (parts_of_case scope b) (cases_in cases)))) (below_seen functions p e.0)
+      (subst (λ b. ListsIn functions p c (in_cases (map LookCase (elements cases)) (is_live p marks (Look e.0).0) marks)
+      (joined (map (parts_of_case scope b) (elements cases)))) (below_seen functions p e.0)
       (cases_listed cases (Look e.0).0 scope marks agree)))
   level (layer.Val bound rest) scope marks agree =
       of_parts functions p c scope (layer.Val bound.0 rest.0) (λ g xs pre k e. (cc))
@@ -116,18 +105,15 @@ module _ (functions : List Function) (p c : ℕ) where
       of_parts functions p c scope (layer.Assert check t.0 rest.0) (λ g xs pre k e. (cc))
       (list_more functions p c (t.1 scope marks agree) (list_one functions p c (rest.1 scope marks agree)))
   level (layer.Call g args pre measure) scope marks agree =
-      call_listed functions p c scope marks agree g (exprs args) pre measure (all_listed args scope marks agree)
+      call_listed functions p c scope marks agree g (elements args) pre measure (all_listed args scope marks agree)
 
-  at_level : (y : layer.Expr-F E K) → IsListed (roll-Expr (under y))
+  at_level : (y : layer.Expr-F (With IsListed) (With AreListed)) → IsListed (roll-Expr (under y))
   at_level y scope marks agree =
       subst (λ (s : Seen). Lists functions p c (s.1 marks) (scope, roll-Expr (under y)))
       (sym (fold-roll-Expr Seen CaseDescents (seen_step functions p) case_step (under y)))
       (level y scope marks agree)
 
   -- ---- a case by its parts
-
-  abbrev case_under : layer.Case-F E K → layer.Case-F Expr Case
-  case_under y = map-Case E K Expr Case (λ z. z.0) (λ z. z.0) y
 
   case_agrees : (pattern : Pattern) (o : Option ℕ) (scope : Scope) (marks : List Bool) → MarksInside p scope marks
       → MarksInside p (scope ++ bound_by (below_match o) pattern apart)
@@ -136,23 +122,24 @@ module _ (functions : List Function) (p c : ℕ) where
       more_marked p o scope marks agree (bound_by (below_match o) pattern apart)
       (marks_of pattern false (is_live p marks o)) (pattern_marks (below_match o) (is_live p marks o) pattern)
 
-  case_level : (pattern : Pattern) (guard : Option E) (body : E) (o : Option ℕ) (scope : Scope) (marks : List Bool)
+  case_level : (pattern : Pattern) (guard : Option (With IsListed)) (body : With IsListed) (o : Option ℕ)
+      (scope : Scope) (marks : List Bool)
       → MarksInside p scope marks
       → ListsIn functions p c (case_step (map-Case Expr Case Seen CaseDescents Look LookCase
-      (case_under (record { pattern = pattern; guard = guard; body = body }))) (is_live p marks o) marks)
+      (case_under AreListed (record { pattern = pattern; guard = guard; body = body }))) (is_live p marks o) marks)
       (parts_of_case scope (below_match o)
-      (roll-Case (case_under (record { pattern = pattern; guard = guard; body = body }))))
+      (roll-Case (case_under AreListed (record { pattern = pattern; guard = guard; body = body }))))
   case_level pattern None body o scope marks agree =
       list_one functions p c (body.1 _ _ (case_agrees pattern o scope marks agree))
   case_level pattern (Some g) body o scope marks agree =
       let agrees = case_agrees pattern o scope marks agree in
       list_more functions p c (g.1 _ _ agrees) (list_one functions p c (body.1 _ _ agrees))
 
-  at_case : (y : layer.Case-F E K) → AreListed (roll-Case (case_under y))
+  at_case : (y : layer.Case-F (With IsListed) (With AreListed)) → AreListed (roll-Case (case_under AreListed y))
   at_case y o scope marks agree =
       subst (λ (s : CaseDescents). ListsIn functions p c (s (is_live p marks o) marks)
-      (parts_of_case scope (below_match o) (roll-Case (case_under y))))
-      (sym (fold-roll-Case Seen CaseDescents (seen_step functions p) case_step (case_under y)))
+      (parts_of_case scope (below_match o) (roll-Case (case_under AreListed y))))
+      (sym (fold-roll-Case Seen CaseDescents (seen_step functions p) case_step (case_under AreListed y)))
       (case_level y.pattern y.guard y.body o scope marks agree)
 
   expr_listed : (e : Expr) → IsListed e

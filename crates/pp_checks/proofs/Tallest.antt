@@ -9,6 +9,7 @@ use Rattle.std.proofs.lemmas.Bool.{and_parts, eqb-true, le-leb, leb-true, lt-ltb
 use Rattle.std.proofs.lemmas.List.{length_push}
 use Rattle.std.proofs.lemmas.Bool.Decides.{eqb_tells, leb_tells, nat_tests}
 use Rattle.std.proofs.lemmas.Option.{slice_get_within}
+use Rattle.pp_list.specs.Joined.{joined}
 use Rattle.pp_graph.specs.Reaches.{called_by, calls_of}
 use Rattle.pp_prog.specs.declared.id.CtorId.{CtorId}
 use Rattle.pp_prog.specs.declared.id.DataId.{DataId}
@@ -21,7 +22,6 @@ use Rattle.pp_prog.specs.declared.value.Value.{Value}
 use Rattle.pp_prog.specs.declared.value.Value.TheFolds.{fold_out-Value, map-Value}
 use Rattle.pp_prog.specs.declared.value.Value.TheOpen as value
 use Rattle.pp_prog.specs.declared.value.Value.TheViews.{out-Value}
-use Rattle.pp_prog.specs.Calls.{joined}
 use Rattle.pp_prog.specs.Sizes.{IsUpTo, ctors_in, ctors_of, fields_of, sorts_in_ctor}
 use Rattle.pp_prog.specs.Sorts.{fields_have, has_sort, has_step, same_sort, tree_has}
 use Rattle.pp_prog.specs.Table.{Agree, HasValue, HaveValues, in_block, in_block_of, is_of, is_sort}

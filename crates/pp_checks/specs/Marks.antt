@@ -4,6 +4,7 @@
 -- has those, and no other. Source: own.
 use Rattle.std.specs.Prelude.{ℕ, Bool, true, false, ◌||◌, nat_eq, nat_lt, if◌then◌else◌, List, [], ◌∷◌, ◌++◌, map}
 use Rattle.std.specs.Prelude.{Option, Some, None, length, replicate, slice_get}
+use Rattle.pp_list.specs.Joined.{joined}
 use Rattle.pp_graph.specs.Rows.{marked}
 use Rattle.pp_prog.specs.declared.expr.Case.{Case}
 use Rattle.pp_prog.specs.declared.expr.Expr.{Expr}
@@ -18,7 +19,6 @@ use Rattle.pp_prog.specs.declared.expr.Pattern.TheOpen as pattern
 use Rattle.pp_prog.specs.declared.id.CheckId.{CheckId}
 use Rattle.pp_prog.specs.declared.sort.Sort.{Sort}
 use Rattle.pp_prog.specs.declared.sort.Sort.TheVariants as sort
-use Rattle.pp_prog.specs.Calls.{joined}
 
 -- what a pattern is: a mark for each variable that it binds, by the mark of those at its top and of those below
 abbrev pub Marking : Type 0

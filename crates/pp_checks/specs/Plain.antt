@@ -3,6 +3,7 @@
 -- variable inside it. What a pattern binds at its top, or a `val`, isn't inside. Source: own.
 use Rattle.std.specs.Prelude.{◌≡◌, ◌<◌, ℕ, List, [], ◌∷◌, ◌++◌, map, Option, Some, None, length, replicate, slice_get}
 use Rattle.std.specs.Prelude.{Contains}
+use Rattle.pp_list.specs.Joined.{joined}
 use Rattle.pp_prog.specs.declared.expr.Case.{Case}
 use Rattle.pp_prog.specs.declared.expr.Expr.{Expr}
 use Rattle.pp_prog.specs.declared.expr.Expr.TheOpen as layer
@@ -17,7 +18,6 @@ use Rattle.pp_prog.specs.declared.id.CheckId.{CheckId}
 use Rattle.pp_prog.specs.declared.id.DataId.{DataId}
 use Rattle.pp_prog.specs.declared.id.FunctionId.{FunctionId}
 use Rattle.pp_prog.specs.declared.sort.Sort.TheVariants.{Tree}
-use Rattle.pp_prog.specs.Calls.{joined}
 
 -- ---- variables
 

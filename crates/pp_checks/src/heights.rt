@@ -1,7 +1,7 @@
 //! How high the values of sorts can be.
 
 ghost use Rattle.std.specs.Prelude.{◌≡◌, ◌++◌, IfOk, OnOk, Some, drop, length, map, take};
-ghost use Rattle.pp_prog.specs.Calls.{joined};
+ghost use Rattle.pp_list.specs.Joined.{joined};
 ghost use Rattle.pp_prog.specs.Sizes as spec;
 ghost use Rattle.pp_prog.specs.Sizes.{sorts_in_ctor};
 ghost use Rattle.pp_prog.specs.Sorts.{param_sorts};

@@ -1,6 +1,7 @@
 //! The sorts of expressions, read off their forms.
 
 ghost use Rattle.std.specs.Prelude.{◌≡◌, ◌++◌, ◌∷◌, [], IfOk, OnOk, drop, map, slice_get};
+ghost use Rattle.pp_prog.specs.ExprSorts.{gives};
 ghost use Rattle.pp_prog.specs.Results as spec;
 ghost use Rattle.pp_prog.specs.Results.{bind_each, binds, fields_of_ctor, result_of, unary_result};
 ghost use Rattle.pp_prog.specs.Sorts.{param_sorts};
@@ -36,15 +37,15 @@ fn unary_sort(op: UnaryOp) -> Sort
 
 /// The sort of an operator's result, at the sort of its left operand.
 pub fn operator_sort(op: BinaryOp, left: Sort) -> Sort
-    ensures { result ≡ spec.operator_result op left }
+    ensures { result ≡ gives op left }
 {
     match class_of(op) {
         OperatorClass::Equality | OperatorClass::Order | OperatorClass::Logic => Sort::Bool,
-        OperatorClass::Bitwise => left,
         OperatorClass::Sum
         | OperatorClass::Product
         | OperatorClass::Quotient
-        | OperatorClass::Shift => Sort::Int,
+        | OperatorClass::Bitwise
+        | OperatorClass::Shift => left,
     }
 }
 

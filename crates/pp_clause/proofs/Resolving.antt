@@ -25,6 +25,12 @@ not_equal x y h = elim (eqb_tells x y) [ inl p ↦ absurd (h p.1) | inr p ↦ ap
 apart_from : (x y : ℕ) → not (eqb x y) ≡ true → x ≡ y → ⊥
 apart_from x y h e = false_not_true (sym (ap not (eq-eqb x y e)) ∙ h)
 
+-- where one literal clashes, the resolvent is what the two clauses have beside it
+pub resolvent_of : (xs ys : List Literal) (l : Literal) → clashes xs ys ≡ l ∷ []
+    → resolvent xs ys ≡ Some (without l.var (xs ++ ys))
+unfolding resolvent
+resolvent_of xs ys l e = ap (λ (z : List Literal). option_map (λ k. without k.var (xs ++ ys)) (only_item z)) e
+
 -- what stays without a variable
 pub has-without : (x : ℕ) (ls : List Literal) (m : Literal) → has ls m ≡ true → (m.var ≡ x → ⊥)
     → has (without x ls) m ≡ true

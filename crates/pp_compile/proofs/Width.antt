@@ -1,10 +1,11 @@
 -- How deep calls and expressions go: the measure of compiling.
 use Rattle.std.proofs.Common.{◌≡◌, ℕ, zero, suc, ◌+◌, ◌-◌, ◌*◌, ◌<◌, List, Some, arith}
 use Rattle.std.specs.Prelude.{slice_get}
+use Rattle.pp_list.proofs.Lists.{found_most}
 use Rattle.pp_prog.specs.declared.expr.Function.{Function}
 use Rattle.pp_compile.specs.declared.calls.CallKind.{CallKind}
 use Rattle.pp_compile.specs.declared.calls.CallKind.TheVariants.{Followed, Left, Own}
-use Rattle.pp_eval.proofs.Width.{found_size, function_size, reach}
+use Rattle.pp_eval.proofs.Width.{function_size, reach}
 
 -- more than twice the longest list of cases
 abbrev pub wide : ℕ
@@ -28,4 +29,4 @@ pub call_falls : (fs : List Function) (i : ℕ) (f : Function) (n : ℕ) → sli
 call_falls fs i f zero is lt = absurd (omega arith)
 call_falls fs i f (suc n) is lt =
     let less : suc n - 1 ≡ n = omega arith in
-    rw less (omega (arith, found_size fs i f is))
+    rw less (omega (arith, found_most function_size fs i f is))

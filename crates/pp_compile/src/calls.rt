@@ -5,7 +5,7 @@ ghost use Rattle.pp_steps.specs.Piece.{plain};
 ghost use Rattle.pp_steps.specs.declared.step.Step.TheVariants as steps;
 ghost use Rattle.pp_steps.specs.Frames.{admitting, descending, entering, falling, lower, measuring, shaped};
 ghost use Rattle.pp_steps.specs.Guesses.{comparing, own_call};
-ghost use Rattle.pp_compile.specs.Sites.{site_of};
+ghost use Rattle.pp_compile.specs.Sites.{site_at, site_of};
 ghost use Rattle.pp_compile.specs.Written.{IsFramed, IsMade};
 
 use crate::NoMemory;
@@ -34,13 +34,20 @@ pub(crate) struct Calls<'a> {
     pub kind: CallKind,
 }
 
-/// The steps of a call, from a frame with these measure values, at a site with these checks.
+/// What an expression is compiled at: how calls are compiled, the asked check, and the numbers of the measure values of
+/// the frame, if it has any.
+#[derive(Clone, Copy)]
+pub(crate) struct Site<'a> {
+    pub calls: Calls<'a>,
+    pub asked: Option<CheckId>,
+    pub frame: &'a Option<Numbers>,
+}
+
+/// The steps of a call with these checks, at a site.
 #[cycle(compile)]
 pub(crate) fn call(
     alloc: Global,
-    calls: Calls<'_>,
-    asked: Option<CheckId>,
-    frame: &Option<Numbers>,
+    site: Site<'_>,
     reach: u32,
     callee: FunctionId,
     pre: Option<CheckId>,
@@ -49,28 +56,27 @@ pub(crate) fn call(
     work: &mut Work,
 ) -> Result<Ends, NoMemory>
     ensures { IfOk result (λ r. IsMade work.old work.new
-        (site_of calls.entry.functions.now calls.entry.kind asked frame.now
-        (length work.old.steps) reach callee pre measure args) r) }
+        (site_at site.entry (length work.old.steps) reach callee pre measure args) r) }
 {
-    let functions = calls.functions;
-    match calls.kind {
+    let functions = site.calls.functions;
+    match site.calls.kind {
         CallKind::Followed(0) => stop(work, result_at(functions, callee)),
         CallKind::Followed(fuel) => match at(functions, callee.0 as usize) {
             None => stop(work, Sort::Bool),
             Some(f) => {
                 let kind = CallKind::Followed(fuel - 1);
-                let inner = Calls { functions, kind };
-                enter(
-                    alloc, inner, asked, frame, reach, f, pre, measure, args, work,
-                )
+                let inner = Site {
+                    calls: Calls { functions, kind },
+                    asked: site.asked,
+                    frame: site.frame,
+                };
+                enter(alloc, inner, reach, f, pre, measure, args, work)
             }
         },
         CallKind::Left(wait) => leave(alloc, functions, wait, reach, callee, args, work),
         CallKind::Own => match at(functions, callee.0 as usize) {
             None => stop(work, Sort::Bool),
-            Some(f) => enter_own(
-                alloc, functions, asked, frame, reach, callee, f, pre, measure, args, work,
-            ),
+            Some(f) => enter_own(alloc, site, reach, callee, f, pre, measure, args, work),
         },
     }
 }
@@ -79,9 +85,7 @@ pub(crate) fn call(
 #[cycle(compile)]
 fn enter(
     alloc: Global,
-    calls: Calls<'_>,
-    asked: Option<CheckId>,
-    frame: &Option<Numbers>,
+    site: Site<'_>,
     reach: u32,
     f: &Function,
     pre: Option<CheckId>,
@@ -90,11 +94,12 @@ fn enter(
     work: &mut Work,
 ) -> Result<Ends, NoMemory>
     ensures { IfOk result (λ r. IsMade work.old work.new
-        (entering (site_of calls.entry.functions.now calls.entry.kind None) asked frame.now (Some f.now)
-        (length work.old.steps) reach pre measure args) r) }
+        (entering (site_of site.entry.calls.functions.now site.entry.calls.kind None) site.entry.asked
+        site.entry.frame.now (Some f.now) (length work.old.steps) reach pre measure args) r) }
 {
+    let calls = site.calls;
     let mut env = args;
-    let allowed = admit(alloc, calls, asked, &mut env, reach, &f.pre, pre, work)?;
+    let allowed = admit(alloc, calls, site.asked, &mut env, reach, &f.pre, pre, work)?;
     let new = frame_of(
         alloc,
         calls,
@@ -104,17 +109,13 @@ fn enter(
         f.measure.as_slice(),
         work,
     )?;
-    let entered = descend(work, asked, measure, frame, &new.frame, new.alive)?;
-    value_of(
-        alloc,
+    let entered = descend(work, site.asked, measure, site.frame, &new.frame, new.alive)?;
+    let inner = Site {
         calls,
-        None,
-        &new.frame,
-        &mut env,
-        entered.alive,
-        &f.body,
-        work,
-    )
+        asked: None,
+        frame: &new.frame,
+    };
+    value_of(alloc, inner, &mut env, entered.alive, &f.body, work)
 }
 
 // A call of f from the own frame of a guess run: its precondition, its measure list where it is looked at, and the
@@ -122,9 +123,7 @@ fn enter(
 #[cycle(compile)]
 fn enter_own(
     alloc: Global,
-    functions: &[Function],
-    asked: Option<CheckId>,
-    frame: &Option<Numbers>,
+    site: Site<'_>,
     reach: u32,
     callee: FunctionId,
     f: &Function,
@@ -134,18 +133,22 @@ fn enter_own(
     work: &mut Work,
 ) -> Result<Ends, NoMemory>
     ensures { IfOk result (λ r. IsMade work.old work.new
-        (own_call functions.now asked frame.now (Some f.now)
+        (own_call site.entry.calls.functions.now site.entry.asked site.entry.frame.now (Some f.now)
         (length work.old.steps) reach callee pre measure args) r) }
 {
+    let functions = site.calls.functions;
     let kind = CallKind::Left(1);
     let calls = Calls { functions, kind };
     let mut env = args;
-    let allowed = admit(alloc, calls, asked, &mut env, reach, &f.pre, pre, work)?;
+    let allowed = admit(alloc, calls, site.asked, &mut env, reach, &f.pre, pre, work)?;
+    let inner = Site {
+        calls,
+        asked: site.asked,
+        frame: site.frame,
+    };
     let entered = compare(
         alloc,
-        calls,
-        asked,
-        frame,
+        inner,
         &mut env,
         allowed.alive,
         f.measure.as_slice(),
@@ -159,9 +162,7 @@ fn enter_own(
 #[cycle(compile)]
 fn compare(
     alloc: Global,
-    calls: Calls<'_>,
-    asked: Option<CheckId>,
-    frame: &Option<Numbers>,
+    site: Site<'_>,
     args: &mut Numbers,
     reach: u32,
     measure: &[Expr],
@@ -169,13 +170,13 @@ fn compare(
     work: &mut Work,
 ) -> Result<Ends, NoMemory>
     ensures made { IfOk result (λ r. IsMade work.old work.new
-        (comparing asked (site_of calls.entry.functions.now calls.entry.kind None None) frame.now measure.now check
-        (length work.old.steps) args.old reach) r) }
+        (comparing site.entry.asked (site_of site.entry.calls.functions.now site.entry.calls.kind None None)
+        site.entry.frame.now measure.now check (length work.old.steps) args.old reach) r) }
     ensures kept { IfOk result (λ _. args.new ≡ args.old) }
 {
-    if asks(asked, check) {
-        let new = frame_of(alloc, calls, None, args, reach, measure, work)?;
-        descend(work, asked, check, frame, &new.frame, new.alive)
+    if asks(site.asked, check) {
+        let new = frame_of(alloc, site.calls, None, args, reach, measure, work)?;
+        descend(work, site.asked, check, site.frame, &new.frame, new.alive)
     } else {
         Ok(Ends {
             out: reach,
@@ -207,7 +208,12 @@ fn admit(
             alive: reach,
         }),
         Some(pre) => {
-            let x = value_of(alloc, calls, None, &None, args, reach, pre, work)?;
+            let site = Site {
+                calls,
+                asked: None,
+                frame: &None,
+            };
+            let x = value_of(alloc, site, args, reach, pre, work)?;
             demand(work, asks(asked, check), x.alive, x.out)
         }
     }
@@ -235,7 +241,12 @@ pub(crate) fn frame_of(
             alive: reach,
         });
     }
-    let xs = values_of(alloc, calls, asked, &None, args, reach, measure, work)?;
+    let site = Site {
+        calls,
+        asked,
+        frame: &None,
+    };
+    let xs = values_of(alloc, site, args, reach, measure, work)?;
     Ok(Framed {
         frame: Some(xs.out),
         alive: xs.alive,

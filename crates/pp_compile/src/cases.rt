@@ -3,12 +3,12 @@
 ghost use Rattle.std.specs.Prelude.{◌≡◌, ◌<◌, ◌^◌, ℕ, IfOk, List, [], length, map, take};
 ghost use Rattle.std.specs.Option.{option_map};
 ghost use Rattle.pp_steps.specs.Compile as spec;
-ghost use Rattle.pp_steps.specs.Compile.{arm, compile, deciding};
-ghost use Rattle.pp_compile.specs.Sites.{site_of};
+ghost use Rattle.pp_steps.specs.Compile.{deciding};
+ghost use Rattle.pp_compile.specs.Sites.{arm_at, compile_at};
 ghost use Rattle.pp_compile.specs.Written.{IsCased, IsDecided, IsTried, no_case};
 
 use crate::NoMemory;
-use crate::calls::Calls;
+use crate::calls::Site;
 use crate::emit::{all_of, choose, emit, unless, when};
 use crate::exprs::{asks, value_of};
 use crate::patterns::fit;
@@ -22,9 +22,7 @@ use std::alloc::Global;
 #[cycle(compile)]
 pub(crate) fn case_of(
     alloc: Global,
-    calls: Calls<'_>,
-    asked: Option<CheckId>,
-    frame: &Option<Numbers>,
+    site: Site<'_>,
     env: &mut Numbers,
     reach: u32,
     cases: &[Case],
@@ -34,27 +32,15 @@ pub(crate) fn case_of(
 ) -> Result<Branch, NoMemory>
     requires { length cases.now < 2 ^ 32 }
     ensures made { IfOk result (λ r. IsCased work.old work.new
-        (spec.cases asked (map (arm asked
-        (site_of calls.entry.functions.now calls.entry.kind asked frame.now)) cases.now) check value
+        (spec.cases site.entry.asked (map (arm_at site.entry) cases.now) check value
         (length work.old.steps) env.old reach) r) }
     ensures kept { IfOk result (λ _. env.new ≡ env.old) }
 {
     match cases.split_first() {
-        None => none_fits(work, asks(asked, check), reach),
+        None => none_fits(work, asks(site.asked, check), reach),
         Some((case, rest)) => {
-            let tried = attempt(alloc, calls, asked, frame, env, reach, case, value, work)?;
-            let right = case_of(
-                alloc,
-                calls,
-                asked,
-                frame,
-                env,
-                tried.missed,
-                rest,
-                check,
-                value,
-                work,
-            )?;
+            let tried = attempt(alloc, site, env, reach, case, value, work)?;
+            let right = case_of(alloc, site, env, tried.missed, rest, check, value, work)?;
             let both = choose(work, tried.taken, tried.left, right.out, right.alive)?;
             Ok(Branch {
                 out: Some(both.out),
@@ -68,9 +54,7 @@ pub(crate) fn case_of(
 #[cycle(compile)]
 fn attempt(
     alloc: Global,
-    calls: Calls<'_>,
-    asked: Option<CheckId>,
-    frame: &Option<Numbers>,
+    site: Site<'_>,
     env: &mut Numbers,
     reach: u32,
     case: &Case,
@@ -78,8 +62,7 @@ fn attempt(
     work: &mut Work,
 ) -> Result<Tried, NoMemory>
     ensures made { IfOk result (λ r. IsTried work.old work.new
-        (arm asked (site_of calls.entry.functions.now calls.entry.kind asked frame.now) case.now) value
-        (length work.old.steps) env.old reach r) }
+        (arm_at site.entry case.now) value (length work.old.steps) env.old reach r) }
     ensures kept { IfOk result (λ _. env.new ≡ env.old) }
 {
     let mut found = Tests {
@@ -90,20 +73,8 @@ fn attempt(
     let fits = all_of(work, found.tests.as_slice(), reach)?;
     let depth = env.len();
     env.append(found.bound)?;
-    let goes = decide(
-        alloc,
-        calls,
-        asked,
-        frame,
-        env,
-        reach,
-        &case.guard,
-        fits,
-        work,
-    )?;
-    let left = value_of(
-        alloc, calls, asked, frame, env, goes.taken, &case.body, work,
-    )?;
+    let goes = decide(alloc, site, env, reach, &case.guard, fits, work)?;
+    let left = value_of(alloc, site, env, goes.taken, &case.body, work)?;
     truncate(env, depth);
     Ok(Tried {
         taken: goes.taken,
@@ -116,9 +87,7 @@ fn attempt(
 #[cycle(compile)]
 fn decide(
     alloc: Global,
-    calls: Calls<'_>,
-    asked: Option<CheckId>,
-    frame: &Option<Numbers>,
+    site: Site<'_>,
     env: &mut Numbers,
     reach: u32,
     guard: &Option<Expr>,
@@ -126,8 +95,7 @@ fn decide(
     work: &mut Work,
 ) -> Result<Goes, NoMemory>
     ensures made { IfOk result (λ r. IsDecided work.old work.new
-        (deciding (option_map (compile asked
-        (site_of calls.entry.functions.now calls.entry.kind asked frame.now)) guard.now)
+        (deciding (option_map (compile_at site.entry) guard.now)
         (length work.old.steps) env.old reach fits) r) }
     ensures kept { IfOk result (λ _. env.new ≡ env.old) }
 {
@@ -140,7 +108,7 @@ fn decide(
             })
         }
         Some(guard) => {
-            let x = value_of(alloc, calls, asked, frame, env, fits, guard, work)?;
+            let x = value_of(alloc, site, env, fits, guard, work)?;
             let taken = when(work, x.alive, x.out)?;
             let refused = unless(work, x.alive, x.out)?;
             let missed = emit(work, Step::Choose(fits, refused, reach))?;

@@ -10,7 +10,7 @@ ghost use Rattle.pp_compile.specs.Written.{IsMade};
 
 use crate::NoMemory;
 use crate::agree::{agree_all, imply};
-use crate::calls::{CallKind, Calls};
+use crate::calls::{CallKind, Calls, Site};
 use crate::emit::{demand, emit, one};
 use crate::exprs::value_of;
 use crate::run::whole_run;
@@ -207,7 +207,12 @@ fn tie(
     let calls = Calls { functions, kind };
     let mut values = Items::from_slice(alloc, c.call.args.as_slice())?;
     let done = emit(work, Step::Both(c.call.reach, c.has))?;
-    let body = value_of(alloc, calls, None, &None, &mut values, done, &f.body, work)?;
+    let site = Site {
+        calls,
+        asked: None,
+        frame: &None,
+    };
+    let body = value_of(alloc, site, &mut values, done, &f.body, work)?;
     let same = one(
         work,
         Step::Binary(BinaryOp::Equal, body.out, c.result),
@@ -238,7 +243,12 @@ fn hold(
             alive: reach,
         }),
         Some((_, post)) => {
-            let x = value_of(alloc, calls, None, &None, values, reach, post, work)?;
+            let site = Site {
+                calls,
+                asked: None,
+                frame: &None,
+            };
+            let x = value_of(alloc, site, values, reach, post, work)?;
             demand(work, false, x.alive, x.out)
         }
     }

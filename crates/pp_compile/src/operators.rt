@@ -1,12 +1,12 @@
 //! The steps of operators with two operands, and of two branches.
 
 ghost use Rattle.std.specs.Prelude.{◌≡◌, ℕ, IfOk, List, length};
-ghost use Rattle.pp_steps.specs.Compile.{binary, branches, compile, operating, quotient};
-ghost use Rattle.pp_compile.specs.Sites.{site_of};
+ghost use Rattle.pp_steps.specs.Compile.{binary, branches, operating, quotient};
+ghost use Rattle.pp_compile.specs.Sites.{compile_at};
 ghost use Rattle.pp_compile.specs.Written.{IsMade, conjunction, disjunction, strict};
 
 use crate::NoMemory;
-use crate::calls::Calls;
+use crate::calls::Site;
 use crate::emit::{choose, demand, emit, one, unless, when};
 use crate::exprs::{asks, value_of};
 use crate::work::{Ends, Work};
@@ -18,9 +18,7 @@ use std::alloc::Global;
 #[cycle(compile)]
 pub(crate) fn binary_of(
     alloc: Global,
-    calls: Calls<'_>,
-    asked: Option<CheckId>,
-    frame: &Option<Numbers>,
+    site: Site<'_>,
     env: &mut Numbers,
     reach: u32,
     op: BinaryOp,
@@ -30,18 +28,14 @@ pub(crate) fn binary_of(
     work: &mut Work,
 ) -> Result<Ends, NoMemory>
     ensures made { IfOk result (λ r. IsMade work.old work.new
-        (binary asked op (compile asked
-        (site_of calls.entry.functions.now calls.entry.kind asked frame.now) a.now)
-        (compile asked (site_of calls.entry.functions.now calls.entry.kind asked frame.now) b.now) check
-        (length work.old.steps) env.old reach) r) }
+        (binary site.entry.asked op (compile_at site.entry a.now)
+        (compile_at site.entry b.now) check (length work.old.steps) env.old reach) r) }
     ensures kept { IfOk result (λ _. env.new ≡ env.old) }
 {
     match op {
-        BinaryOp::AndAlso => both_of(alloc, calls, asked, frame, env, reach, a, b, work),
-        BinaryOp::OrElse => either_of(alloc, calls, asked, frame, env, reach, a, b, work),
-        _ => strict_of(
-            alloc, calls, asked, frame, env, reach, op, a, b, check, work,
-        ),
+        BinaryOp::AndAlso => both_of(alloc, site, env, reach, a, b, work),
+        BinaryOp::OrElse => either_of(alloc, site, env, reach, a, b, work),
+        _ => strict_of(alloc, site, env, reach, op, a, b, check, work),
     }
 }
 
@@ -49,9 +43,7 @@ pub(crate) fn binary_of(
 #[cycle(compile)]
 fn both_of(
     alloc: Global,
-    calls: Calls<'_>,
-    asked: Option<CheckId>,
-    frame: &Option<Numbers>,
+    site: Site<'_>,
     env: &mut Numbers,
     reach: u32,
     a: &Expr,
@@ -59,14 +51,13 @@ fn both_of(
     work: &mut Work,
 ) -> Result<Ends, NoMemory>
     ensures made { IfOk result (λ r. IsMade work.old work.new
-        (conjunction (compile asked (site_of calls.entry.functions.now calls.entry.kind asked frame.now) a.now)
-        (compile asked (site_of calls.entry.functions.now calls.entry.kind asked frame.now) b.now)
+        (conjunction (compile_at site.entry a.now) (compile_at site.entry b.now)
         (length work.old.steps) env.old reach) r) }
     ensures kept { IfOk result (λ _. env.new ≡ env.old) }
 {
-    let x = value_of(alloc, calls, asked, frame, env, reach, a, work)?;
+    let x = value_of(alloc, site, env, reach, a, work)?;
     let taken = when(work, x.alive, x.out)?;
-    let y = value_of(alloc, calls, asked, frame, env, taken, b, work)?;
+    let y = value_of(alloc, site, env, taken, b, work)?;
     choose(work, taken, y, Some(x.out), x.alive)
 }
 
@@ -74,9 +65,7 @@ fn both_of(
 #[cycle(compile)]
 fn either_of(
     alloc: Global,
-    calls: Calls<'_>,
-    asked: Option<CheckId>,
-    frame: &Option<Numbers>,
+    site: Site<'_>,
     env: &mut Numbers,
     reach: u32,
     a: &Expr,
@@ -84,14 +73,13 @@ fn either_of(
     work: &mut Work,
 ) -> Result<Ends, NoMemory>
     ensures made { IfOk result (λ r. IsMade work.old work.new
-        (disjunction (compile asked (site_of calls.entry.functions.now calls.entry.kind asked frame.now) a.now)
-        (compile asked (site_of calls.entry.functions.now calls.entry.kind asked frame.now) b.now)
+        (disjunction (compile_at site.entry a.now) (compile_at site.entry b.now)
         (length work.old.steps) env.old reach) r) }
     ensures kept { IfOk result (λ _. env.new ≡ env.old) }
 {
-    let x = value_of(alloc, calls, asked, frame, env, reach, a, work)?;
+    let x = value_of(alloc, site, env, reach, a, work)?;
     let taken = unless(work, x.alive, x.out)?;
-    let y = value_of(alloc, calls, asked, frame, env, taken, b, work)?;
+    let y = value_of(alloc, site, env, taken, b, work)?;
     choose(work, taken, y, Some(x.out), x.alive)
 }
 
@@ -99,9 +87,7 @@ fn either_of(
 #[cycle(compile)]
 fn strict_of(
     alloc: Global,
-    calls: Calls<'_>,
-    asked: Option<CheckId>,
-    frame: &Option<Numbers>,
+    site: Site<'_>,
     env: &mut Numbers,
     reach: u32,
     op: BinaryOp,
@@ -111,24 +97,20 @@ fn strict_of(
     work: &mut Work,
 ) -> Result<Ends, NoMemory>
     ensures made { IfOk result (λ r. IsMade work.old work.new
-        (strict asked op (compile asked
-        (site_of calls.entry.functions.now calls.entry.kind asked frame.now) a.now)
-        (compile asked (site_of calls.entry.functions.now calls.entry.kind asked frame.now) b.now) check
-        (length work.old.steps) env.old reach) r) }
+        (strict site.entry.asked op (compile_at site.entry a.now)
+        (compile_at site.entry b.now) check (length work.old.steps) env.old reach) r) }
     ensures kept { IfOk result (λ _. env.new ≡ env.old) }
 {
-    let x = value_of(alloc, calls, asked, frame, env, reach, a, work)?;
-    let y = value_of(alloc, calls, asked, frame, env, x.alive, b, work)?;
-    operate(work, asked, op, check, y.alive, x.out, y.out)
+    let x = value_of(alloc, site, env, reach, a, work)?;
+    let y = value_of(alloc, site, env, x.alive, b, work)?;
+    operate(work, site.asked, op, check, y.alive, x.out, y.out)
 }
 
 /// Two branches, of which at most one is reached.
 #[cycle(compile)]
 pub(crate) fn branches_of(
     alloc: Global,
-    calls: Calls<'_>,
-    asked: Option<CheckId>,
-    frame: &Option<Numbers>,
+    site: Site<'_>,
     env: &mut Numbers,
     taken: u32,
     missed: u32,
@@ -137,13 +119,12 @@ pub(crate) fn branches_of(
     work: &mut Work,
 ) -> Result<Ends, NoMemory>
     ensures made { IfOk result (λ r. IsMade work.old work.new
-        (branches (compile asked (site_of calls.entry.functions.now calls.entry.kind asked frame.now) a.now)
-        (compile asked (site_of calls.entry.functions.now calls.entry.kind asked frame.now) b.now)
+        (branches (compile_at site.entry a.now) (compile_at site.entry b.now)
         (length work.old.steps) env.old taken missed) r) }
     ensures kept { IfOk result (λ _. env.new ≡ env.old) }
 {
-    let left = value_of(alloc, calls, asked, frame, env, taken, a, work)?;
-    let right = value_of(alloc, calls, asked, frame, env, missed, b, work)?;
+    let left = value_of(alloc, site, env, taken, a, work)?;
+    let right = value_of(alloc, site, env, missed, b, work)?;
     choose(work, taken, left, Some(right.out), right.alive)
 }
 

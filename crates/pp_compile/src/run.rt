@@ -5,11 +5,11 @@ ghost use Rattle.pp_prog.specs.Sorts.{param_sorts};
 ghost use Rattle.pp_steps.specs.Compile.{compile};
 ghost use Rattle.pp_steps.specs.Frames.{allowing, any_of, arguments, finishing, run_steps, running, starting};
 ghost use Rattle.pp_compile.specs.Guessed.{guess_of, whole_run};
-ghost use Rattle.pp_compile.specs.Sites.{site_of};
+ghost use Rattle.pp_compile.specs.Sites.{site_at, site_of};
 ghost use Rattle.pp_compile.specs.Written.{AreMade, IsMade, IsRunOf, IsWritten};
 
 use crate::NoMemory;
-use crate::calls::{CallKind, Calls, frame_of};
+use crate::calls::{CallKind, Calls, Site, frame_of};
 use crate::emit::{demand, emit};
 use crate::exprs::{asks, value_of};
 use crate::work::{Ends, Guess, Lists, Run, Work};
@@ -131,7 +131,12 @@ fn allow(
             alive: reach,
         }),
         Some(pre) => {
-            let x = value_of(alloc, calls, asked, &None, args, reach, pre, work)?;
+            let site = Site {
+                calls,
+                asked,
+                frame: &None,
+            };
+            let x = value_of(alloc, site, args, reach, pre, work)?;
             demand(work, false, x.alive, x.out)
         }
     }
@@ -153,13 +158,14 @@ fn start(
     ensures kept { IfOk result (λ _. args.new ≡ args.old) }
 {
     let new = frame_of(alloc, calls, asked, args, reach, f.measure.as_slice(), work)?;
-    let x = value_of(
-        alloc, calls, asked, &new.frame, args, new.alive, &f.body, work,
-    )?;
+    let site = Site {
+        calls,
+        asked,
+        frame: &new.frame,
+    };
+    let x = value_of(alloc, site, args, new.alive, &f.body, work)?;
     args.push(x.out)?;
-    let end = finish(
-        alloc, calls, asked, &new.frame, &f.post, args, x.alive, work,
-    )?;
+    let end = finish(alloc, site, &f.post, args, x.alive, work)?;
     let _ = args.pop();
     Ok(end)
 }
@@ -167,17 +173,14 @@ fn start(
 // The postcondition, of the arguments and the result.
 fn finish(
     alloc: Global,
-    calls: Calls<'_>,
-    asked: Option<CheckId>,
-    frame: &Option<Numbers>,
+    site: Site<'_>,
     post: &Option<(CheckId, Expr)>,
     values: &mut Numbers,
     reach: u32,
     work: &mut Work,
 ) -> Result<Ends, NoMemory>
     ensures made { IfOk result (λ r. IsMade work.old work.new
-        (finishing asked (site_of calls.entry.functions.now calls.entry.kind asked frame.now) post.now
-        (length work.old.steps) values.old reach) r) }
+        (finishing site.entry.asked (site_at site.entry) post.now (length work.old.steps) values.old reach) r) }
     ensures kept { IfOk result (λ _. values.new ≡ values.old) }
 {
     match post {
@@ -186,8 +189,8 @@ fn finish(
             alive: reach,
         }),
         Some((check, post)) => {
-            let x = value_of(alloc, calls, asked, frame, values, reach, post, work)?;
-            demand(work, asks(asked, Some(*check)), x.alive, x.out)
+            let x = value_of(alloc, site, values, reach, post, work)?;
+            demand(work, asks(site.asked, Some(*check)), x.alive, x.out)
         }
     }
 }

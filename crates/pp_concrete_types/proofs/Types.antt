@@ -7,11 +7,12 @@ use Rattle.std.proofs.lemmas.Bool.{lt-ltb}
 use Rattle.std.proofs.lemmas.List.Elements.{Contains-append_cases, Contains-append_left, Contains-append_right}
 use Rattle.std.proofs.lemmas.List.Elements.{Contains-push}
 use Rattle.std.proofs.lemmas.Option.{none-some, same_Some, slice_get-map, slice_get_within}
+use Rattle.pp_list.specs.Joined.{joined}
 use Rattle.pp_concrete_types.proofs.Lists.{contained, stands}
 use Rattle.pp_concrete_types.specs.Datatypes.{AreDatatypes}
 use Rattle.pp_instances.proofs.Kept.{nothing_in}
 use Rattle.pp_instances.proofs.Mentioned.{types_root}
-use Rattle.pp_instances.specs.Same.{joined, place_of}
+use Rattle.pp_instances.specs.Same.{place_of}
 use Rattle.pp_instances.specs.Uses.{at_args, ctor_mentions, root_at, types_in, types_of}
 use Rattle.pp_instances.specs.declared.member.Member.{Member}
 use Rattle.pp_prog.specs.Table.{is_sort}

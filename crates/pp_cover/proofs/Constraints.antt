@@ -1,9 +1,11 @@
 -- The equations of `constraints`, and that a value satisfies the constraints of a pattern exactly where it fits.
 use Rattle.std.proofs.Common.{◌≡◌, ℕ, ℤ, Bool, true, false, ◌&&◌, List, [], ◌∷◌, map, Option, Some, None, is_some}
-use Rattle.std.proofs.Common.{if◌then◌else◌, slice_get, nat_eq, refl, sym, ap, ◌∙◌, subst}
+use Rattle.std.proofs.Common.{if◌then◌else◌, slice_get, nat_eq, refl, sym, ap, ◌∙◌}
 use Rattle.std.proofs.Math.Bool.{and-true}
+use Rattle.pp_list.proofs.With.{With, elements}
+use Rattle.pp_prog.proofs.Induction.{each_pattern, pattern_under}
 use Rattle.pp_prog.specs.declared.expr.Pattern.{Pattern}
-use Rattle.pp_prog.specs.declared.expr.Pattern.TheFolds.{para-roll-Pattern, fold-roll-Pattern, ind-Pattern, map-Pattern}
+use Rattle.pp_prog.specs.declared.expr.Pattern.TheFolds.{para-roll-Pattern, fold-roll-Pattern, map-Pattern}
 use Rattle.pp_prog.specs.declared.expr.Pattern.TheOpen as pattern
 use Rattle.pp_prog.specs.declared.expr.Pattern.TheViews.{roll-Pattern}
 use Rattle.pp_prog.specs.declared.expr.Pattern.TheVariants.{Any, Bind, Int, Bool as Truth, Ctor, rolls-Any, rolls-Bind}
@@ -107,17 +109,12 @@ one_constraint h ps j xs v is = rw is (and-true _)
 abbrev Satisfied : Pattern → Type 0
 Satisfied p = (j : ℕ) (xs : List Value) (v : Value) → slice_get xs j ≡ Some v → row_fits (constraints p j) xs ≡ fits p v
 
-abbrev One : Type 0
-One = (p : Pattern) × Satisfied p
-
-abbrev one_of : One → Pattern
-one_of o = o.0
-
 abbrev pub with_constraints : Pattern → Pattern × Constraining
 with_constraints p = (p, constraints p)
 
-layer_satisfied : (y : pattern.Pattern-F One) (j : ℕ) (xs : List Value) (v : Value) → slice_get xs j ≡ Some v →
-    let z = map-Pattern One Pattern one_of y in row_fits
+layer_satisfied : (y : pattern.Pattern-F (With Satisfied)) (j : ℕ) (xs : List Value) (v : Value)
+    → slice_get xs j ≡ Some v →
+    let z = pattern_under y in row_fits
     (constraint_step (map-Pattern Pattern (Pattern × Constraining) with_constraints z) j) xs ≡ is_some
     (fit_step (map-Pattern Pattern Fitting fit z) v)
 layer_satisfied pattern.Any j xs v is = refl
@@ -125,18 +122,18 @@ layer_satisfied (pattern.Bind o) j xs v is = o.1 j xs v is ∙ sym (bound_some (
 layer_satisfied (pattern.Int n) j xs v is = one_constraint (head.Int n) [] j xs v is ∙ int_satisfied n (out-Value v)
 layer_satisfied (pattern.Bool b) j xs v is = one_constraint (head.Bool b) [] j xs v is ∙ bool_satisfied b (out-Value v)
 layer_satisfied (pattern.Ctor c os) j xs v is =
-    let ps = map one_of os in
+    let ps = elements os in
     one_constraint (head.Tree c) (map pattern_of (map with_constraints ps)) j xs v is
     ∙ ap (λ qs. same_head (head.Tree c) (head_of (out-Value v)) && fit_all qs (fields_of (out-Value v))) (firsts ps)
     ∙ tree_satisfied c ps (out-Value v)
 
-at_pattern : (y : pattern.Pattern-F One) → Satisfied (roll-Pattern (map-Pattern One Pattern one_of y))
+at_pattern : (y : pattern.Pattern-F (With Satisfied)) → Satisfied (roll-Pattern (pattern_under y))
 at_pattern y j xs v is =
-    let z = map-Pattern One Pattern one_of y in
+    let z = pattern_under y in
     ap (λ (f : Constraining). row_fits (f j) xs) (para-roll-Pattern Constraining constraint_step z)
     ∙ layer_satisfied y j xs v is
     ∙ sym (ap (λ (f : Fitting). is_some (f v)) (fold-roll-Pattern Fitting fit_step z))
 
 -- a value satisfies the constraints of a pattern exactly where it fits
 pub constraints_satisfied : (p : Pattern) → Satisfied p
-constraints_satisfied = ind-Pattern Satisfied (λ x y is. subst (λ z. Satisfied (roll-Pattern z)) is (at_pattern y))
+constraints_satisfied = each_pattern Satisfied at_pattern

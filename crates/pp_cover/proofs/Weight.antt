@@ -2,8 +2,10 @@
 use Rattle.std.proofs.Common.{◌≡◌, ℕ, zero, suc, ◌+◌, ◌<◌, ◌≤◌, Bool, true, false, not, ◌||◌, List, [], ◌∷◌, ◌++◌, map}
 use Rattle.std.proofs.Common.{length, drop, Option, Some, None, slice_get, nat_lt, refl, sym, ap, ◌∙◌, subst, arith}
 use Rattle.std.proofs.lemmas.List.{length-append, length-drop, length-take}
+use Rattle.pp_list.proofs.With.{With, elements}
+use Rattle.pp_prog.proofs.Induction.{each_pattern, pattern_under}
 use Rattle.pp_prog.specs.declared.expr.Pattern.{Pattern}
-use Rattle.pp_prog.specs.declared.expr.Pattern.TheFolds.{fold-Pattern, fold-roll-Pattern, ind-Pattern, map-Pattern}
+use Rattle.pp_prog.specs.declared.expr.Pattern.TheFolds.{fold-Pattern, fold-roll-Pattern, map-Pattern}
 use Rattle.pp_prog.specs.declared.expr.Pattern.TheFolds.{para-roll-Pattern}
 use Rattle.pp_prog.specs.declared.expr.Pattern.TheOpen as pattern
 use Rattle.pp_prog.specs.declared.expr.Pattern.TheViews.{roll-Pattern}
@@ -55,14 +57,8 @@ row_weight_append (d ∷ a) b = omega (arith, row_weight_append a b)
 abbrev Weighs : Pattern → Type 0
 Weighs p = (j : ℕ) → row_weight (constraints p j) ≡ size p
 
-abbrev One : Type 0
-One = (p : Pattern) × Weighs p
-
-abbrev one_of : One → Pattern
-one_of o = o.0
-
-layer_weighs : (y : pattern.Pattern-F One) (j : ℕ) →
-    let z = map-Pattern One Pattern one_of y in row_weight
+layer_weighs : (y : pattern.Pattern-F (With Weighs)) (j : ℕ) →
+    let z = pattern_under y in row_weight
     (constraint_step (map-Pattern Pattern (Pattern × Constraining) with_constraints z) j) ≡ size_step
     (map-Pattern Pattern ℕ size z)
 layer_weighs pattern.Any j = refl
@@ -70,17 +66,17 @@ layer_weighs (pattern.Bind o) j = o.1 j
 layer_weighs (pattern.Int n) j = refl
 layer_weighs (pattern.Bool b) j = refl
 layer_weighs (pattern.Ctor c os) j =
-    let ps = map one_of os in
+    let ps = elements os in
     ap (λ qs. row_weight (constraint_of (head.Tree c) qs j)) (firsts ps) ∙ (omega arith)
 
-at_pattern : (y : pattern.Pattern-F One) → Weighs (roll-Pattern (map-Pattern One Pattern one_of y))
+at_pattern : (y : pattern.Pattern-F (With Weighs)) → Weighs (roll-Pattern (pattern_under y))
 at_pattern y j =
-    let z = map-Pattern One Pattern one_of y in
+    let z = pattern_under y in
     ap (λ (f : Constraining). row_weight (f j)) (para-roll-Pattern Constraining constraint_step z) ∙ layer_weighs y j
     ∙ sym (fold-roll-Pattern ℕ size_step z)
 
 constraints_weigh : (p : Pattern) → Weighs p
-constraints_weigh = ind-Pattern Weighs (λ x y is. subst (λ z. Weighs (roll-Pattern z)) is (at_pattern y))
+constraints_weigh = each_pattern Weighs at_pattern
 
 placed_weigh : (ps : List Pattern) (j : ℕ) → row_weight (placed j ps) ≡ total (map size ps)
 placed_weigh [] j = refl

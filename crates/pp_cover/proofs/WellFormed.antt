@@ -5,8 +5,10 @@ use Rattle.std.proofs.lemmas.Bool.{and_from, and_parts, eqb-true, lt-ltb, ltb-tr
 use Rattle.std.proofs.lemmas.List.{length-append}
 use Rattle.std.proofs.lemmas.List.Folds.{list_all-append}
 use Rattle.std.specs.List.{list_all}
+use Rattle.pp_list.proofs.With.{With}
+use Rattle.pp_prog.proofs.Induction.{each_pattern, pattern_under}
 use Rattle.pp_prog.specs.declared.expr.Pattern.{Pattern}
-use Rattle.pp_prog.specs.declared.expr.Pattern.TheFolds.{ind-Pattern, map-Pattern, para-roll-Pattern}
+use Rattle.pp_prog.specs.declared.expr.Pattern.TheFolds.{map-Pattern, para-roll-Pattern}
 use Rattle.pp_prog.specs.declared.expr.Pattern.TheOpen as pattern
 use Rattle.pp_prog.specs.declared.expr.Pattern.TheViews.{roll-Pattern}
 use Rattle.pp_prog.specs.declared.sort.Sort.{Sort}
@@ -30,14 +32,8 @@ use Rattle.pp_cover.proofs.Blocks.{AreCtorsOf, stands}
 abbrev Inside : Pattern → Type 0
 Inside p = (j n : ℕ) → j < n → row_within n (constraints p j) ≡ true
 
-abbrev One : Type 0
-One = (p : Pattern) × Inside p
-
-abbrev one_of : One → Pattern
-one_of o = o.0
-
-layer_inside : (y : pattern.Pattern-F One) (j n : ℕ) → j < n →
-    let z = map-Pattern One Pattern one_of y in row_within n
+layer_inside : (y : pattern.Pattern-F (With Inside)) (j n : ℕ) → j < n →
+    let z = pattern_under y in row_within n
     (constraint_step (map-Pattern Pattern (Pattern × Constraining) with_constraints z) j) ≡ true
 layer_inside pattern.Any j n lt = refl
 layer_inside (pattern.Bind o) j n lt = o.1 j n lt
@@ -45,14 +41,14 @@ layer_inside (pattern.Int i) j n lt = and_from (nat_lt j n) true (lt-ltb j n lt)
 layer_inside (pattern.Bool b) j n lt = and_from (nat_lt j n) true (lt-ltb j n lt) refl
 layer_inside (pattern.Ctor c os) j n lt = and_from (nat_lt j n) true (lt-ltb j n lt) refl
 
-at_pattern : (y : pattern.Pattern-F One) → Inside (roll-Pattern (map-Pattern One Pattern one_of y))
+at_pattern : (y : pattern.Pattern-F (With Inside)) → Inside (roll-Pattern (pattern_under y))
 at_pattern y j n lt =
-    let z = map-Pattern One Pattern one_of y in
+    let z = pattern_under y in
     ap (λ (f : Constraining). row_within n (f j)) (para-roll-Pattern Constraining constraint_step z)
     ∙ layer_inside y j n lt
 
 pub constraints_within : (p : Pattern) → Inside p
-constraints_within = ind-Pattern Inside (λ x y is. subst (λ z. Inside (roll-Pattern z)) is (at_pattern y))
+constraints_within = each_pattern Inside at_pattern
 
 within_append : (n : ℕ) (a b : List Constraint) → row_within n a ≡ true → row_within n b ≡ true →
     row_within n (a ++ b) ≡ true

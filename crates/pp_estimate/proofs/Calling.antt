@@ -4,6 +4,7 @@ use Rattle.std.proofs.Common.{get_or, inl, inr, Option, Some, None, slice_get, r
 use Rattle.std.specs.Prelude.{Contains}
 use Rattle.std.proofs.lemmas.List.Elements.{Contains-push_cases}
 use Rattle.std.proofs.lemmas.Option.{slice_get_within}
+use Rattle.pp_list.proofs.Lists.{found_most}
 use Rattle.pp_prog.specs.declared.expr.Function.{Function}
 use Rattle.pp_prog.specs.declared.id.CheckId.{CheckId}
 use Rattle.pp_prog.specs.declared.id.FunctionId.{FunctionId}
@@ -23,7 +24,7 @@ use Rattle.pp_estimate.specs.Visits.{Visit, compared, visit}
 use Rattle.pp_estimate.proofs.Merged.{fits_all, fits_none, together_is}
 use Rattle.pp_estimate.proofs.Rows.{rows_none}
 use Rattle.pp_estimate.proofs.Visited.{two}
-use Rattle.pp_estimate.proofs.Width.{found_size, function_size, level, width}
+use Rattle.pp_estimate.proofs.Width.{function_size, level, width}
 
 got : {A : Type 0} (xs : List A) (i : ℕ) (x d : A) → slice_get xs i ≡ Some x → get_or xs i d ≡ x
 got [] i x d is = let no : None ≡ Some x = is in cc
@@ -46,7 +47,7 @@ contract_falls own fuel fs e f =
 pub frame_falls : (l : ℕ) (fs : List Function) (i : ℕ) (f : Function) → slice_get fs i ≡ Some f
     → l * width fs + (5 * function_size f + 6) < (l + 1) * width fs - 2
 frame_falls l fs i f is =
-    let low = found_size fs i f is in
+    let low = found_most function_size fs i f is in
     let split : (l + 1) * width fs ≡ l * width fs + width fs = grind arith in
     omega (arith, low, split)
 

@@ -1,7 +1,7 @@
 -- What is counted for each form of expression, where its parts are counted one after another.
 use Rattle.std.proofs.Common.{◌≡◌, ◌<◌, ◌+◌, ◌*◌, ℕ, zero, suc, max, List, [], ◌∷◌, ◌++◌, map, take, drop, length}
 use Rattle.std.proofs.Common.{get_or, inl, inr, Option, Some, None, slice_get, refl, sym, ap, ◌∙◌, arith, add-one}
-use Rattle.std.proofs.Common.{drop-cons}
+use Rattle.std.proofs.Common.{append_assoc, drop-cons}
 use Rattle.std.proofs.Math.Nat.{mul_comm, le-mul_of_pos_right}
 use Rattle.std.proofs.lemmas.Bool.Decides.{leb_tells}
 use Rattle.std.proofs.lemmas.List.{take_more}
@@ -30,7 +30,7 @@ use Rattle.pp_estimate.specs.Visits.{choice_extra, first_sort, guard_events, loo
 use Rattle.pp_estimate.specs.Visits.{shape_of, tallest, visit_case, visit_of, visit_step, visits}
 use Rattle.pp_estimate.proofs.Merged.{counted_append}
 use Rattle.pp_estimate.proofs.Visited.{node_cut, of_assert, of_binary, of_call, of_construct, of_field, of_if, of_match}
-use Rattle.pp_estimate.proofs.Visited.{of_unary, of_val, two, three, four}
+use Rattle.pp_estimate.proofs.Visited.{of_unary, of_val, then_both, two, three, four}
 
 cut_low : (c : ℕ) → c < top → cut c ≡ c
 cut_low c lt = omega (arith, lt)
@@ -145,24 +145,24 @@ module _ (types : TypeTable) (calls : Calls) (old env : List Shape) where
       (moved one two_ b2 b scope gb k te) (node_cut two_ end x extra x_is n)
       ∙ close start e (Binary op a b check) _ is (of_binary types calls op a b check old env)
 
-  pub visited_construct : (start one two_ end : Counts) (e : Expr) (c : CtorId) (es es2 : List Expr) (s : Sort)
+  pub visited_construct : (start one end : Counts) (e : Expr) (c : CtorId) (es es2 : List Expr)
       → e ≡ Construct c es → es2 ≡ es → one ≡ counted start
-      (all_events (visits (map (visit_of types calls) es2) old env)) → s ≡ tree_result (slice_get types.ctors c.0)
-      → two_ ≡ counted one (look_at s) → end ≡ counted two_ (node 0) → end ≡ counted start (V e).events
-  visited_construct start one two_ end e c es es2 s is g oe se te n =
-      three start (all_events (visits (map (visit_of types calls) es) old env))
+      (all_events (visits (map (visit_of types calls) es2) old env))
+      → end ≡ counted one (look_at (tree_result (slice_get types.ctors c.0)) ++ node 0)
+      → end ≡ counted start (V e).events
+  visited_construct start one end e c es es2 is g oe n =
+      then_both start (all_events (visits (map (visit_of types calls) es) old env))
       (look_at (tree_result (slice_get types.ctors c.0))) (node 0)
-      (oe ∙ ap (λ (l : List Expr). counted start (all_events (visits (map (visit_of types calls) l) old env))) g)
-      (te ∙ ap (λ (z : Sort). counted one (look_at z)) se) n
+      (oe ∙ ap (λ (l : List Expr). counted start (all_events (visits (map (visit_of types calls) l) old env))) g) n
       ∙ close start e (Construct c es) _ is (of_construct types calls c es old env)
 
-  pub visited_field : (start one two_ end : Counts) (e a a2 : Expr) (k : ℕ) (whole : Shape) → e ≡ Field a k → a2 ≡ a
-      → one ≡ counted start (V a2).events → whole ≡ (V a2).shape → two_ ≡ counted one (look_at whole.sort)
-      → end ≡ counted two_ (node 0) → end ≡ counted start (V e).events
-  visited_field start one two_ end e a a2 k whole is g oe we te n =
+  pub visited_field : (start one end : Counts) (e a a2 : Expr) (k : ℕ) (whole : Shape) → e ≡ Field a k → a2 ≡ a
+      → one ≡ counted start (V a2).events → whole ≡ (V a2).shape
+      → end ≡ counted one (look_at whole.sort ++ node 0) → end ≡ counted start (V e).events
+  visited_field start one end e a a2 k whole is g oe we n =
       let w = moved_shape whole a2 a env g refl we in
-      three start (V a).events (look_at (V a).shape.sort) (node 0) (moved start one a2 a env g refl oe)
-      (te ∙ ap (λ (z : Shape). counted one (look_at z.sort)) w) n
+      then_both start (V a).events (look_at (V a).shape.sort) (node 0) (moved start one a2 a env g refl oe)
+      (n ∙ ap (λ (z : Shape). counted one (look_at z.sort ++ node 0)) w)
       ∙ close start e (Field a k) _ is (of_field types calls a k old env)
 
   pub visited_if : (start one two_ three_ end : Counts) (e c c2 a a2 b b2 : Expr) (scope scope2 : List Shape)
@@ -223,22 +223,23 @@ module _ (types : TypeTable) (calls : Calls) (old env : List Shape) where
       (moved one two_ r2 r scope gr k te) n
       ∙ close start e (Assert check c r) _ is (of_assert types calls check c r old env)
 
-  pub visited_call : (start one two_ three_ : Counts) (e : Expr) (g : FunctionId) (es es2 : List Expr)
+  pub visited_call : (start one two_ : Counts) (e : Expr) (g : FunctionId) (es es2 : List Expr)
       (pre measure : Option CheckId) (ss ss2 : List Shape) → e ≡ Call g es pre measure → es2 ≡ es
       → one ≡ counted start (all_events (visits (map (visit_of types calls) es2) old env))
-      → ss ≡ map shape_of (visits (map (visit_of types calls) es2) old env) → ss2 ≡ ss → two_ ≡ counted one (node 0)
-      → three_ ≡ counted two_ (called g ∷ []) → counted three_ (calls g measure old ss2).events
-      ≡ counted start (V e).events
-  visited_call start one two_ three_ e g es es2 pre measure ss ss2 is ge oe se s2 te he =
+      → ss ≡ map shape_of (visits (map (visit_of types calls) es2) old env) → ss2 ≡ ss
+      → two_ ≡ counted one (node 0 ++ called g ∷ [])
+      → counted two_ (calls g measure old ss2).events ≡ counted start (V e).events
+  visited_call start one two_ e g es es2 pre measure ss ss2 is ge oe se s2 te =
       let args = map shape_of (visits (map (visit_of types calls) es) old env) in
       let args_are : ss2 ≡ args = s2 ∙ se ∙ ap
       (λ (l : List Expr). map shape_of (visits (map (visit_of types calls) l) old env)) ge in
-      let first : one ≡ counted start (all_events (visits (map (visit_of types calls) es) old env)) = oe
+      let before = all_events (visits (map (visit_of types calls) es) old env) in
+      let first : one ≡ counted start before = oe
       ∙ ap (λ (l : List Expr). counted start (all_events (visits (map (visit_of types calls) l) old env))) ge in
-      ap (λ (l : List Shape). counted three_ (calls g measure old l).events) args_are
-      ∙ ap (λ (c : Counts). counted c (calls g measure old args).events) he
-      ∙ three start (all_events (visits (map (visit_of types calls) es) old env)) (node 0)
-      (called g ∷ (calls g measure old args).events) first te refl
+      ap (λ (l : List Shape). counted two_ (calls g measure old l).events) args_are
+      ∙ two start (before ++ node 0 ++ called g ∷ []) (calls g measure old args).events
+      (then_both start before (node 0) (called g ∷ []) first te) refl
+      ∙ ap (counted start) (append_assoc (before ++ node 0) (called g ∷ []) (calls g measure old args).events)
       ∙ close start e (Call g es pre measure) _ is (of_call types calls g es pre measure old env)
 
   case_is : (s : Shape) (p : Pattern) (g : Option Expr) (b : Expr)

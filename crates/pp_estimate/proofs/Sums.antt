@@ -4,9 +4,9 @@ use Rattle.std.proofs.Common.{slice_set, refl, sym, ap, ◌∙◌, arith, append
 use Rattle.std.specs.Prelude.{sum}
 use Rattle.std.proofs.lemmas.List.{append-nil, map-append, take_more}
 use Rattle.std.proofs.lemmas.List.Sums.{sum_by-append}
+use Rattle.pp_list.specs.Joined.{joined}
 use Rattle.pp_prog.specs.declared.sort.Sort.{Sort}
 use Rattle.pp_prog.specs.declared.types.Ctor.{Ctor}
-use Rattle.pp_prog.specs.Calls.{joined}
 use Rattle.pp_prog.specs.declared.id.DataId.{DataId}
 use Rattle.pp_prog.specs.declared.sort.Sort.TheVariants as sort
 use Rattle.pp_prog.specs.declared.types.TypeTable.{TypeTable}

@@ -1,5 +1,6 @@
 -- The visit of each form of expression, and events that are counted part by part.
 use Rattle.std.proofs.Common.{◌≡◌, ◌+◌, ℕ, max, List, [], ◌∷◌, ◌++◌, map, Option, slice_get, sym, ap, ◌∙◌, arith}
+use Rattle.std.proofs.Common.{append_assoc}
 use Rattle.pp_tree.specs.declared.operator.BinaryOp.{BinaryOp}
 use Rattle.pp_prog.specs.declared.expr.Case.{Case}
 use Rattle.pp_prog.specs.declared.expr.Expr.{Expr}
@@ -36,6 +37,11 @@ three start a b c p q r = two start (a ++ b) c (two start a b p q) r
 pub four : (start : Counts) (a b c d : List Event) {one two_ three_ end : Counts} → one ≡ counted start a
     → two_ ≡ counted one b → three_ ≡ counted two_ c → end ≡ counted three_ d → end ≡ counted start (a ++ b ++ c ++ d)
 four start a b c d p q r s = two start (a ++ b ++ c) d (three start a b c p q r) s
+
+-- two parts that were counted at once, behind another
+pub then_both : (start : Counts) (a b c : List Event) {mid end : Counts} → mid ≡ counted start a
+    → end ≡ counted mid (b ++ c) → end ≡ counted start (a ++ b ++ c)
+then_both start a b c p q = two start a (b ++ c) p q ∙ ap (counted start) (sym (append_assoc a b c))
 
 -- a node whose weight was cut
 pub node_cut : (start end : Counts) (extra e : ℕ) → extra ≡ cut e → end ≡ counted start (node extra)

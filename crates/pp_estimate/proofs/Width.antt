@@ -1,7 +1,6 @@
 -- How deep calls and expressions go: the measure of the visit.
-use Rattle.std.proofs.Common.{◌≡◌, ℕ, zero, suc, ◌+◌, ◌*◌, ◌≤◌, max, Bool, true, false, List, [], ◌∷◌, Option, Some}
-use Rattle.std.proofs.Common.{None, arith, ap}
-use Rattle.std.specs.Prelude.{slice_get}
+use Rattle.std.proofs.Common.{ℕ, ◌+◌, ◌*◌, max, Bool, true, false, List, [], Option, Some}
+use Rattle.std.proofs.Common.{None}
 use Rattle.pp_prog.specs.declared.expr.Expr.{Expr, size-Expr}
 use Rattle.pp_prog.specs.declared.expr.Function.{Function}
 use Rattle.pp_prog.specs.declared.id.CheckId.{CheckId}
@@ -31,8 +30,3 @@ own_level false = 0
 -- how many levels of calls are left: a called frame without fuel has none
 abbrev pub level : Bool → ℕ → ℕ
 level own n = own_level own + n
-
-pub found_size : (fs : List Function) (i : ℕ) (f : Function) → slice_get fs i ≡ Some f → function_size f ≤ reach fs
-found_size [] i f is = cc
-found_size (g ∷ fs) zero f is = let e : g ≡ f = cc in omega (arith, ap function_size e)
-found_size (g ∷ fs) (suc i) f is = omega (arith, found_size fs i f is)

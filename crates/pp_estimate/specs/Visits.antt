@@ -1,11 +1,13 @@
 -- The visit of an expression: which events it meets, at most how high its value is, and of which sort. Heights are
 -- cut at the greatest number of 64 bits. What a call does is a parameter. Source: own.
 use Rattle.std.specs.Prelude.{ℕ, ◌+◌, ◌-◌, ◌*◌, max, List, [], ◌∷◌, ◌++◌, map, length, Option, Some, None, slice_get}
+use Rattle.pp_list.specs.Joined.{joined}
 use Rattle.pp_operators.specs.Classes.{class_of}
 use Rattle.pp_operators.specs.declared.class.OperatorClass.{OperatorClass}
 use Rattle.pp_operators.specs.declared.class.OperatorClass.TheVariants as class
 use Rattle.pp_operators.specs.Gates.{number_gates, unary_gates}
 use Rattle.pp_tree.specs.declared.operator.BinaryOp.{BinaryOp}
+use Rattle.pp_prog.specs.ExprSorts.{gives}
 use Rattle.pp_prog.specs.declared.expr.Case.{Case}
 use Rattle.pp_prog.specs.declared.expr.Expr.{Expr}
 use Rattle.pp_prog.specs.declared.expr.Expr.TheFolds.{fold-Case, fold-Expr}
@@ -19,8 +21,7 @@ use Rattle.pp_prog.specs.declared.sort.Sort.{Sort}
 use Rattle.pp_prog.specs.declared.sort.Sort.TheVariants as sort
 use Rattle.pp_prog.specs.declared.types.Ctor.{Ctor}
 use Rattle.pp_prog.specs.declared.types.TypeTable.{TypeTable}
-use Rattle.pp_prog.specs.Calls.{joined}
-use Rattle.pp_prog.specs.Results.{field_result, fields_of_ctor, operator_result, tree_result, unary_result}
+use Rattle.pp_prog.specs.Results.{field_result, fields_of_ctor, tree_result, unary_result}
 use Rattle.pp_prog.specs.Sizes.{bits, height_at, nodes}
 use Rattle.pp_estimate.specs.declared.shape.Shape.{Shape}
 use Rattle.pp_estimate.specs.Cut.{cut}
@@ -213,7 +214,7 @@ module _ (types : TypeTable) (calls : Calls) where
   visit_step (layer.Unary op a) old env =
       visit (shape (unary_result op) 0) ((a old env).events ++ node (unary_gates op))
   visit_step (layer.Binary op a b check) old env =
-      visit (shape (operator_result op (a old env).shape.sort) 0)
+      visit (shape (gives op (a old env).shape.sort) 0)
       ((a old env).events ++ (b old env).events ++ node (binary_extra types op (a old env).shape (b old env).shape))
   visit_step (layer.Construct c args) old env =
       let s = tree_result (slice_get types.ctors c.0) in

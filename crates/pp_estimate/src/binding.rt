@@ -1,7 +1,7 @@
 //! Patterns: the shapes of the variables that they bind, and what is counted.
 
 ghost use Rattle.std.specs.Prelude.{◌≡◌, ◌++◌, ◌∷◌, [], IfOk, OnOk, drop, map};
-ghost use Rattle.pp_prog.specs.Calls.{joined};
+ghost use Rattle.pp_list.specs.Joined.{joined};
 ghost use Rattle.pp_estimate.specs.Counted.{counted};
 ghost use Rattle.pp_estimate.specs.Visits.{bind_each, bound, pattern_events};
 

@@ -1,6 +1,6 @@
 //! Counts of what a visit meets. Each sum is cut at the greatest number.
 
-ghost use Rattle.std.specs.Prelude.{◌≡◌, ℕ, [], ◌∷◌, IfOk, OnOk, replicate};
+ghost use Rattle.std.specs.Prelude.{◌≡◌, ℕ, [], ◌∷◌, ◌++◌, IfOk, OnOk, replicate};
 ghost use Rattle.pp_estimate.specs.Counted as spec;
 ghost use Rattle.pp_estimate.specs.Counted.{counted, plus_each, together};
 ghost use Rattle.pp_estimate.specs.Cut.{cut};
@@ -123,4 +123,13 @@ pub(crate) fn add_look(counts: &mut Counts, s: Sort)
         Sort::Int | Sort::Bool => {}
         Sort::Tree(d) => counts.add_look(d),
     }
+}
+
+/// Counts the node of a call, and the call.
+#[tactic(auto, using(crate::proofs::Merged::counted_append))]
+pub(crate) fn add_call_node(counts: &mut Counts, g: FunctionId)
+    ensures { counts.new ≡ counted counts.old (node 0 ++ events.called g ∷ []) }
+{
+    add_node(counts, 0);
+    counts.add_call(g);
 }

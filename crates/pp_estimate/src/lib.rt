@@ -7,6 +7,7 @@
 //! - `estimating`: `estimate`, the rounds together, and one round.
 //! - `frames`: calls, and the frames of functions; a called one is counted once.
 //! - `visit`: expressions, an arm for each form.
+//! - `nodes`: what is counted behind the parts of a node, and the shape of its value.
 //! - `binding`: patterns, and the shapes of what they bind.
 //! - `comparing`: the components of a measure that are compared at a call.
 //! - `weights`: what operators, choices and comparisons weigh besides their node.
@@ -25,6 +26,7 @@ mod estimating;
 mod frames;
 mod instances;
 mod memo;
+mod nodes;
 mod place;
 mod shape;
 mod sizes;

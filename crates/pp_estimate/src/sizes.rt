@@ -1,7 +1,7 @@
 //! How large the values of sorts are. Each sum is cut at the greatest number.
 
 ghost use Rattle.std.specs.Prelude.{◌≡◌, ◌≤◌, ◌+◌, IfOk, OnOk, length, map, sum};
-ghost use Rattle.pp_prog.specs.Calls.{joined};
+ghost use Rattle.pp_list.specs.Joined.{joined};
 ghost use Rattle.pp_prog.specs.declared.sort.Sort.TheVariants as sort;
 ghost use Rattle.pp_prog.specs.Sizes.{flat, sorts_in_ctor, width};
 ghost use Rattle.pp_prog.specs.Sorts.{param_sorts};

@@ -8,15 +8,14 @@ ghost use Rattle.pp_estimate.specs.Visits.{all_events, arms, guard_events, match
 
 use crate::NoMemory;
 use crate::binding::bind;
-use crate::counts::{Counts, add_look, add_node};
+use crate::counts::{Counts, add_call_node, add_node};
 use crate::frames::call;
 use crate::memo::Memo;
+use crate::nodes::{constructed, selected, variable, weighed};
 use crate::place::Place;
-use crate::shape::{
-    Shape, Shapes, first_sort, part_of, shape_at, tallest_of, tree_sort, truncate, unary_sort,
-};
+use crate::shape::{Shape, Shapes, first_sort, tallest_of, truncate, unary_sort};
 use crate::weights::{binary_extra, choice_extra};
-use pp_checks::{field_sort, operator_sort};
+use pp_checks::operator_sort;
 use pp_list::Items;
 use pp_operators::unary_gates;
 use pp_prog::{Case, Expr, Sort};
@@ -43,57 +42,26 @@ pub(crate) fn visit(
     ensures sound { OnOk result (IsSound place.entry memo.new counts.new) }
 {
     match e {
-        Expr::Int(_) => {
-            add_node(counts, 0);
-            Ok(Shape {
-                sort: Sort::Int,
-                height: 0,
-            })
-        }
-        Expr::Bool(_) => {
-            add_node(counts, 0);
-            Ok(Shape {
-                sort: Sort::Bool,
-                height: 0,
-            })
-        }
-        Expr::Var(i) => {
-            add_node(counts, 0);
-            Ok(shape_at(env.as_slice(), *i))
-        }
+        Expr::Int(_) => Ok(weighed(counts, Sort::Int, 0, 0)),
+        Expr::Bool(_) => Ok(weighed(counts, Sort::Bool, 0, 0)),
+        Expr::Var(i) => Ok(variable(counts, env.as_slice(), *i)),
         Expr::Unary(op, a) => {
             visit(alloc, place, memo, counts, old, env, a.get())?;
-            add_node(counts, unary_gates(*op));
-            Ok(Shape {
-                sort: unary_sort(*op),
-                height: 0,
-            })
+            Ok(weighed(counts, unary_sort(*op), 0, unary_gates(*op)))
         }
         Expr::Binary(op, a, b, _) => {
             let left = visit(alloc, place, memo, counts, old, env, a.get())?;
             let right = visit(alloc, place, memo, counts, old, env, b.get())?;
             let extra = binary_extra(alloc, place.types, &mut memo.rows, *op, left, right)?;
-            add_node(counts, extra);
-            Ok(Shape {
-                sort: operator_sort(*op, left.sort),
-                height: 0,
-            })
+            Ok(weighed(counts, operator_sort(*op, left.sort), 0, extra))
         }
         Expr::Construct(c, args) => {
             let shapes = visit_all(alloc, place, memo, counts, old, env, args.as_slice())?;
-            let sort = tree_sort(place.types.ctors.as_slice(), *c);
-            add_look(counts, sort);
-            add_node(counts, 0);
-            Ok(Shape {
-                sort,
-                height: tallest_of(shapes.as_slice()).saturating_add(1),
-            })
+            Ok(constructed(place.types, counts, *c, shapes.as_slice()))
         }
         Expr::Field(e, k) => {
             let whole = visit(alloc, place, memo, counts, old, env, e.get())?;
-            add_look(counts, whole.sort);
-            add_node(counts, 0);
-            Ok(part_of(whole, field_sort(place.types, whole.sort, *k)))
+            Ok(selected(place.types, counts, whole, *k))
         }
         Expr::If(c, a, b) => {
             visit(alloc, place, memo, counts, old, env, c.get())?;
@@ -101,11 +69,7 @@ pub(crate) fn visit(
             let right = visit(alloc, place, memo, counts, old, env, b.get())?;
             let height = left.height.max(right.height);
             let extra = choice_extra(alloc, place.types, &mut memo.rows, left.sort, height)?;
-            add_node(counts, extra);
-            Ok(Shape {
-                sort: left.sort,
-                height,
-            })
+            Ok(weighed(counts, left.sort, height, extra))
         }
         Expr::Match(e, cases, _) => {
             let s = visit(alloc, place, memo, counts, old, env, e.get())?;
@@ -132,18 +96,9 @@ pub(crate) fn visit(
             ..
         } => {
             let shapes = visit_all(alloc, place, memo, counts, old, env, args.as_slice())?;
-            add_node(counts, 0);
-            counts.add_call(*callee);
-            call(
-                alloc,
-                place,
-                memo,
-                counts,
-                *callee,
-                *measure,
-                old,
-                shapes.as_slice(),
-            )
+            add_call_node(counts, *callee);
+            let given = shapes.as_slice();
+            call(alloc, place, memo, counts, *callee, *measure, old, given)
         }
     }
 }

@@ -2,13 +2,16 @@
 use Rattle.std.proofs.Common.{◌≡◌, ◌≤◌, ◌+◌, ℕ, List, [], ◌∷◌, map, max, length, Option, Some, None, refl, ap, sym}
 use Rattle.std.proofs.Common.{subst}
 use Rattle.std.specs.Prelude.{slice_get}
+use Rattle.pp_list.proofs.With.{With, elements}
+use Rattle.pp_prog.proofs.Induction.{case_under, each_expr, under}
 use Rattle.pp_operators.specs.Classes.{class_of}
 use Rattle.pp_operators.specs.declared.class.OperatorClass.{OperatorClass}
 use Rattle.pp_operators.specs.declared.class.OperatorClass.TheVariants as class
 use Rattle.pp_tree.specs.declared.operator.BinaryOp.{BinaryOp}
+use Rattle.pp_prog.specs.ExprSorts.{gives}
 use Rattle.pp_prog.specs.declared.expr.Case.{Case}
 use Rattle.pp_prog.specs.declared.expr.Expr.{Expr}
-use Rattle.pp_prog.specs.declared.expr.Expr.TheFolds.{fold-roll-Case, fold-roll-Expr, ind-Expr, map-Case, map-Expr}
+use Rattle.pp_prog.specs.declared.expr.Expr.TheFolds.{fold-roll-Case, fold-roll-Expr, map-Case, map-Expr}
 use Rattle.pp_prog.specs.declared.expr.Expr.TheOpen as layer
 use Rattle.pp_prog.specs.declared.expr.Expr.TheViews.{roll-Case, roll-Expr}
 use Rattle.pp_prog.specs.declared.expr.Pattern.{Pattern}
@@ -17,7 +20,7 @@ use Rattle.pp_prog.specs.declared.id.FunctionId.{FunctionId}
 use Rattle.pp_prog.specs.declared.sort.Sort.{Sort}
 use Rattle.pp_prog.specs.declared.sort.Sort.TheVariants as sort
 use Rattle.pp_prog.specs.declared.types.TypeTable.{TypeTable}
-use Rattle.pp_prog.specs.Results.{field_result, operator_result, tree_result, unary_result}
+use Rattle.pp_prog.specs.Results.{field_result, tree_result, unary_result}
 use Rattle.pp_prog.specs.Sizes.{bits}
 use Rattle.pp_estimate.specs.declared.shape.Shape.{Shape}
 use Rattle.pp_estimate.specs.Events.{called}
@@ -117,28 +120,23 @@ module _ (types : TypeTable) (c d : Calls) (more : CallsGrow c d) where
   abbrev Q : Case → Type 0
   Q k = ArmGrows (visit_case types c k) (visit_case types d k)
 
-  abbrev E : Type 0
-  E = (e : Expr) × P e
-
-  abbrev K : Type 0
-  K = (k : Case) × Q k
-
-  list_grows : (ys : List E) (old old' env env' : List Shape) → ShapesGrow old old' → ShapesGrow env env'
-      → VisitsGrow (visits (map (visit_of types c) (map (λ (z : E). z.0) ys)) old env)
-      (visits (map (visit_of types d) (map (λ (z : E). z.0) ys)) old' env')
+  list_grows : (ys : List (With P)) (old old' env env' : List Shape) → ShapesGrow old old' → ShapesGrow env env'
+      → VisitsGrow (visits (map (visit_of types c) (elements ys)) old env)
+      (visits (map (visit_of types d) (elements ys)) old' env')
   list_grows [] old old' env env' h k = tt
   list_grows (y ∷ ys) old old' env env' h k = (y.1 old old' env env' h k, list_grows ys old old' env env' h k)
 
-  arms_grow : (ys : List K) (s t : Shape) (old old' env env' : List Shape) → ShapeGrows s t → ShapesGrow old old'
+  arms_grow : (ys : List (With Q)) (s t : Shape) (old old' env env' : List Shape) → ShapeGrows s t → ShapesGrow old old'
       → ShapesGrow env env'
-      → VisitsGrow (arms (map (visit_case types c) (map (λ (z : K). z.0) ys)) s old env)
-      (arms (map (visit_case types d) (map (λ (z : K). z.0) ys)) t old' env')
+      → VisitsGrow (arms (map (visit_case types c) (elements ys)) s old env)
+      (arms (map (visit_case types d) (elements ys)) t old' env')
   arms_grow [] s t old old' env env' g h k = tt
   arms_grow (y ∷ ys) s t old old' env env' g h k =
       (y.1 s t g old old' env env' h k, arms_grow ys s t old old' env env' g h k)
 
-  level : (y : layer.Expr-F E K) (old old' env env' : List Shape) → ShapesGrow old old' → ShapesGrow env env'
-      → let z = map-Expr E K Expr Case (λ z. z.0) (λ z. z.0) y in
+  level : (y : layer.Expr-F (With P) (With Q)) (old old' env env' : List Shape) → ShapesGrow old old'
+      → ShapesGrow env env'
+      → let z = under y in
       VisitGrows (visit_step types c (map-Expr Expr Case Visiting Arm (visit_of types c) (visit_case types c) z) old
       env)
       (visit_step types d (map-Expr Expr Case Visiting Arm (visit_of types d) (visit_case types d) z) old' env')
@@ -157,7 +155,7 @@ module _ (types : TypeTable) (c d : Calls) (more : CallsGrow c d) where
       let v = a.1 old old' env env' h k in
       let w = b.1 old old' env env' h k in
       record {
-        shapes = record { sorts = ap (operator_result op) v.shapes.sorts; heights = le_same 0 };
+        shapes = record { sorts = ap (gives op) v.shapes.sorts; heights = le_same 0 };
         events = events_append_three _ _ _ _ _ _ v.events w.events
             (node_grows _ _ (binary_grows types op _ _ _ _ v.shapes w.shapes));
       }
@@ -210,9 +208,9 @@ module _ (types : TypeTable) (c d : Calls) (more : CallsGrow c d) where
             (events_append (called g ∷ []) (called g ∷ []) _ _ (events_same (called g ∷ [])) v.events);
       }
 
-  at_level : (y : layer.Expr-F E K) → P (roll-Expr (map-Expr E K Expr Case (λ z. z.0) (λ z. z.0) y))
+  at_level : (y : layer.Expr-F (With P) (With Q)) → P (roll-Expr (under y))
   at_level y old old' env env' h k =
-      let z = map-Expr E K Expr Case (λ w. w.0) (λ w. w.0) y in
+      let z = under y in
       let one = fold-roll-Expr Visiting Arm (visit_step types c) (arm_step types) z in
       let two = fold-roll-Expr Visiting Arm (visit_step types d) (arm_step types) z in
       subst (λ (m : Visiting). VisitGrows (m old env) (visit_of types d (roll-Expr z) old' env')) (sym one)
@@ -221,9 +219,9 @@ module _ (types : TypeTable) (c d : Calls) (more : CallsGrow c d) where
       (m old' env'))
       (sym two) (level y old old' env env' h k))
 
-  at_parts : (p : Pattern) (o : Option E) (b : E)
-      → let y : layer.Case-F E K = record { pattern = p; guard = o; body = b } in
-      let z = map-Case E K Expr Case (λ w. w.0) (λ w. w.0) y in
+  at_parts : (p : Pattern) (o : Option (With P)) (b : With P)
+      → let y : layer.Case-F (With P) (With Q) = record { pattern = p; guard = o; body = b } in
+      let z = case_under Q y in
       ArmGrows (arm_step types (map-Case Expr Case Visiting Arm (visit_of types c) (visit_case types c) z))
       (arm_step types (map-Case Expr Case Visiting Arm (visit_of types d) (visit_case types d) z))
   at_parts p None b s t g old old' env env' h k =
@@ -242,9 +240,9 @@ module _ (types : TypeTable) (c d : Calls) (more : CallsGrow c d) where
             (e.1 old old' _ _ h scope).events r.events;
       }
 
-  at_case : (y : layer.Case-F E K) → Q (roll-Case (map-Case E K Expr Case (λ z. z.0) (λ z. z.0) y))
+  at_case : (y : layer.Case-F (With P) (With Q)) → Q (roll-Case (case_under Q y))
   at_case y =
-      let z = map-Case E K Expr Case (λ w. w.0) (λ w. w.0) y in
+      let z = case_under Q y in
       let one = fold-roll-Case Visiting Arm (visit_step types c) (arm_step types) z in
       let two = fold-roll-Case Visiting Arm (visit_step types d) (arm_step types) z in
       subst (λ (a : Arm). ArmGrows a (visit_case types d (roll-Case z))) (sym one)
@@ -253,5 +251,4 @@ module _ (types : TypeTable) (c d : Calls) (more : CallsGrow c d) where
       (at_parts y.pattern y.guard y.body))
 
   pub expr_grows : (e : Expr) → Grows (visit_of types c e) (visit_of types d e)
-  expr_grows = ind-Expr P Q (λ x y is. subst (λ z. P (roll-Expr z)) is (at_level y))
-      (λ x y is. subst (λ z. Q (roll-Case z)) is (at_case y))
+  expr_grows = each_expr P Q at_level at_case

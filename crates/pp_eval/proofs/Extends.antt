@@ -2,11 +2,13 @@
 use Rattle.std.proofs.Common.{◌≡◌, ℕ, zero, suc, ◌≤◌, Bool, true, false, List, [], ◌∷◌, ◌++◌, map, Option, Some, None}
 use Rattle.std.proofs.Common.{Ok, Err, refl, ap, sym, subst, arith}
 use Rattle.std.specs.Prelude.{◌≢◌, slice_get}
+use Rattle.pp_list.proofs.With.{With, elements}
+use Rattle.pp_prog.proofs.Induction.{case_under, each_expr, under}
 use Rattle.pp_tree.specs.declared.operator.BinaryOp.{BinaryOp}
 use Rattle.pp_tree.specs.declared.operator.BinaryOp.TheVariants.{AndAlso, OrElse}
 use Rattle.pp_prog.specs.declared.expr.Case.{Case}
 use Rattle.pp_prog.specs.declared.expr.Expr.{Expr}
-use Rattle.pp_prog.specs.declared.expr.Expr.TheFolds.{fold-roll-Expr, fold-roll-Case, ind-Expr, map-Expr, map-Case}
+use Rattle.pp_prog.specs.declared.expr.Expr.TheFolds.{fold-roll-Expr, fold-roll-Case, map-Expr, map-Case}
 use Rattle.pp_prog.specs.declared.expr.Expr.TheOpen as layer
 use Rattle.pp_prog.specs.declared.expr.Expr.TheViews.{roll-Expr, roll-Case}
 use Rattle.pp_prog.specs.declared.expr.Function.{Function}
@@ -88,15 +90,9 @@ module _ (c d : CallMeaning) (more : CallsCover c d) where
   abbrev Q : Case → Type 0
   Q k = CoversArm (arm c k) (arm d k)
 
-  abbrev E : Type 0
-  E = (e : Expr) × P e
-
-  abbrev K : Type 0
-  K = (k : Case) × Q k
-
-  all_extends : (ys : List E) (done : List Value) (frame : Frame) (env : List Value)
-      → Extends (all_from done (map (meaning c) (map (λ z. z.0) ys)) frame env)
-      (all_from done (map (meaning d) (map (λ z. z.0) ys)) frame env)
+  all_extends : (ys : List (With P)) (done : List Value) (frame : Frame) (env : List Value)
+      → Extends (all_from done (map (meaning c) (elements ys)) frame env)
+      (all_from done (map (meaning d) (elements ys)) frame env)
   all_extends [] done frame env = refl
   all_extends (y ∷ ys) done frame env = then_extends _ _ _ _ (y.1 frame env)
       (λ v. all_extends ys (done ++ v ∷ []) frame env)
@@ -107,9 +103,9 @@ module _ (c d : CallMeaning) (more : CallsCover c d) where
   attempt_extends (Some bound) a b frame env h =
       then_extends _ _ _ _ (h.1 frame (env ++ bound)) (λ t. taken_extends t _ _ (h.2 frame (env ++ bound)))
 
-  cases_extend : (ys : List K) (check : Option CheckId) (v : Value) (frame : Frame) (env : List Value)
-      → Extends (first_case (map (arm c) (map (λ z. z.0) ys)) check v frame env)
-      (first_case (map (arm d) (map (λ z. z.0) ys)) check v frame env)
+  cases_extend : (ys : List (With Q)) (check : Option CheckId) (v : Value) (frame : Frame) (env : List Value)
+      → Extends (first_case (map (arm c) (elements ys)) check v frame env)
+      (first_case (map (arm d) (elements ys)) check v frame env)
   cases_extend [] check v frame env = same_extends (failed check)
   cases_extend (y ∷ ys) check v frame env =
       then_extends _ _ _ _
@@ -129,11 +125,11 @@ module _ (c d : CallMeaning) (more : CallsCover c d) where
       then_extends _ _ _ _ (e frame env) (λ x. then_extends _ _ _ _ (f frame env)
       (λ y. same_extends (operated op check x y)))
 
-  level : (y : layer.Expr-F E K) (frame : Frame) (env : List Value)
+  level : (y : layer.Expr-F (With P) (With Q)) (frame : Frame) (env : List Value)
       → Extends (meaning_step c (map-Expr Expr Case Meaning Arm (meaning c) (arm c)
-      (map-Expr E K Expr Case (λ z. z.0) (λ z. z.0) y)) frame env)
+      (under y)) frame env)
       (meaning_step d (map-Expr Expr Case Meaning Arm (meaning d) (arm d)
-      (map-Expr E K Expr Case (λ z. z.0) (λ z. z.0) y)) frame env)
+      (under y)) frame env)
   level (layer.Int n) frame env = refl
   level (layer.Bool b) frame env = refl
   level (layer.Var i) frame env = same_extends (found (slice_get env i))
@@ -153,26 +149,26 @@ module _ (c d : CallMeaning) (more : CallsCover c d) where
   level (layer.Call g args pre measure) frame env =
       then_extends _ _ _ _ (all_extends args [] frame env) (λ vs. more frame g pre measure vs)
 
-  at_level : (y : layer.Expr-F E K) → P (roll-Expr (map-Expr E K Expr Case (λ z. z.0) (λ z. z.0) y))
+  at_level : (y : layer.Expr-F (With P) (With Q)) → P (roll-Expr (under y))
   at_level y frame env =
-      let z = map-Expr E K Expr Case (λ w. w.0) (λ w. w.0) y in
+      let z = under y in
       let one = fold-roll-Expr Meaning Arm (meaning_step c) arm_step z in
       let two = fold-roll-Expr Meaning Arm (meaning_step d) arm_step z in
       subst (λ (m : Meaning). Extends (m frame env) (meaning d (roll-Expr z) frame env)) (sym one)
       (subst (λ (m : Meaning). Extends (meaning_step c (map-Expr Expr Case Meaning Arm (meaning c) (arm c) z) frame env)
       (m frame env)) (sym two) (level y frame env))
 
-  at_parts : (p : Pattern) (o : Option E) (b : E) → let y : layer.Case-F E K =
+  at_parts : (p : Pattern) (o : Option (With P)) (b : With P) → let y : layer.Case-F (With P) (With Q) =
       record { pattern = p; guard = o; body = b } in
-      let z = map-Case E K Expr Case (λ w. w.0) (λ w. w.0) y in
+      let z = case_under Q y in
       CoversArm (arm_step (map-Case Expr Case Meaning Arm (meaning c) (arm c) z))
       (arm_step (map-Case Expr Case Meaning Arm (meaning d) (arm d) z))
   at_parts p None b = (refl, λ frame env. refl, b.1)
   at_parts p (Some e) b = (refl, λ frame env. then_extends _ _ _ _ (e.1 frame env) (λ v. same_extends (truth v)), b.1)
 
-  at_case : (y : layer.Case-F E K) → Q (roll-Case (map-Case E K Expr Case (λ z. z.0) (λ z. z.0) y))
+  at_case : (y : layer.Case-F (With P) (With Q)) → Q (roll-Case (case_under Q y))
   at_case y =
-      let z = map-Case E K Expr Case (λ w. w.0) (λ w. w.0) y in
+      let z = case_under Q y in
       let one = fold-roll-Case Meaning Arm (meaning_step c) arm_step z in
       let two = fold-roll-Case Meaning Arm (meaning_step d) arm_step z in
       subst (λ a. CoversArm a (arm d (roll-Case z))) (sym one)
@@ -180,8 +176,7 @@ module _ (c d : CallMeaning) (more : CallsCover c d) where
       (at_parts y.pattern y.guard y.body))
 
   pub expr_covers : (e : Expr) → Covers (meaning c e) (meaning d e)
-  expr_covers = ind-Expr P Q (λ x y is. subst (λ z. P (roll-Expr z)) is (at_level y))
-      (λ x y is. subst (λ z. Q (roll-Case z)) is (at_case y))
+  expr_covers = each_expr P Q at_level at_case
 
   list_covers : (es : List Expr) (done : List Value) (frame : Frame) (env : List Value)
       → Extends (all_from done (map (meaning c) es) frame env) (all_from done (map (meaning d) es) frame env)

@@ -2,8 +2,12 @@
 use Rattle.std.proofs.Common.{◌≡◌, ℕ, zero, suc, ◌+◌, ◌-◌, ◌<◌, List, [], ◌∷◌, ◌++◌, length, get_or, drop, map, Option}
 use Rattle.std.proofs.Common.{Some, None, Ok, Err, Result, ap, sym, ◌∙◌, subst, arith, drop-cons}
 use Rattle.std.specs.Prelude.{slice_get}
+use Rattle.pp_tree.specs.declared.operator.BinaryOp.{BinaryOp}
 use Rattle.pp_prog.specs.declared.expr.Case.{Case}
 use Rattle.pp_prog.specs.declared.expr.Expr.{Expr}
+use Rattle.pp_prog.specs.declared.expr.Expr.TheFolds.{fold-roll-Expr}
+use Rattle.pp_prog.specs.declared.expr.Expr.TheOpen as layer
+use Rattle.pp_prog.specs.declared.expr.Expr.TheVariants.{Binary, rolls-Binary}
 use Rattle.pp_prog.specs.declared.expr.Function.{Function}
 use Rattle.pp_prog.specs.declared.id.CheckId.{CheckId}
 use Rattle.pp_prog.specs.declared.id.FunctionId.{FunctionId}
@@ -12,7 +16,8 @@ use Rattle.pp_prog.specs.declared.value.Value.{Value}
 use Rattle.pp_eval.specs.declared.outcome.Halt.{Halt}
 use Rattle.pp_eval.specs.declared.outcome.Halt.TheVariants.{Memory, Stopped}
 use Rattle.pp_eval.specs.Invocation.{calls_to, enters}
-use Rattle.pp_eval.specs.Meaning.{Arm, Frame, Meaning, all_from, attempt, first_case, or_next}
+use Rattle.pp_eval.specs.Meaning.{Arm, CallMeaning, Frame, Meaning, all_from, arm_step, attempt, binary, first_case}
+use Rattle.pp_eval.specs.Meaning.{meaning, meaning_step, or_next}
 use Rattle.pp_eval.specs.Part.{Part, Tells, and_then}
 
 -- the rest begins with the item
@@ -88,6 +93,17 @@ pub tells_along : {A : Type 0} (r : Result A Halt) (p q : Part A) → q ≡ p �
 tells_along (Ok a) p q e told = e ∙ told
 tells_along (Err Memory) p q e told = tt
 tells_along (Err (Stopped s)) p q e told = e ∙ told
+
+-- an operator with two operands, by what they mean
+pub binary_at : (calls : CallMeaning) (frame : Frame) (env : List Value) {e a b c d : Expr} {op : BinaryOp}
+    {check : Option CheckId} → e ≡ Binary op a b check → c ≡ a → d ≡ b
+    → meaning calls e frame env ≡ binary op (meaning calls c) (meaning calls d) check frame env
+binary_at calls frame env {e = e} {a = a} {b = b} {c = c} {d = d} {op = op} {check = check} is f g =
+    ap (λ (x : Expr). meaning calls x frame env) (is ∙ sym (rolls-Binary op a b check))
+    ∙ ap (λ (m : Meaning). m frame env)
+    (fold-roll-Expr Meaning Arm (meaning_step calls) arm_step (layer.Binary op a b check))
+    ∙ ap (λ (x : Expr). binary op (meaning calls x) (meaning calls b) check frame env) (sym f)
+    ∙ ap (λ (x : Expr). binary op (meaning calls c) (meaning calls x) check frame env) (sym g)
 
 pub call_at : (ctors : List Ctor) (fs : List Function) (n : ℕ) (frame : Frame) (g : FunctionId)
     (pre measure : Option CheckId) (args : List Value) (f : Function) → 0 < n → slice_get fs g.0 ≡ Some f

@@ -37,26 +37,8 @@ pub(crate) fn value_of(
             let x = value_of(alloc, callees, frame, env, a.get())?;
             Ok(unary(*op, &x)?)
         }
-        Expr::Binary(BinaryOp::AndAlso, a, b, _) => {
-            let x = value_of(alloc, callees, frame, env, a.get())?;
-            if truth_of(&x)? {
-                value_of(alloc, callees, frame, env, b.get())
-            } else {
-                Ok(Value::Bool(false))
-            }
-        }
-        Expr::Binary(BinaryOp::OrElse, a, b, _) => {
-            let x = value_of(alloc, callees, frame, env, a.get())?;
-            if truth_of(&x)? {
-                Ok(Value::Bool(true))
-            } else {
-                value_of(alloc, callees, frame, env, b.get())
-            }
-        }
         Expr::Binary(op, a, b, check) => {
-            let x = value_of(alloc, callees, frame, env, a.get())?;
-            let y = value_of(alloc, callees, frame, env, b.get())?;
-            Ok(operate(*op, *check, &x, &y)?)
+            binary(alloc, callees, frame, env, *op, *check, a.get(), b.get())
         }
         Expr::Construct(c, args) => {
             let fields = values_of(alloc, callees, frame, env, args.as_slice())?;
@@ -101,6 +83,45 @@ pub(crate) fn value_of(
         } => {
             let values = values_of(alloc, callees, frame, env, args.as_slice())?;
             call(alloc, callees, frame, *callee, *pre, *measure, values)
+        }
+    }
+}
+
+// The value of an operator with two operands. The right side of `&&` and `||` is skipped where the left decides.
+#[cycle(eval)]
+fn binary(
+    alloc: Global,
+    callees: Callees<'_>,
+    frame: &Option<Values>,
+    env: &mut Values,
+    op: BinaryOp,
+    check: Option<CheckId>,
+    a: &Expr,
+    b: &Expr,
+) -> Result<Value, Halt>
+    ensures told { Tells result
+        (spec.binary op (expr_meaning callees.entry a.now) (expr_meaning callees.entry b.now) check frame.now env.old) }
+    ensures kept { OnOk result (env.new ≡ env.old) }
+{
+    let x = value_of(alloc, callees, frame, env, a)?;
+    match op {
+        BinaryOp::AndAlso => {
+            if truth_of(&x)? {
+                value_of(alloc, callees, frame, env, b)
+            } else {
+                Ok(Value::Bool(false))
+            }
+        }
+        BinaryOp::OrElse => {
+            if truth_of(&x)? {
+                Ok(Value::Bool(true))
+            } else {
+                value_of(alloc, callees, frame, env, b)
+            }
+        }
+        op => {
+            let y = value_of(alloc, callees, frame, env, b)?;
+            Ok(operate(op, check, &x, &y)?)
         }
     }
 }

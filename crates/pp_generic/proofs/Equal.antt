@@ -8,7 +8,7 @@ use Rattle.pp_typed.specs.declared.sort.GenericSort.TheOpen as layer
 use Rattle.pp_typed.specs.declared.sort.GenericSort.TheViews.{out-GenericSort, roll-GenericSort, out-roll-GenericSort}
 use Rattle.pp_typed.specs.declared.sort.GenericSort.TheViews.{roll-out-GenericSort}
 use Rattle.pp_typed.specs.declared.sort.GenericSort.TheFolds.{fold-roll-GenericSort, ind-GenericSort, map-GenericSort}
-use Rattle.pp_generic.specs.Equal.{equal, equal_step, equal_layer, pass_all}
+use Rattle.pp_typed.specs.Equal.{equal, equal_step, equal_layer, pass_all}
 
 abbrev Sure : GenericSort → Type 0
 Sure v = (w : GenericSort) → (equal v w ≡ true → v ≡ w) × (equal v v ≡ true)

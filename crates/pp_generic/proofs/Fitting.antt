@@ -8,7 +8,7 @@ use Rattle.pp_generic.specs.declared.expected.Expected.{Expected}
 use Rattle.pp_generic.specs.declared.expected.Expected.TheFolds.{fold-roll-Expected}
 use Rattle.pp_generic.specs.declared.expected.Expected.TheOpen as layer
 use Rattle.pp_generic.specs.declared.expected.Expected.TheVariants as expected
-use Rattle.pp_generic.specs.Equal.{pass_all}
+use Rattle.pp_typed.specs.Equal.{pass_all}
 use Rattle.pp_generic.specs.Expected.{fits, fits_step, fits_root}
 use Rattle.pp_list.proofs.Lists.{rest_at}
 use Rattle.pp_typed.specs.declared.sort.GenericSort.{GenericSort}

@@ -4,7 +4,7 @@ use Rattle.pp_generic.specs.declared.expected.Expected.{Expected}
 use Rattle.pp_generic.specs.declared.expected.Expected.TheFolds.{fold-Expected}
 use Rattle.pp_generic.specs.declared.expected.Expected.TheOpen as expected_layer
 use Rattle.pp_generic.specs.declared.expected.Expected.TheVariants as expected
-use Rattle.pp_generic.specs.Equal.{pass_all}
+use Rattle.pp_typed.specs.Equal.{pass_all}
 use Rattle.pp_typed.specs.declared.sort.GenericSort.{GenericSort}
 use Rattle.pp_typed.specs.declared.sort.GenericSort.TheFolds.{fold-GenericSort}
 use Rattle.pp_typed.specs.declared.sort.GenericSort.TheOpen as layer

@@ -1,3 +1,2 @@
-pub mod Equal
 pub mod Expected
 pub mod Found

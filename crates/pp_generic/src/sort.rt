@@ -1,7 +1,7 @@
 //! Copies and equality of sorts, and sorts put in place of the parameters of a sort.
 
 ghost use Rattle.std.specs.Prelude.{◌≡◌, ◌↔◌, IsTrue, IfOk, unwrap_or, slice_get};
-ghost use Rattle.pp_generic.specs.Equal.{equal};
+ghost use Rattle.pp_typed.specs.Equal.{equal};
 ghost use Rattle.pp_typed.specs.Put.{put, put_at};
 ghost use Rattle.pp_typed.specs.declared.sort.GenericSort.TheVariants.{Param};
 

@@ -1,9 +1,12 @@
 -- Expressions: their steps weigh at most what their visits are worth, where those of calls do.
 use Rattle.std.proofs.Common.{ℕ, List, [], ◌∷◌, map, Option, Some, None, refl, sym, ◌∙◌, subst, arith}
 use Rattle.std.proofs.lemmas.Option.{same_Some}
+use Rattle.pp_list.proofs.With.{With, elements}
+use Rattle.pp_prog.proofs.Induction.{case_under, each_expr, under}
+use Rattle.pp_prog.specs.ExprSorts.{case_sorts}
 use Rattle.pp_prog.specs.declared.expr.Case.{Case}
 use Rattle.pp_prog.specs.declared.expr.Expr.{Expr}
-use Rattle.pp_prog.specs.declared.expr.Expr.TheFolds.{fold-Case, fold-roll-Case, fold-roll-Expr, ind-Expr, map-Case}
+use Rattle.pp_prog.specs.declared.expr.Expr.TheFolds.{fold-roll-Case, fold-roll-Expr, map-Case}
 use Rattle.pp_prog.specs.declared.expr.Expr.TheFolds.{map-Expr}
 use Rattle.pp_prog.specs.declared.expr.Expr.TheOpen as layer
 use Rattle.pp_prog.specs.declared.expr.Expr.TheViews.{roll-Case, roll-Expr}
@@ -53,7 +56,7 @@ module _ (p : Program) (σ : Sorts) (ψ : Prices) (left : OpenCall → ℕ) wher
     visited_arm = visit_case p.types calls
 
     abbrev sorted_arm : Case → sorts.Arm
-    sorted_arm = fold-Case Sorting sorts.Arm (sort_step p.types p.functions) sorts.arm_step
+    sorted_arm = case_sorts p.types p.functions
 
     abbrev P : Expr → Type 0
     P e = C (compiled e) (visited e) (sorted e)
@@ -61,30 +64,17 @@ module _ (p : Program) (σ : Sorts) (ψ : Prices) (left : OpenCall → ℕ) wher
     abbrev Q : Case → Type 0
     Q k = ArmCovers p σ ψ left old (compiled_arm k) (visited_arm k) (sorted_arm k)
 
-    abbrev E : Type 0
-    E = (e : Expr) × P e
-
-    abbrev K : Type 0
-    K = (k : Case) × Q k
-
-    abbrev exprs : List E → List Expr
-    exprs ys = map (λ z. z.0) ys
-
-    abbrev cases : List K → List Case
-    cases ys = map (λ z. z.0) ys
-
-    all_cover : (ys : List E)
-        → AllCover p.types σ ψ left old (map compiled (exprs ys)) (map visited (exprs ys)) (map sorted (exprs ys))
+    all_cover : (ys : List (With P))
+        → AllCover p.types σ ψ left old (map compiled (elements ys)) (map visited (elements ys))
+        (map sorted (elements ys))
     all_cover [] = tt
     all_cover (y ∷ ys) = (y.1, all_cover ys)
 
-    arms_cover : (ys : List K)
-        → AllArms p σ ψ left old (map compiled_arm (cases ys)) (map visited_arm (cases ys)) (map sorted_arm (cases ys))
+    arms_cover : (ys : List (With Q))
+        → AllArms p σ ψ left old (map compiled_arm (elements ys)) (map visited_arm (elements ys))
+        (map sorted_arm (elements ys))
     arms_cover [] = tt
     arms_cover (y ∷ ys) = (y.1, arms_cover ys)
-
-    abbrev under : layer.Expr-F E K → layer.Expr-F Expr Case
-    under y = map-Expr E K Expr Case (λ z. z.0) (λ z. z.0) y
 
     abbrev compiled_level : layer.Expr-F Expr Case → Compiling
     compiled_level z = compile_step asked site (map-Expr Expr Case Compiling Arm compiled compiled_arm z)
@@ -95,7 +85,8 @@ module _ (p : Program) (σ : Sorts) (ψ : Prices) (left : OpenCall → ℕ) wher
     abbrev sorted_level : layer.Expr-F Expr Case → Sorting
     sorted_level z = sort_step p.types p.functions (map-Expr Expr Case Sorting sorts.Arm sorted sorted_arm z)
 
-    level : (y : layer.Expr-F E K) → C (compiled_level (under y)) (visited_level (under y)) (sorted_level (under y))
+    level : (y : layer.Expr-F (With P) (With Q))
+        → C (compiled_level (under y)) (visited_level (under y)) (sorted_level (under y))
     level (layer.Int n) k env reach shapes scope s are r h m =
         let same = sort_there (is_int n) sort.Int s h in
         covered p.types σ ψ left k (one (steps.Int n) k reach) s (visit (shape sort.Int 0) (node 0)) 1 same.1
@@ -115,8 +106,8 @@ module _ (p : Program) (σ : Sorts) (ψ : Prices) (left : OpenCall → ℕ) wher
         binary_covers p.types σ ψ left old asked op check (compiled a.0) (compiled b.0) (visited a.0) (visited b.0)
         (sorted a.0) (sorted b.0) a.1 b.1 k env reach shapes scope s are r h m
     level (layer.Construct c args) k env reach shapes scope s are r h m =
-        construct_covers p.types σ ψ left old c (map compiled (exprs args)) (map visited (exprs args))
-        (map sorted (exprs args)) (all_cover args) k env reach shapes scope s are r h m
+        construct_covers p.types σ ψ left old c (map compiled (elements args)) (map visited (elements args))
+        (map sorted (elements args)) (all_cover args) k env reach shapes scope s are r h m
     level (layer.Field x i) k env reach shapes scope s are r h m =
         field_covers p.types σ ψ left old p.functions i (compiled x.0) (visited x.0) (sorted x.0) x.1
         k env reach shapes scope s are r h m
@@ -124,8 +115,8 @@ module _ (p : Program) (σ : Sorts) (ψ : Prices) (left : OpenCall → ℕ) wher
         if_covers p.types σ ψ left old (compiled t.0) (compiled a.0) (compiled b.0) (visited t.0) (visited a.0)
         (visited b.0) (sorted t.0) (sorted a.0) (sorted b.0) t.1 a.1 b.1 k env reach shapes scope s are r h m
     level (layer.Match x ys check) k env reach shapes scope s are r h m =
-        match_covers p σ ψ left old asked (compiled x.0) (visited x.0) (sorted x.0) x.1 (map compiled_arm (cases ys))
-        (map visited_arm (cases ys)) (map sorted_arm (cases ys)) (arms_cover ys) check
+        match_covers p σ ψ left old asked (compiled x.0) (visited x.0) (sorted x.0) x.1 (map compiled_arm (elements ys))
+        (map visited_arm (elements ys)) (map sorted_arm (elements ys)) (arms_cover ys) check
         k env reach shapes scope s are r h m
     level (layer.Val a b) k env reach shapes scope s are r h m =
         val_covers p.types σ ψ left old (compiled a.0) (compiled b.0) (visited a.0) (visited b.0) (sorted a.0)
@@ -134,10 +125,10 @@ module _ (p : Program) (σ : Sorts) (ψ : Prices) (left : OpenCall → ℕ) wher
         assert_covers p.types σ ψ left old asked (Some check) (compiled t.0) (compiled b.0) (visited t.0) (visited b.0)
         (sorted t.0) (sorted b.0) t.1 b.1 k env reach shapes scope s are r h m
     level (layer.Call g args pre down) k env reach shapes scope s are r h m =
-        call_covers p.types σ ψ left old p.functions site calls its g pre down (map compiled (exprs args))
-        (map visited (exprs args)) (map sorted (exprs args)) (all_cover args) k env reach shapes scope s are r h m
+        call_covers p.types σ ψ left old p.functions site calls its g pre down (map compiled (elements args))
+        (map visited (elements args)) (map sorted (elements args)) (all_cover args) k env reach shapes scope s are r h m
 
-    at_level : (y : layer.Expr-F E K) → P (roll-Expr (under y))
+    at_level : (y : layer.Expr-F (With P) (With Q)) → P (roll-Expr (under y))
     at_level y =
         let z = under y in
         subst (λ (m : Compiling). C m (visited (roll-Expr z)) (sorted (roll-Expr z)))
@@ -156,9 +147,9 @@ module _ (p : Program) (σ : Sorts) (ψ : Prices) (left : OpenCall → ℕ) wher
     abbrev sorted_parts : layer.Case-F Expr Case → sorts.Arm
     sorted_parts z = sorts.arm_step (map-Case Expr Case Sorting sorts.Arm sorted sorted_arm z)
 
-    at_parts : (q : Pattern) (o : Option E) (b : E) → let y : layer.Case-F E K =
+    at_parts : (q : Pattern) (o : Option (With P)) (b : With P) → let y : layer.Case-F (With P) (With Q) =
         record { pattern = q; guard = o; body = b } in
-        let z = map-Case E K Expr Case (λ w. w.0) (λ w. w.0) y in
+        let z = case_under Q y in
         ArmCovers p σ ψ left old (compiled_parts z) (visited_parts z) (sorted_parts z)
     at_parts q None b = record {
       guard = None;
@@ -177,9 +168,9 @@ module _ (p : Program) (σ : Sorts) (ψ : Prices) (left : OpenCall → ℕ) wher
       body_covers = b.1;
     }
 
-    at_case : (y : layer.Case-F E K) → Q (roll-Case (map-Case E K Expr Case (λ z. z.0) (λ z. z.0) y))
+    at_case : (y : layer.Case-F (With P) (With Q)) → Q (roll-Case (case_under Q y))
     at_case y =
-        let z = map-Case E K Expr Case (λ w. w.0) (λ w. w.0) y in
+        let z = case_under Q y in
         subst (λ (a : Arm). ArmCovers p σ ψ left old a (visited_arm (roll-Case z)) (sorted_arm (roll-Case z)))
         (sym (fold-roll-Case Compiling Arm (compile_step asked site) arm_step z))
         (subst (λ (w : visits.Arm). ArmCovers p σ ψ left old (compiled_parts z) w (sorted_arm (roll-Case z)))
@@ -189,8 +180,7 @@ module _ (p : Program) (σ : Sorts) (ψ : Prices) (left : OpenCall → ℕ) wher
         (at_parts y.pattern y.guard y.body)))
 
     pub expr_covers : (e : Expr) → C (compiled e) (visited e) (sorted e)
-    expr_covers = ind-Expr P Q (λ x y is. subst (λ z. P (roll-Expr z)) is (at_level y))
-        (λ x y is. subst (λ z. Q (roll-Case z)) is (at_case y))
+    expr_covers = each_expr P Q at_level at_case
 
     pub list_covers : (es : List Expr)
         → AllCover p.types σ ψ left old (map compiled es) (map visited es) (map sorted es)

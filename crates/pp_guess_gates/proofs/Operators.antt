@@ -4,6 +4,7 @@ use Rattle.std.proofs.Common.{arith}
 use Rattle.std.proofs.lemmas.Option.{same_Some}
 use Rattle.std.proofs.Math.Nat.{add-zero}
 use Rattle.std.specs.Prelude.{pos}
+use Rattle.pp_prog.specs.ExprSorts.{class_sort}
 use Rattle.pp_operators.specs.Classes.{class_of}
 use Rattle.pp_operators.specs.declared.class.OperatorClass.{OperatorClass}
 use Rattle.pp_operators.specs.declared.class.OperatorClass.TheVariants as class
@@ -13,10 +14,9 @@ use Rattle.pp_prog.specs.declared.id.CheckId.{CheckId}
 use Rattle.pp_prog.specs.declared.sort.Sort.{Sort}
 use Rattle.pp_prog.specs.declared.sort.Sort.TheVariants as sort
 use Rattle.pp_prog.specs.declared.types.TypeTable.{TypeTable}
-use Rattle.pp_prog.specs.ExprSorts.{Sorting, a_bool, binary_sort, truth_sort}
-use Rattle.pp_prog.specs.Results.{operator_result}
+use Rattle.pp_prog.specs.ExprSorts.{Sorting, binary_sort, gives}
 use Rattle.pp_prog.specs.Sizes.{by_sort}
-use Rattle.pp_prog.proofs.PartSorts.{binary_parts, bool_then}
+use Rattle.pp_prog.proofs.PartSorts.{binary_parts, logic_parts}
 use Rattle.pp_estimate.specs.declared.shape.Shape.{Shape}
 use Rattle.pp_estimate.specs.Visits.{Visiting, binary_extra, class_extra, node, shape, visit}
 use Rattle.pp_estimate_laws.proofs.Numbers.{le_same}
@@ -67,7 +67,7 @@ module _ (types : TypeTable) (σ : Sorts) (ψ : Prices) (left : OpenCall → ℕ
   -- the visit of an operator on two values
   abbrev visited : BinaryOp → Visiting → Visiting → Visiting
   visited op v w o env =
-      visit (shape (operator_result op (v o env).shape.sort) 0)
+      visit (shape (gives op (v o env).shape.sort) 0)
       ((v o env).events ++ (w o env).events ++ node (binary_extra types op (v o env).shape (w o env).shape))
 
   -- the result of the step of an operator on numbers of these sorts
@@ -180,14 +180,8 @@ module _ (types : TypeTable) (σ : Sorts) (ψ : Prices) (left : OpenCall → ℕ
       record { out = hz.out; alive = hz.alive; few = omega arith }
 
   module _ (a b : Compiling) (v w : Visiting) (t u : Sorting) (ha : C a v t) (hb : C b w u) where
-    both_true : (o q : Option Sort) (s : Sort) → truth_sort o q ≡ Some s
-        → (o ≡ Some sort.Bool) × (q ≡ Some sort.Bool) × (sort.Bool ≡ s)
-    both_true o q s h =
-        let x = bool_then o (a_bool q (Some sort.Bool)) s h in
-        let y = bool_then q (Some sort.Bool) s x.1 in (x.0, y.0, same_Some sort.Bool s y.1)
-
     module _ (k : ℕ) (env : List ℕ) (reach : ℕ) (shapes : List Shape) (scope : List Sort) (s : Sort)
-        (are : Are σ env shapes scope) (r : Bit reach) (h : truth_sort (t scope) (u scope) ≡ Some s) where
+        (are : Are σ env shapes scope) (r : Bit reach) (h : class_sort class.Logic (t scope) (u scope) ≡ Some s) where
       abbrev x : Piece ℕ
       x = a k env reach
 
@@ -196,13 +190,13 @@ module _ (types : TypeTable) (σ : Sorts) (ψ : Prices) (left : OpenCall → ℕ
 
       -- what goes on after the left side, with a step that tells whether the right side is reached
       skip_covers : (op : BinaryOp) → binary_extra types op (v old shapes).shape (w old shapes).shape ≡ 0
-          → operator_result op (v old shapes).shape.sort ≡ sort.Bool → (f : Piece ℕ)
+          → gives op (v old shapes).shape.sort ≡ sort.Bool → (f : Piece ℕ)
           → (hx : IsCovered types σ ψ left k x sort.Bool (v old shapes)) → IsLight types σ ψ left Bit n f 3
           → AllSorted types σ (after n f) (skipping b (after n f) env f.out x.out x.alive).steps
           → IsCovered types σ ψ left k (joined x (joined f (skipping b (after n f) env f.out x.out x.alive))) s
           (visited op v w old shapes)
       skip_covers op none result f hx hf m =
-          let q = both_true (t scope) (u scope) s h in
+          let q = logic_parts (t scope) (u scope) s h in
           let p = v old shapes in
           let e = w old shapes in
           let z = skipping b (after n f) env f.out x.out x.alive in
@@ -220,9 +214,9 @@ module _ (types : TypeTable) (σ : Sorts) (ψ : Prices) (left : OpenCall → ℕ
           (joined_light types σ ψ left (H sort.Bool) n f z 3 (worth ψ e.events) hf.few hz))) (omega arith)
 
     and_covers : (asked check : Option CheckId) → C (binary asked AndAlso a b check) (visited AndAlso v w)
-        (λ scope. truth_sort (t scope) (u scope))
+        (λ scope. class_sort class.Logic (t scope) (u scope))
     and_covers asked check k env reach shapes scope s are r h m =
-        let q = both_true (t scope) (u scope) s h in
+        let q = logic_parts (t scope) (u scope) s h in
         let c = a k env reach in
         let i = after k c in
         let f = when i c.alive c.out in
@@ -235,9 +229,9 @@ module _ (types : TypeTable) (σ : Sorts) (ψ : Prices) (left : OpenCall → ℕ
         (sorted_right types σ i f z mf)
 
     or_covers : (asked check : Option CheckId) → C (binary asked OrElse a b check) (visited OrElse v w)
-        (λ scope. truth_sort (t scope) (u scope))
+        (λ scope. class_sort class.Logic (t scope) (u scope))
     or_covers asked check k env reach shapes scope s are r h m =
-        let q = both_true (t scope) (u scope) s h in
+        let q = logic_parts (t scope) (u scope) s h in
         let c = a k env reach in
         let i = after k c in
         let f = unless i c.alive c.out in

@@ -2,11 +2,13 @@
 -- of an expression that satisfies a condition.
 use Rattle.std.proofs.Common.{ℕ, suc, ◌+◌, Bool, true, false, List, [], ◌∷◌, ◌++◌, map, Option, Some, None, sym, subst}
 use Rattle.std.specs.Prelude.{pos}
+use Rattle.pp_list.proofs.With.{With, elements}
+use Rattle.pp_prog.proofs.Induction.{case_under, each_expr, under}
 use Rattle.pp_tree.specs.declared.operator.BinaryOp.{BinaryOp}
 use Rattle.pp_tree.specs.declared.operator.BinaryOp.TheVariants.{AndAlso, OrElse, Div, Rem, Equal}
 use Rattle.pp_prog.specs.declared.expr.Case.{Case}
 use Rattle.pp_prog.specs.declared.expr.Expr.{Expr}
-use Rattle.pp_prog.specs.declared.expr.Expr.TheFolds.{fold-roll-Case, fold-roll-Expr, ind-Expr, map-Case, map-Expr}
+use Rattle.pp_prog.specs.declared.expr.Expr.TheFolds.{fold-roll-Case, fold-roll-Expr, map-Case, map-Expr}
 use Rattle.pp_prog.specs.declared.expr.Expr.TheOpen as layer
 use Rattle.pp_prog.specs.declared.expr.Expr.TheViews.{roll-Case, roll-Expr}
 use Rattle.pp_prog.specs.declared.expr.Pattern.{Pattern}
@@ -166,29 +168,17 @@ module _ (q : Conditions) (P : List Step → Type 0) (join : (xs ys : List Step)
     abbrev Q : Case → Type 0
     Q c = q.Suits c → ArmClosed (arm asked site c)
 
-    abbrev E : Type 0
-    E = (e : Expr) × C e
-
-    abbrev K : Type 0
-    K = (c : Case) × Q c
-
-    parts_closed : (ys : List E) → AllOf q.Holds (map (λ z. z.0) ys)
-        → AllClosed (map (compile asked site) (map (λ z. z.0) ys))
+    parts_closed : (ys : List (With C)) → AllOf q.Holds (elements ys)
+        → AllClosed (map (compile asked site) (elements ys))
     parts_closed [] h = tt
     parts_closed (y ∷ ys) h = (y.1 h.0, parts_closed ys h.1)
 
-    arms_closed : (ys : List K) → AllOf q.Suits (map (λ z. z.0) ys)
-        → ArmsClosed (map (arm asked site) (map (λ z. z.0) ys))
+    arms_closed : (ys : List (With Q)) → AllOf q.Suits (elements ys)
+        → ArmsClosed (map (arm asked site) (elements ys))
     arms_closed [] h = tt
     arms_closed (y ∷ ys) h = (y.1 h.0, arms_closed ys h.1)
 
-    abbrev under : layer.Expr-F E K → layer.Expr-F Expr Case
-    under y = map-Expr E K Expr Case (λ z. z.0) (λ z. z.0) y
-
-    abbrev case_under : layer.Case-F E K → layer.Case-F Expr Case
-    case_under y = map-Case E K Expr Case (λ z. z.0) (λ z. z.0) y
-
-    level : (y : layer.Expr-F E K) → PartsHold q.Makes q.Meets q.Holds q.Suits (under y)
+    level : (y : layer.Expr-F (With C) (With Q)) → PartsHold q.Makes q.Meets q.Holds q.Suits (under y)
         → Closed (compile_step asked site
         (map-Expr Expr Case Compiling Arm (compile asked site) (arm asked site) (under y)))
     level (layer.Int n) h k env reach = simple (steps.Int n) tt
@@ -199,7 +189,7 @@ module _ (q : Conditions) (P : List Step → Type 0) (join : (xs ys : List Step)
     level (layer.Binary op a b check) h k env reach =
         binary_closed asked op check (compile asked site a.0) (compile asked site b.0) (a.1 h.0) (b.1 h.1) k env reach
     level (layer.Construct c args) h k env reach =
-        let ms = map (compile asked site) (map (λ z. z.0) args) in
+        let ms = map (compile asked site) (elements args) in
         join (all ms k env reach).steps _ (all_closed ms (parts_closed args h.1) [] k env reach)
         (simple (steps.Construct c (all ms k env reach).out) h.0)
     level (layer.Field x i) h k env reach = join (compile asked site x.0 k env reach).steps _ (x.1 h k env reach)
@@ -220,7 +210,7 @@ module _ (q : Conditions) (P : List Step → Type 0) (join : (xs ys : List Step)
     level (layer.Match x ys check) h k env reach =
         let y = compile asked site x.0 k env reach in
         join y.steps _ (x.1 h.0 k env reach)
-        (cases_closed asked (map (arm asked site) (map (λ z. z.0) ys)) (arms_closed ys h.1)
+        (cases_closed asked (map (arm asked site) (elements ys)) (arms_closed ys h.1)
         check y.out (after k y) env y.alive)
     level (layer.Val a b) h k env reach =
         let x = compile asked site a.0 k env reach in
@@ -233,30 +223,29 @@ module _ (q : Conditions) (P : List Step → Type 0) (join : (xs ys : List Step)
         (join d.steps _ (demand_closed (asks asked (Some check)) n x.alive x.out)
         (rest.1 h.1 (after n d) env d.alive))
     level (layer.Call g args pre down) h k env reach =
-        let ms = map (compile asked site) (map (λ z. z.0) args) in
+        let ms = map (compile asked site) (elements args) in
         let x = all ms k env reach in
         join x.steps _ (all_closed ms (parts_closed args h.1) [] k env reach)
         (its (after k x) x.alive g pre down x.out h.0)
 
-    at_level : (y : layer.Expr-F E K) → C (roll-Expr (under y))
+    at_level : (y : layer.Expr-F (With C) (With Q)) → C (roll-Expr (under y))
     at_level y h = subst (λ (m : Compiling). Closed m)
         (sym (fold-roll-Expr Compiling Arm (compile_step asked site) arm_step (under y)))
         (level y (q.parts (under y) h))
 
-    at_parts : (p : Pattern) (o : Option E) (b : E) → let y : layer.Case-F E K =
+    at_parts : (p : Pattern) (o : Option (With C)) (b : With C) → let y : layer.Case-F (With C) (With Q) =
         record { pattern = p; guard = o; body = b } in
-        let z = case_under y in
+        let z = case_under Q y in
         CaseHolds q.Makes q.Meets q.Holds q.Suits z
         → ArmClosed (arm_step (map-Case Expr Case Compiling Arm (compile asked site) (arm asked site) z))
     at_parts p None b h = record { guard = tt; body = b.1 h.1 }
     at_parts p (Some e) b h = record { guard = e.1 h.0; body = b.1 h.1 }
 
-    at_case : (y : layer.Case-F E K) → Q (roll-Case (case_under y))
+    at_case : (y : layer.Case-F (With C) (With Q)) → Q (roll-Case (case_under Q y))
     at_case y h =
-        let z = case_under y in
+        let z = case_under Q y in
         subst (λ (k : Arm). ArmClosed k) (sym (fold-roll-Case Compiling Arm (compile_step asked site) arm_step z))
         (at_parts y.pattern y.guard y.body (q.case_parts z h))
 
     pub expr_closed : (e : Expr) → q.Holds e → Closed (compile asked site e)
-    expr_closed = ind-Expr C Q (λ x y is. subst (λ z. C (roll-Expr z)) is (at_level y))
-        (λ x y is. subst (λ z. Q (roll-Case z)) is (at_case y))
+    expr_closed = each_expr C Q at_level at_case

@@ -1,9 +1,11 @@
 -- The steps of a pattern satisfy a predicate that joins and is true of constants, comparisons, looks at a constructor
 -- and fields of constructors.
 use Rattle.std.proofs.Common.{ℕ, suc, ◌+◌, List, [], ◌∷◌, ◌++◌, length, map, sym, subst}
+use Rattle.pp_list.proofs.With.{With, elements}
+use Rattle.pp_prog.proofs.Induction.{each_pattern, pattern_under}
 use Rattle.pp_tree.specs.declared.operator.BinaryOp.TheVariants.{Equal}
 use Rattle.pp_prog.specs.declared.expr.Pattern.{Pattern}
-use Rattle.pp_prog.specs.declared.expr.Pattern.TheFolds.{fold-roll-Pattern, ind-Pattern, map-Pattern}
+use Rattle.pp_prog.specs.declared.expr.Pattern.TheFolds.{fold-roll-Pattern, map-Pattern}
 use Rattle.pp_prog.specs.declared.expr.Pattern.TheOpen as pattern
 use Rattle.pp_prog.specs.declared.expr.Pattern.TheViews.{roll-Pattern}
 use Rattle.pp_prog.specs.declared.id.CtorId.{CtorId}
@@ -25,24 +27,18 @@ module _ (P : List Step → Type 0) (join : (xs ys : List Step) → P xs → P y
   abbrev Fits : Pattern → Type 0
   Fits p = (k t : ℕ) → P (fitting p k t).steps
 
-  abbrev E : Type 0
-  E = (p : Pattern) × Fits p
+  abbrev inner_of : List (With Fits) → List Matching
+  inner_of ps = map fitting (elements ps)
 
-  abbrev inner_of : List E → List Matching
-  inner_of ps = map fitting (map (λ y. y.0) ps)
-
-  fields_fit : (c : CtorId) (ps : List E) (j k t : ℕ) → P (fit_fields c j (inner_of ps) k t).steps
+  fields_fit : (c : CtorId) (ps : List (With Fits)) (j k t : ℕ) → P (fit_fields c j (inner_of ps) k t).steps
   fields_fit c [] j k t = none
   fields_fit c (p ∷ ps) j k t =
       let x = fitting p.0 (suc k) k in
       join (steps.CtorField c j t ∷ []) _ (one (steps.CtorField c j t) tt)
       (join x.steps _ (p.1 (suc k) k) (fields_fit c ps (suc j) (suc k + length x.steps) t))
 
-  abbrev under : pattern.Pattern-F E → pattern.Pattern-F Pattern
-  under y = map-Pattern E Pattern (λ z. z.0) y
-
-  level : (y : pattern.Pattern-F E) (k t : ℕ)
-      → P (fitting_step (map-Pattern Pattern Matching fitting (under y)) k t).steps
+  level : (y : pattern.Pattern-F (With Fits)) (k t : ℕ)
+      → P (fitting_step (map-Pattern Pattern Matching fitting (pattern_under y)) k t).steps
   level pattern.Any k t = none
   level (pattern.Bind inner) k t = inner.1 k t
   level (pattern.Int n) k t =
@@ -53,9 +49,9 @@ module _ (P : List Step → Type 0) (join : (xs ys : List Step) → P xs → P y
       join (steps.IsCtor c (length (inner_of ps)) t ∷ []) _ (one (steps.IsCtor c (length (inner_of ps)) t) tt)
       (fields_fit c ps 0 (suc k) t)
 
-  at_level : (y : pattern.Pattern-F E) → Fits (roll-Pattern (under y))
+  at_level : (y : pattern.Pattern-F (With Fits)) → Fits (roll-Pattern (pattern_under y))
   at_level y = subst (λ (f : Matching). (k t : ℕ) → P (f k t).steps)
-      (sym (fold-roll-Pattern Matching fitting_step (under y))) (level y)
+      (sym (fold-roll-Pattern Matching fitting_step (pattern_under y))) (level y)
 
   pub pattern_closed : (p : Pattern) → Fits p
-  pattern_closed = ind-Pattern Fits (λ x y is. subst (λ z. Fits (roll-Pattern z)) is (at_level y))
+  pattern_closed = each_pattern Fits at_level

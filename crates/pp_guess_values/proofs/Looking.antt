@@ -3,9 +3,11 @@ use Rattle.std.proofs.Common.{◌≡◌, ℕ, zero, suc, ◌+◌, Bool, true, fa
 use Rattle.std.proofs.Common.{Some, refl, sym, subst, ◌⊎◌, inl, inr}
 use Rattle.std.specs.Prelude.{slice_get}
 use Rattle.std.proofs.lemmas.Bool.{eq-eqb, eqb-true}
+use Rattle.pp_list.proofs.With.{With, elements}
+use Rattle.pp_prog.proofs.Induction.{each_pattern, pattern_under}
 use Rattle.pp_prog.specs.declared.expr.Function.{Function}
 use Rattle.pp_prog.specs.declared.expr.Pattern.{Pattern}
-use Rattle.pp_prog.specs.declared.expr.Pattern.TheFolds.{fold-roll-Pattern, ind-Pattern, map-Pattern}
+use Rattle.pp_prog.specs.declared.expr.Pattern.TheFolds.{fold-roll-Pattern, map-Pattern}
 use Rattle.pp_prog.specs.declared.expr.Pattern.TheOpen as pattern
 use Rattle.pp_prog.specs.declared.expr.Pattern.TheViews.{roll-Pattern}
 use Rattle.pp_prog.specs.declared.id.CheckId.{CheckId}
@@ -101,14 +103,11 @@ simple_looks (steps.Answer c) h asked = absurd h
 abbrev Fits : Pattern → Type 0
 Fits p = (k t : ℕ) → Looks (fitting p k t).steps
 
-abbrev E : Type 0
-E = (p : Pattern) × Fits p
-
-abbrev inner_of : List E → List Matching
-inner_of ps = map fitting (map (λ y. y.0) ps)
+abbrev inner_of : List (With Fits) → List Matching
+inner_of ps = map fitting (elements ps)
 
 -- the fields of a constructor that was asked for
-fields_look : (c : CtorId) (ps : List E) (j k t : ℕ) (asked : List ℕ) → is_seen asked t ≡ true
+fields_look : (c : CtorId) (ps : List (With Fits)) (j k t : ℕ) (asked : List ℕ) → is_seen asked t ≡ true
     → LooksBefore asked (fit_fields c j (inner_of ps) k t).steps
 fields_look c [] j k t asked found = tt
 fields_look c (p ∷ ps) j k t asked found =
@@ -118,24 +117,22 @@ fields_look c (p ∷ ps) j k t asked found =
           (λ more has. fields_look c ps (suc j) (suc k + length x.steps) t more (has t found)),
     )
 
-abbrev under : pattern.Pattern-F E → pattern.Pattern-F Pattern
-under y = map-Pattern E Pattern (λ z. z.0) y
-
-level : (y : pattern.Pattern-F E) (k t : ℕ)
-    → Looks (fitting_step (map-Pattern Pattern Matching fitting (under y)) k t).steps
+level : (y : pattern.Pattern-F (With Fits)) (k t : ℕ)
+    → Looks (fitting_step (map-Pattern Pattern Matching fitting (pattern_under y)) k t).steps
 level pattern.Any k t asked = tt
 level (pattern.Bind inner) k t asked = inner.1 k t asked
 level (pattern.Int n) k t asked = tt
 level (pattern.Bool b) k t asked = tt
 level (pattern.Ctor c ps) k t asked = fields_look c ps 0 (suc k) t (t ∷ asked) (seen_first t asked)
 
-at_level : (y : pattern.Pattern-F E) → Fits (roll-Pattern (under y))
+at_level : (y : pattern.Pattern-F (With Fits)) → Fits (roll-Pattern (pattern_under y))
 at_level y =
-    subst (λ (f : Matching). (k t : ℕ) → Looks (f k t).steps) (sym (fold-roll-Pattern Matching fitting_step (under y)))
+    subst (λ (f : Matching). (k t : ℕ) → Looks (f k t).steps)
+    (sym (fold-roll-Pattern Matching fitting_step (pattern_under y)))
     (level y)
 
 pattern_looks : (p : Pattern) → Fits p
-pattern_looks = ind-Pattern Fits (λ x y is. subst (λ z. Fits (roll-Pattern z)) is (at_level y))
+pattern_looks = each_pattern Fits at_level
 
 -- ---- a guess run
 

@@ -2,6 +2,7 @@
 use Rattle.std.specs.Prelude.{◌≡◌, ℕ, ◌+◌, ◌*◌, ◌<◌, ◌≤◌, List, [], ◌∷◌, All, IsTrue, Some, length, map}
 use Rattle.std.specs.Prelude.{slice_get}
 use Rattle.std.specs.List.{sum_by}
+use Rattle.pp_list.specs.Joined.{joined}
 use Rattle.pp_prog.specs.declared.expr.Function.{Function}
 use Rattle.pp_prog.specs.declared.id.CheckId.{CheckId}
 use Rattle.pp_prog.specs.declared.id.CtorId.{CtorId}
@@ -10,7 +11,6 @@ use Rattle.pp_prog.specs.declared.program.Program.{Program}
 use Rattle.pp_prog.specs.declared.types.Ctor.{Ctor}
 use Rattle.pp_prog.specs.declared.types.TypeTable.{TypeTable}
 use Rattle.pp_prog.specs.declared.value.Value.{Value}
-use Rattle.pp_prog.specs.Calls.{joined}
 use Rattle.pp_prog.specs.Sizes.{by_sort}
 use Rattle.pp_prog.specs.Sorts.{have_sorts, param_sorts}
 use Rattle.pp_domain.specs.Naming.{Naming, Names}

@@ -7,9 +7,12 @@ use Rattle.std.specs.Option.{option_map}
 use Rattle.std.proofs.lemmas.Bool.{and_parts}
 use Rattle.std.proofs.lemmas.List.Elements.{Contains-append_left, Contains-append_right}
 use Rattle.std.proofs.lemmas.List.Folds.{list_all-append}
+use Rattle.pp_prog.specs.ExprSorts.{case_sorts}
+use Rattle.pp_prog.specs.Parts.{case_parts as listed_parts}
+use Rattle.pp_list.specs.Joined.{joined, or_none}
 use Rattle.pp_prog.specs.declared.expr.Case.{Case}
 use Rattle.pp_prog.specs.declared.expr.Expr.{Expr}
-use Rattle.pp_prog.specs.declared.expr.Expr.TheFolds.{fold-Case, fold-roll-Case, fold-roll-Expr, map-Case, map-Expr}
+use Rattle.pp_prog.specs.declared.expr.Expr.TheFolds.{fold-roll-Case, fold-roll-Expr, map-Case, map-Expr}
 use Rattle.pp_prog.specs.declared.expr.Expr.TheFolds.{para-Case, para-Expr, para-roll-Case, para-roll-Expr}
 use Rattle.pp_prog.specs.declared.expr.Expr.TheOpen as layer
 use Rattle.pp_prog.specs.declared.expr.Expr.TheViews.{roll-Case, roll-Expr}
@@ -19,8 +22,7 @@ use Rattle.pp_prog.specs.declared.id.FunctionId.{FunctionId}
 use Rattle.pp_prog.specs.declared.program.Program.{Program}
 use Rattle.pp_prog.specs.declared.sort.Sort.{Sort}
 use Rattle.pp_prog.specs.declared.sort.Sort.TheVariants as sort
-use Rattle.pp_prog.specs.Calls.{calls, calls_in_case, calls_step, case_calls, joined}
-use Rattle.pp_prog.specs.Calls.{or_none}
+use Rattle.pp_prog.specs.Calls.{calls, calls_in_case, calls_step}
 use Rattle.pp_prog.specs.Cone.{CaseParts, InCone, Parts, case_parts, each_case, each_part, guard_part, is_no_tree}
 use Rattle.pp_prog.specs.Cone.{is_word, part, part_step, sorts_within}
 use Rattle.pp_prog.specs.ExprSorts.{Arm, Sorting, alike, arm_sort, arm_step, arm_with, arms_sort, field_sort, sort_of}
@@ -60,7 +62,7 @@ module _ (p : Program) (start : ℕ) where
 
   -- those of a case
   abbrev pub SortedArm : Case → Arm
-  SortedArm = fold-Case Sorting Arm (sort_step p.types p.functions) arm_step
+  SortedArm = case_sorts p.types p.functions
 
   abbrev pub InnerCase : Case → CaseParts
   InnerCase = para-Case Parts CaseParts (part_step p.types p.functions) (case_parts p.types p.functions)
@@ -94,17 +96,17 @@ module _ (p : Program) (start : ℕ) where
   abbrev case_inners : List Case → List (Case × CaseParts)
   case_inners cs = map (λ c. (c, InnerCase c)) cs
 
-  each : (es : List Expr) (scope ts : List Sort) → sorts_in scope (map Sorted es) ≡ map Some ts
+  exprs_hold : (es : List Expr) (scope ts : List Sort) → sorts_in scope (map Sorted es) ≡ map Some ts
       → AreNoTrees (each_part p.types p.functions (inners es) scope) → Within (joined (map calls es))
       → AllOf IsWordExpr es
-  each [] scope ts h words within = tt
-  each (e ∷ es) scope [] h words within = cc
-  each (e ∷ es) scope (t ∷ ts) h words within =
+  exprs_hold [] scope ts h words within = tt
+  exprs_hold (e ∷ es) scope [] h words within = cc
+  exprs_hold (e ∷ es) scope (t ∷ ts) h words within =
       let here : Sorted e scope ≡ Some t = cc in
       let rest : sorts_in scope (map Sorted es) ≡ map Some ts = cc in
       let both = none_in (part p.types p.functions (e, Inner e) scope) _ words in (
         one e scope t here both.0 (within_left _ _ within),
-        each es scope ts rest both.1 (within_right (calls e) _ within),
+        exprs_hold es scope ts rest both.1 (within_right (calls e) _ within),
       )
 
   each_case_of : (cs : List Case) (t u : Sort) (scope : List Sort) → EachArm p t u scope (map SortedArm cs)
@@ -204,7 +206,7 @@ module _ (p : Program) (start : ℕ) where
   level (layer.Call g args pre down) scope s h word words within =
       let f = call_sort_is (slice_get p.functions g.0) (sorts_in scope (map Sorted args)) s h in (
         within g.0 (Contains-append_right (joined (map calls args)) (g.0 ∷ []) g.0 head),
-        each args scope (param_sorts f.0.params) f.2 words (within_left (joined (map calls args)) (g.0 ∷ []) within),
+        exprs_hold args scope (param_sorts f.0.params) f.2 words (within_left (joined (map calls args)) (g.0 ∷ []) within),
       )
     where
       head : Contains (g.0 ∷ []) g.0
@@ -216,7 +218,7 @@ module _ (p : Program) (start : ℕ) where
       let sort_is = fold-roll-Expr Sorting Arm (sort_step p.types p.functions) arm_step y in
       let parts_are = para-roll-Expr Parts CaseParts (part_step p.types p.functions) (case_parts p.types p.functions)
       y in
-      let calls_are = fold-roll-Expr (List ℕ) (List ℕ) calls_step case_calls y in
+      let calls_are = fold-roll-Expr (List ℕ) (List ℕ) calls_step listed_parts y in
       let both = and_parts (is_no_tree (Sorted (roll-Expr y) h.scope)) _ h.words in
       level y h.scope h.result (sym (ap (λ (a : Sorting). a h.scope) sort_is) ∙ h.sorted)
       (subst (λ o. is_no_tree o ≡ true) h.sorted both.0)
@@ -251,7 +253,7 @@ module _ (p : Program) (start : ℕ) where
       arm_sort p.types p.functions (arm_step (map-Case Expr Case Sorting Arm Sorted SortedArm z)) s scope ≡ Some u
       → AreNoTrees (case_parts p.types p.functions (map-Case Expr Case (Expr × Parts) (Case × CaseParts)
       (λ e. (e, Inner e)) (λ c. (c, InnerCase c)) z) s scope)
-      → Within (case_calls (map-Case Expr Case (List ℕ) (List ℕ) calls calls_in_case z))
+      → Within (listed_parts (map-Case Expr Case (List ℕ) (List ℕ) calls calls_in_case z))
       → CaseHolds Makes Meets IsWordExpr IsWordCase z
   by_parts pattern None b s u scope h words within =
       (tt, plain_case pattern b s u scope (bound_sorts p.types.ctors pattern s) h words within)
@@ -264,7 +266,7 @@ module _ (p : Program) (start : ℕ) where
       let sort_is = fold-roll-Case Sorting Arm (sort_step p.types p.functions) arm_step y in
       let parts_are = para-roll-Case Parts CaseParts (part_step p.types p.functions) (case_parts p.types p.functions)
       y in
-      let calls_are = fold-roll-Case (List ℕ) (List ℕ) calls_step case_calls y in
+      let calls_are = fold-roll-Case (List ℕ) (List ℕ) calls_step listed_parts y in
       by_parts y.pattern y.guard y.body h.matched h.result h.scope
       (sym (ap (λ (a : Arm). arm_sort p.types p.functions a h.matched h.scope) sort_is) ∙ h.sorted)
       (subst (λ (a : CaseParts). AreNoTrees (a h.matched h.scope)) parts_are h.words) (subst Within calls_are h.within)

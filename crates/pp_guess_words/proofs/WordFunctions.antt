@@ -4,6 +4,7 @@ use Rattle.std.proofs.Common.{Contains, inl, inr, is_some}
 use Rattle.std.specs.Prelude.{slice_get}
 use Rattle.std.specs.List.{list_all}
 use Rattle.std.proofs.lemmas.Bool.{and_parts}
+use Rattle.pp_list.specs.Joined.{joined}
 use Rattle.pp_graph.specs.Reaches.{by_call}
 use Rattle.pp_graph.proofs.Paths.{further}
 use Rattle.pp_prog.specs.declared.expr.Expr.{Expr}
@@ -12,7 +13,7 @@ use Rattle.pp_prog.specs.declared.id.CheckId.{CheckId}
 use Rattle.pp_prog.specs.declared.program.Program.{Program}
 use Rattle.pp_prog.specs.declared.sort.Sort.{Sort}
 use Rattle.pp_prog.specs.declared.sort.Sort.TheVariants as sort
-use Rattle.pp_prog.specs.Calls.{FunctionReaches, call_table, calls, function_calls, joined, post_calls, pre_calls}
+use Rattle.pp_prog.specs.Calls.{FunctionReaches, call_table, calls, function_calls, post_calls, pre_calls}
 use Rattle.pp_prog.specs.Cone.{InCone, IsWordFunction, is_word, is_word_expr, is_word_post, is_word_pre}
 use Rattle.pp_prog.specs.ExprSorts.{is_sorted_measure, is_sorted_post, is_sorted_pre, sort_of}
 use Rattle.pp_prog.specs.Sorts.{param_sorts}

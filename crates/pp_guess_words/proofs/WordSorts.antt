@@ -1,7 +1,8 @@
 -- In a word function no step of a guess run has the sort of a datatype.
 use Rattle.std.proofs.Common.{◌≡◌, ◌<◌, ◌≤◌, ◌⊎◌, inl, inr, ℕ, suc, ◌+◌, true, List, [], ◌∷◌, length, Option, Some}
-use Rattle.std.proofs.Common.{None, refl, sym, subst, arith}
+use Rattle.std.proofs.Common.{refl, sym, subst, arith}
 use Rattle.std.proofs.lemmas.Bool.{cases_lt}
+use Rattle.std.proofs.Common.{⊎_elim, ap}
 use Rattle.pp_operators.specs.Classes.{class_of}
 use Rattle.pp_operators.specs.declared.class.OperatorClass.{OperatorClass}
 use Rattle.pp_operators.specs.declared.class.OperatorClass.TheVariants as class
@@ -13,9 +14,9 @@ use Rattle.pp_prog.specs.declared.program.Program.{Program}
 use Rattle.pp_prog.specs.declared.sort.Sort.{Sort}
 use Rattle.pp_prog.specs.declared.sort.Sort.TheVariants as sort
 use Rattle.pp_prog.specs.Cone.{IsWordFunction, is_word}
-use Rattle.pp_prog.specs.ExprSorts.{a_bool, alike, an_int, bits_sort, equality_sort, number_sort, order_sort}
+use Rattle.pp_prog.specs.ExprSorts.{a_bool, an_int}
 use Rattle.pp_prog.specs.ExprSorts.{unary_sort}
-use Rattle.pp_prog.proofs.PartSorts.{bool_then, int_then, sort_then}
+use Rattle.pp_prog.proofs.PartSorts.{bits_parts, bool_then, equality_parts, int_then, order_parts, shift_parts, sum_parts}
 use Rattle.pp_steps.proofs.Counting.{zero_plus}
 use Rattle.pp_steps.specs.declared.step.Step.{Step}
 use Rattle.pp_steps.specs.declared.step.Step.TheVariants as steps
@@ -47,30 +48,17 @@ unary_word Neg a r h = int_word a sort.Int r refl h
 unary_word Not a r h = bool_word a sort.Bool r refl h
 unary_word Flip a r h = int_word a sort.Int r refl h
 
-number_word : (a b : Option Sort) (r : Sort) → number_sort a b ≡ Some r → is_word r ≡ true
-number_word a b r h = int_word b sort.Int r refl (int_then a _ r h).1
-
-order_word : (a b : Option Sort) (r : Sort) → order_sort a b ≡ Some r → is_word r ≡ true
-order_word a b r h = int_word b sort.Bool r refl (int_then a _ r h).1
-
-equality_word : (a b : Option Sort) (r : Sort) → equality_sort a b ≡ Some r → is_word r ≡ true
-equality_word a b r h = some_word sort.Bool r refl (sort_then (alike a b) _ r h).2
-
-bits_word : (a b : Option Sort) (r : Sort) → bits_sort a b ≡ Some r → is_word r ≡ true
-bits_word None b r h = cc
-bits_word (Some sort.Int) b r h = int_word b sort.Int r refl h
-bits_word (Some sort.Bool) b r h = bool_word b sort.Bool r refl h
-bits_word (Some (sort.Tree d)) b r h = cc
-
 class_word : (c : OperatorClass) (a b : Option Sort) (r : Sort) → class_operated c a b ≡ Some r → is_word r ≡ true
-class_word class.Sum a b r h = number_word a b r h
-class_word class.Product a b r h = number_word a b r h
-class_word class.Quotient a b r h = number_word a b r h
-class_word class.Equality a b r h = equality_word a b r h
-class_word class.Order a b r h = order_word a b r h
+class_word class.Sum a b r h = some_word sort.Int r refl (ap Some (sum_parts a b r h).2)
+class_word class.Product a b r h = some_word sort.Int r refl (ap Some (sum_parts a b r h).2)
+class_word class.Quotient a b r h = some_word sort.Int r refl (ap Some (sum_parts a b r h).2)
+class_word class.Equality a b r h = some_word sort.Bool r refl (ap Some (equality_parts a b r h).1.2)
+class_word class.Order a b r h = some_word sort.Bool r refl (ap Some (order_parts a b r h).2)
 class_word class.Logic a b r h = cc
-class_word class.Bitwise a b r h = bits_word a b r h
-class_word class.Shift a b r h = number_word a b r h
+class_word class.Bitwise a b r h =
+    ⊎_elim (λ k. some_word sort.Int r refl (ap Some k.2)) (λ k. some_word sort.Bool r refl (ap Some k.2))
+    (bits_parts a b r h)
+class_word class.Shift a b r h = some_word sort.Int r refl (ap Some (shift_parts a b r h).2)
 
 operated_word : (op : BinaryOp) (a b : Option Sort) (r : Sort) → operated_sort op a b ≡ Some r → is_word r ≡ true
 operated_word op a b r h = class_word (class_of op) a b r h
@@ -109,8 +97,8 @@ module _ (p : Program) (start : ℕ) (words : IsWordFunction p.types p.functions
   step_word k (steps.Answer c) r h w l reads below =
       same_word c.result r (same_word _ c.result (result_word p start words c.callee.0 w) l.result) h.1
 
-  one_more : (k : ℕ) → WordsBelow k → is_word (σ k) ≡ true → WordsBelow (suc k)
-  one_more k below here j lt = by (cases_lt j k)
+  words_below_next : (k : ℕ) → WordsBelow k → is_word (σ k) ≡ true → WordsBelow (suc k)
+  words_below_next k below here j lt = by (cases_lt j k)
     where
       at : (j k : ℕ) → j < suc k → k ≤ j → k ≡ j
       at j k lt le = omega (arith, lt, le)
@@ -128,7 +116,7 @@ module _ (p : Program) (start : ℕ) (words : IsWordFunction p.types p.functions
   steps_words k (s ∷ ss) h w l reads below =
       subst WordsBelow (more k (length ss))
       (steps_words (suc k) ss h.1 w.1 l.1 reads.1
-      (one_more k below (step_word k s (σ k) h.0 w.0 l.0 reads.0 below)))
+      (words_below_next k below (step_word k s (σ k) h.0 w.0 l.0 reads.0 below)))
     where
       more : (k n : ℕ) → suc k + n ≡ k + suc n
       more k n = omega arith

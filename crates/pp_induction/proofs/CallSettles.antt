@@ -2,13 +2,14 @@
 -- is true.
 use Rattle.std.proofs.Common.{◌≡◌, ℕ, zero, suc, Bool, true, false, List, [], ◌∷◌, ◌++◌, Option, Some, None, Ok, Err}
 use Rattle.std.proofs.Common.{map, refl, sym, ap, ◌∙◌, subst, arith}
+use Rattle.pp_list.specs.Joined.{joined}
 use Rattle.pp_prog.specs.declared.expr.Expr.{Expr}
 use Rattle.pp_prog.specs.declared.expr.Function.{Function}
 use Rattle.pp_prog.specs.declared.id.CheckId.{CheckId}
 use Rattle.pp_prog.specs.declared.id.FunctionId.{FunctionId}
 use Rattle.pp_prog.specs.declared.program.Program.{Program}
 use Rattle.pp_prog.specs.declared.value.Value.{Value}
-use Rattle.pp_prog.specs.Calls.{calls, function_calls, joined, post_calls, pre_calls}
+use Rattle.pp_prog.specs.Calls.{calls, function_calls, post_calls, pre_calls}
 use Rattle.pp_prog.specs.ExprSorts.{is_sorted_post}
 use Rattle.pp_prog.specs.Listing.{post_sites}
 use Rattle.pp_prog.specs.Sorts.{param_sorts}

@@ -1,11 +1,12 @@
 -- The precondition and the measure list of a function, which call functions whose calls are known.
 use Rattle.std.proofs.Common.{◌≡◌, ◌⊎◌, ℕ, Bool, true, false, List, Option, Some, None, Ok, map, ap, ◌∙◌, inl, inr}
+use Rattle.pp_list.specs.Joined.{joined}
 use Rattle.pp_prog.specs.declared.expr.Expr.{Expr}
 use Rattle.pp_prog.specs.declared.expr.Function.{Function}
 use Rattle.pp_prog.specs.declared.id.CheckId.{CheckId}
 use Rattle.pp_prog.specs.declared.program.Program.{Program}
 use Rattle.pp_prog.specs.declared.value.Value.{Value}
-use Rattle.pp_prog.specs.Calls.{calls, contract_calls, joined, pre_calls}
+use Rattle.pp_prog.specs.Calls.{calls, contract_calls, pre_calls}
 use Rattle.pp_prog.specs.ExprSorts.{is_sorted_pre}
 use Rattle.pp_prog.specs.Listing.{pre_sites}
 use Rattle.pp_prog.specs.Sorts.{param_sorts}

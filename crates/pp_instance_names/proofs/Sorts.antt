@@ -1,10 +1,10 @@
 -- The printed names of sorts without parameters tell these.
 use Rattle.std.proofs.Common.{◌≡◌, ℕ, List, [], ◌∷◌, ◌++◌, map, Some, refl, sym, ap, ◌∙◌, arith, append_assoc}
 use Rattle.std.specs.Prelude.{slice_get}
+use Rattle.pp_list.specs.Joined.{joined}
 use Rattle.pp_instance_names.proofs.Words.{IsAfterName, IsAfterSort, boolean_plain, close_after, closing, comma, heads}
 use Rattle.pp_instance_names.proofs.Words.{int_no_boolean, int_plain, no_args, no_opening, opening, tails, words_read}
 use Rattle.pp_instances.specs.Names.{after_comma, bracketed, print_step, printed_sort, root_name}
-use Rattle.pp_instances.specs.Same.{joined}
 use Rattle.pp_typed.specs.InRange.{IsInRange, AreInRange}
 use Rattle.pp_typed.specs.InRange.{bool_in_range, int_in_range, more_in_range, none_in_range, param_in_range}
 use Rattle.pp_typed.specs.InRange.{root_in_range}

@@ -4,8 +4,9 @@ use Rattle.std.specs.Prelude.{fold}
 use Rattle.std.proofs.lemmas.List.Sums.{fold-append}
 use Rattle.std.specs.Hash as fed
 use Rattle.std.proofs.lemmas.List.{take_all}
-use Rattle.pp_instances.specs.Same.{joined, fed_sort, fed_step}
-use Rattle.pp_instances.proofs.Parts.{parts_more}
+use Rattle.pp_list.specs.Joined.{joined}
+use Rattle.pp_instances.specs.Same.{fed_sort, fed_step}
+use Rattle.pp_list.proofs.Joined.{parts_more}
 use Rattle.pp_typed.specs.declared.sort.GenericSort.{GenericSort}
 use Rattle.pp_typed.specs.declared.sort.GenericSort.TheFolds.{fold-roll-GenericSort}
 use Rattle.pp_typed.specs.declared.sort.GenericSort.TheOpen as layer

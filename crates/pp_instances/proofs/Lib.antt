@@ -1,4 +1,3 @@
-pub mod Parts
 pub mod Mentioned
 pub mod Fed
 pub mod Kept

@@ -1,7 +1,7 @@
 -- The types that each form of a sort is made of.
 use Rattle.std.proofs.Common.{◌≡◌, ℕ, List, [], ◌∷◌, ◌++◌, map, refl, sym, ap, ◌∙◌}
 use Rattle.std.proofs.lemmas.List.{append-nil}
-use Rattle.pp_instances.specs.Same.{joined}
+use Rattle.pp_list.specs.Joined.{joined}
 use Rattle.pp_instances.specs.Uses.{types_in, types_of, types_step, types_inside, sort_itself, root_at}
 use Rattle.pp_instances.specs.declared.member.Member.{Member}
 use Rattle.pp_typed.specs.declared.sort.GenericSort.{GenericSort}

@@ -2,9 +2,9 @@
 use Rattle.std.proofs.Common.{◌≡◌, ℕ, zero, suc, ◌+◌, ◌<◌, ◌≤◌, List, [], ◌∷◌, ◌++◌, map, take, drop, length, get_or}
 use Rattle.std.proofs.Common.{refl, sym, ap, ◌∙◌, append_assoc, arith}
 use Rattle.std.proofs.lemmas.List.{take_more, take_all, map_push}
-use Rattle.pp_instances.proofs.Parts.{joined_push, two_parts}
+use Rattle.pp_list.specs.Joined.{joined}
+use Rattle.pp_list.proofs.Joined.{joined_push, two_parts}
 use Rattle.pp_instances.specs.Names.{after_comma, bracketed, printed_later, printed_sort}
-use Rattle.pp_instances.specs.Same.{joined}
 use Rattle.pp_typed.specs.declared.sort.GenericSort.{GenericSort}
 use Rattle.pp_typed.specs.declared.typed.Typed.{Typed}
 

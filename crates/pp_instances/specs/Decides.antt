@@ -5,7 +5,7 @@ use Rattle.std.specs.Prelude.{IsTrue, ◌↔◌}
 use Rattle.std.specs.Cmp.{IsEquivalence, IsPartialEquivalence, partial_equiv_from_equiv, both_ways}
 use Rattle.std.proofs.lemmas.Bool.{eqb-true}
 use Rattle.pp_generic.proofs.Equal.{equal_same, equal_self}
-use Rattle.pp_generic.specs.Equal.{equal, pass_all}
+use Rattle.pp_typed.specs.Equal.{equal, pass_all}
 use Rattle.pp_instances.specs.Same.{same, same_decl, fed_member}
 use Rattle.pp_instances.specs.declared.member.Decl.{Decl}
 use Rattle.pp_instances.specs.declared.member.Decl.TheVariants.{Function, Root}

@@ -1,6 +1,6 @@
 -- The printed names of instances: `name[T, U]`, with types printed as `Int`, `Boolean`, `List[Int]`. Source: own.
 use Rattle.std.specs.Prelude.{ℕ, List, [], ◌∷◌, ◌++◌, map, Option, Some, None, slice_get}
-use Rattle.pp_instances.specs.Same.{joined}
+use Rattle.pp_list.specs.Joined.{joined}
 use Rattle.pp_instances.specs.declared.member.Decl.{Decl}
 use Rattle.pp_instances.specs.declared.member.Decl.TheVariants.{Function, Root}
 use Rattle.pp_instances.specs.declared.member.Member.{Member}

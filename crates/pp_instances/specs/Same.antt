@@ -2,7 +2,8 @@
 use Rattle.std.specs.Prelude.{ℕ, nat_eq, Bool, false, if◌then◌else◌, ◌&&◌, List, [], ◌∷◌, ◌++◌, map}
 use Rattle.std.specs.Hash as fed
 use Rattle.std.specs.List.{list_any, position_or_len}
-use Rattle.pp_generic.specs.Equal.{equal, pass_all}
+use Rattle.pp_list.specs.Joined.{joined}
+use Rattle.pp_typed.specs.Equal.{equal, pass_all}
 use Rattle.pp_instances.specs.declared.member.Decl.{Decl}
 use Rattle.pp_instances.specs.declared.member.Decl.TheVariants.{Function, Root}
 use Rattle.pp_instances.specs.declared.member.Member.{Member}
@@ -29,10 +30,6 @@ abbrev pub place_of : List Member → Member → ℕ
 place_of ms m = position_or_len (same m) ms
 
 -- what is hashed of a sort
-
-abbrev pub joined : {A : Type 0} → List (List A) → List A
-joined [] = []
-joined (xs ∷ rest) = xs ++ joined rest
 
 abbrev pub fed_step : layer.GenericSort-F fed.HashWrites → fed.HashWrites
 fed_step layer.Int = fed.u8 0

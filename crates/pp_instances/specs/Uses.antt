@@ -2,7 +2,8 @@
 -- its text with the types inside it; a type uses those of its fields. Source: own.
 use Rattle.std.specs.Prelude.{ℕ, suc, nat_eq, if◌then◌else◌, List, [], ◌∷◌, ◌++◌, map, Option, Some, None, replicate}
 use Rattle.std.specs.Prelude.{slice_get}
-use Rattle.pp_instances.specs.Same.{joined}
+use Rattle.pp_list.specs.Joined.{joined}
+use Rattle.pp_typed.specs.Parts.{case_parts, kind_parts}
 use Rattle.pp_instances.specs.declared.member.Decl.{Decl}
 use Rattle.pp_instances.specs.declared.member.Decl.TheVariants.{Function, Root}
 use Rattle.pp_instances.specs.declared.member.Member.{Member}
@@ -49,42 +50,26 @@ types_in = para-GenericSort (List Member) types_step
 abbrev pub types_of : List GenericSort → List Member
 types_of sorts = joined (map types_in sorts)
 
-abbrev pub or_none : Option (List Member) → List Member
-or_none None = []
-or_none (Some ms) = ms
-
 -- one level, with what the parts mention in their place
 abbrev pub kind_step : layer.TypedKind-F (List Member) (List Member) (List Member) → List Member
-kind_step (layer.Int n) = []
-kind_step (layer.Bool b) = []
-kind_step (layer.Local i) = []
 kind_step (layer.Call f sorts args) = function_at f sorts ∷ types_of sorts ++ joined args
 kind_step (layer.Construct c sorts args) = types_of sorts ++ joined args
-kind_step (layer.Field e j) = e
-kind_step (layer.Unary op a) = a
-kind_step (layer.Binary op a b) = a ++ b
-kind_step (layer.If c a b) = c ++ a ++ b
-kind_step (layer.Match e cases) = e ++ joined cases
-kind_step (layer.Val bound rest) = bound ++ rest
-kind_step (layer.Assert c rest) = c ++ rest
-
-abbrev pub case_step : layer.TypedCase-F (List Member) (List Member) (List Member) → List Member
-case_step c = or_none c.guard ++ c.body
+kind_step y = kind_parts y
 
 abbrev pub expr_step : layer.TypedExpr-F (List Member) (List Member) (List Member) → List Member
 expr_step e = types_in e.of ++ e.kind
 
 -- what an expression mentions: the types of it and of its parts, and each function at the type arguments of each use
 abbrev pub mentions : TypedExpr → List Member
-mentions = fold-TypedExpr (List Member) (List Member) (List Member) kind_step case_step expr_step
+mentions = fold-TypedExpr (List Member) (List Member) (List Member) kind_step case_parts expr_step
 
 -- what a case mentions, in its guard and its body
 abbrev pub case_mentions : TypedCase → List Member
-case_mentions = fold-TypedCase (List Member) (List Member) (List Member) kind_step case_step expr_step
+case_mentions = fold-TypedCase (List Member) (List Member) (List Member) kind_step case_parts expr_step
 
 -- what is mentioned below an expression
 abbrev pub kind_mentions : TypedKind → List Member
-kind_mentions = fold-TypedKind (List Member) (List Member) (List Member) kind_step case_step expr_step
+kind_mentions = fold-TypedKind (List Member) (List Member) (List Member) kind_step case_parts expr_step
 
 abbrev pub guard_mentions : Option TypedExpr → List Member
 guard_mentions None = []

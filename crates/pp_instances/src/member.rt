@@ -1,7 +1,7 @@
 //! Instances.
 
 ghost use Rattle.std.specs.Prelude.{◌≡◌, ◌↔◌, IsTrue, IfOk, fold, map};
-ghost use Rattle.pp_generic.specs.Equal.{equal, pass_all};
+ghost use Rattle.pp_typed.specs.Equal.{equal, pass_all};
 ghost use Rattle.pp_instances.specs.Same.{same, same_decl, fed_decl, fed_member, fed_sort};
 ghost use Rattle.pp_instances.specs.Uses.{at_args};
 ghost use Rattle.pp_instances.specs.Decides.{same_laws, same_partial_laws, same_fed};

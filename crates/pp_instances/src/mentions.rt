@@ -1,7 +1,7 @@
 //! What declarations mention, over their own type parameters.
 
 ghost use Rattle.std.specs.Prelude.{◌≡◌, ◌++◌, ◌∷◌, [], IfOk, map};
-ghost use Rattle.pp_instances.specs.Same.{joined};
+ghost use Rattle.pp_list.specs.Joined.{joined};
 ghost use Rattle.pp_instances.specs.Uses.{types_in, types_of, mentions, case_mentions, guard_mentions, kind_mentions};
 ghost use Rattle.pp_instances.specs.Uses.{param_types, signature_mentions, text_mentions, def_mentions, decl_mentions};
 ghost use Rattle.pp_instances.specs.Uses.{function_at, ctor_mentions, post_mentions};

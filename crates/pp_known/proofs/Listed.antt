@@ -2,7 +2,7 @@
 use Rattle.std.proofs.Common.{◌≡◌, ℕ, List, map, refl, ap, subst}
 use Rattle.std.specs.Prelude.{Some, slice_get, Contains}
 use Rattle.std.proofs.lemmas.List.Elements.{Contains-append_left, Contains-append_right}
-use Rattle.pp_instances.specs.Same.{joined}
+use Rattle.pp_list.specs.Joined.{joined}
 use Rattle.pp_instances.specs.Uses.{at_args, ctor_mentions, decl_mentions, def_mentions, def_or_none, function_at}
 use Rattle.pp_instances.specs.Uses.{root_at, signature_mentions, text_mentions}
 use Rattle.pp_instances.specs.declared.member.Decl.TheVariants.{Function, Root}

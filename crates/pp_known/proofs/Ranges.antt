@@ -1,12 +1,13 @@
 -- The sorts of the functions of the program are in range.
-use Rattle.std.proofs.Common.{◌≡◌, ℕ, suc, ◌+◌, nat_lt, Bool, true, false, ◌&&◌, List, [], ◌∷◌, map, length, refl, sym}
+use Rattle.std.proofs.Common.{◌≡◌, ℕ, suc, ◌+◌, nat_lt, Bool, true, List, [], ◌∷◌, map, length, refl, sym}
 use Rattle.std.proofs.Common.{ap, ◌∙◌, subst, arith}
 use Rattle.std.specs.Prelude.{Some, Contains, slice_get}
 use Rattle.std.specs.List.{list_all}
 use Rattle.std.proofs.lemmas.Bool.{and_from, lt-ltb}
 use Rattle.std.proofs.lemmas.Option.{same_Some, slice_get_within}
+use Rattle.pp_list.specs.Joined.{joined}
 use Rattle.pp_instances.proofs.Mentioned.{types_root}
-use Rattle.pp_instances.specs.Same.{joined, place_of}
+use Rattle.pp_instances.specs.Same.{place_of}
 use Rattle.pp_instances.specs.Uses.{function_at, param_types, root_at, types_in, types_of}
 use Rattle.pp_instances.specs.declared.member.Decl.TheVariants.{Root}
 use Rattle.pp_instances.specs.declared.member.Instance.{Instance}

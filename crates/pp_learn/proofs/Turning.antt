@@ -1,15 +1,15 @@
 -- One step of conflict analysis: what the marks show is resolved with the reason of a step.
-use Rattle.std.proofs.Common.{ℕ, suc, ◌+◌, ◌-◌, ◌≡◌, ◌≢◌, ◌<◌, Bool, true, false, cond, List, [], ◌∷◌, ◌++◌, Some, sym}
+use Rattle.std.proofs.Common.{ℕ, suc, ◌+◌, ◌-◌, ◌≡◌, ◌≢◌, ◌<◌, Bool, true, false, cond, List, [], ◌∷◌, ◌++◌, sym}
 use Rattle.std.proofs.Common.{refl, ap, ◌∙◌, subst, inl, inr, arith, length, get_or, set, eqb, All}
 use Rattle.std.specs.Prelude.{filter, ◌&&◌, ◌||◌, AllPairs}
-use Rattle.std.specs.Option.{option_map}
 use Rattle.std.proofs.lemmas.Bool.{and_parts, and_from, or_cases, or_left, or_right, eqb-true, eq-eqb}
 use Rattle.std.proofs.lemmas.Bool.{false_from_ne_true}
 use Rattle.std.proofs.lemmas.Bool.Decides.{eqb_tells}
 use Rattle.std.proofs.lemmas.List.{get_or-set_same, get_or-set_other}
 use Rattle.pp_clause.specs.Literal.{Literal, opposite}
 use Rattle.pp_clause.specs.Clause.{has}
-use Rattle.pp_clause.specs.Derivation.{clashes, only_item, without, resolvent}
+use Rattle.pp_clause.specs.Derivation.{clashes, without}
+use Rattle.pp_clause.proofs.Resolving.{resolvent_of}
 use Rattle.pp_clause.proofs.Has.{has-nil, has-cases, has-here, has-there, has-All, has-append_cases, has-append_left}
 use Rattle.pp_clause.proofs.Has.{has-append_right, opposite_twice, same_var_cases, same_bool, false_not_true}
 use Rattle.pp_clause.proofs.Resolving.{has-without, without-has}
@@ -104,11 +104,6 @@ one_clash cs vars steps seen place n c found f trail shown marked =
     (and_parts (is_marked seen m.var) (has (lits steps) (opposite (opposite m)))
     (sym (shown.same (opposite m)) ∙ t)).1)
     (others_false cs steps place n c f m h ne)))
-
-resolvent_of : (xs ys : List Literal) (l : Literal) → clashes xs ys ≡ l ∷ []
-    → resolvent xs ys ≡ Some (without l.var (xs ++ ys))
-unfolding resolvent
-resolvent_of xs ys l e = ap (λ (z : List Literal). option_map (λ k. without k.var (xs ++ ys)) (only_item z)) e
 
 marked_other : (mid : List Bool) (x y : ℕ) → y ≢ x → is_marked (set mid x false) y ≡ is_marked mid y
 marked_other mid x y ne = get_or-set_other mid x y false false ne

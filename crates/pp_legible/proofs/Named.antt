@@ -2,9 +2,9 @@
 use Rattle.std.proofs.Common.{◌≡◌, ◌≢◌, ◌<◌, ℕ, List, [], ◌∷◌, ◌++◌, Option, Some}
 use Rattle.std.proofs.Common.{None, map, refl, sym, subst, arith}
 use Rattle.std.specs.Prelude.{slice_get}
+use Rattle.pp_list.specs.Joined.{joined}
 use Rattle.pp_instances.specs.Names.{after_comma, bracketed, decl_name, def_name, print_step, printed, printed_sort}
 use Rattle.pp_instances.specs.Names.{root_name}
-use Rattle.pp_instances.specs.Same.{joined}
 use Rattle.pp_instances.specs.declared.member.Decl.{Decl}
 use Rattle.pp_instances.specs.declared.member.Decl.TheVariants.{Function, Root}
 use Rattle.pp_instances.specs.declared.member.Member.{Member}

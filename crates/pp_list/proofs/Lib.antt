@@ -1,3 +1,5 @@
 pub mod Integers
+pub mod Joined
 pub mod Lists
 pub mod Numbers
+pub mod With

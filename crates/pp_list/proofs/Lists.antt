@@ -1,10 +1,11 @@
 -- Lists and the items at their places.
 use Rattle.std.proofs.Common.{◌≡◌, ℕ, suc, ◌+◌, ◌<◌, List, [], ◌∷◌, ◌++◌, take, drop, length, get_or, sym, ap, ◌∙◌}
-use Rattle.std.proofs.Common.{subst, arith, drop-cons}
+use Rattle.std.proofs.Common.{subst, arith, drop-cons, zero, ◌≤◌}
 use Rattle.std.specs.Prelude.{Some, Contains, slice_get}
 use Rattle.std.proofs.lemmas.List.{take_more}
 use Rattle.std.proofs.lemmas.List.Elements.{Contains-get_or}
 use Rattle.std.proofs.lemmas.Option.{get_or_from_slice_get, slice_get_within}
+use denote.Param.Weighed.{most}
 
 -- what is left from a place on is the item there, and what is left behind it
 pub rest_at : {X : Type 0} (xs : List X) (i : ℕ) (x : X) → i < length xs → x ≡ get_or xs i x
@@ -31,3 +32,9 @@ no_item k x at = cc
 
 pub nothing : {X : Type 0} {Y : Type 0} (xs : List X) (i : ℕ) (x : X) → xs ≡ [] → slice_get xs i ≡ Some x → Y
 nothing xs i x none at = let no : slice_get [] i ≡ Some x = subst (λ ys. slice_get ys i ≡ Some x) none at in cc
+
+-- what stands at a place counts for no more than the most of all
+pub found_most : {X : Type 0} (f : X → ℕ) (xs : List X) (i : ℕ) (x : X) → slice_get xs i ≡ Some x → f x ≤ most f xs
+found_most f [] i x is = cc
+found_most f (y ∷ ys) zero x is = let e : y ≡ x = cc in omega (arith, ap f e)
+found_most f (y ∷ ys) (suc i) x is = omega (arith, found_most f ys i x is)

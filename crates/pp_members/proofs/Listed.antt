@@ -4,9 +4,9 @@ use Rattle.std.proofs.Common.{◌≡◌, ⊎_elim, ℕ, List, [], ◌∷◌, ◌
 use Rattle.std.specs.Prelude.{Some, slice_get, Contains}
 use Rattle.std.proofs.lemmas.List.{length-map}
 use Rattle.std.proofs.lemmas.List.Elements.{Contains-append_cases, Contains-append_left, Contains-append_right}
+use Rattle.pp_list.specs.Joined.{joined}
 use Rattle.pp_instances.proofs.Kept.{nothing_in}
 use Rattle.pp_instances.proofs.Mentioned.{types_int, types_bool, types_param, types_root}
-use Rattle.pp_instances.specs.Same.{joined}
 use Rattle.pp_instances.specs.Uses.{at_args, function_at, root_at, types_in, types_of}
 use Rattle.pp_instances.specs.declared.member.Member.{Member}
 use Rattle.pp_members.proofs.Lists.{first_in, first_or_later, joined_in, later_in}

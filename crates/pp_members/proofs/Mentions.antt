@@ -4,8 +4,9 @@ use Rattle.std.specs.Prelude.{Option, Some, None, if◌then◌else◌, slice_get
 use Rattle.std.proofs.lemmas.Bool.{eqb-true}
 use Rattle.std.proofs.lemmas.List.Elements.{All-contains}
 use Rattle.std.proofs.lemmas.Option.{same_Some}
-use Rattle.pp_instances.specs.Same.{joined}
-use Rattle.pp_instances.specs.Uses.{case_mentions, case_step, ctor_mentions, decl_mentions, def_mentions, def_or_none}
+use Rattle.pp_typed.specs.Parts.{case_parts}
+use Rattle.pp_list.specs.Joined.{joined}
+use Rattle.pp_instances.specs.Uses.{case_mentions, ctor_mentions, decl_mentions, def_mentions, def_or_none}
 use Rattle.pp_instances.specs.Uses.{expr_step, function_at, guard_mentions, kind_mentions, kind_step, mentions}
 use Rattle.pp_instances.specs.Uses.{param_types, post_mentions, types_in, types_of}
 use Rattle.pp_instances.specs.declared.member.Decl.TheVariants.{Function}
@@ -51,26 +52,26 @@ abbrev below : Layer → Ms
 below l = kind_step (map-TypedKind TypedKind TypedCase TypedExpr Ms Ms Ms kind_mentions case_mentions mentions l)
 
 abbrev in_case : CaseLayer → Ms
-in_case c = case_step (map-TypedCase TypedKind TypedCase TypedExpr Ms Ms Ms kind_mentions case_mentions mentions c)
+in_case c = case_parts (map-TypedCase TypedKind TypedCase TypedExpr Ms Ms Ms kind_mentions case_mentions mentions c)
 
 -- an expression of this form mentions its type and what its parts mention
 form_mentions : (e : TypedExpr) (k : TypedKind) (l : Layer) → e.kind ≡ k → roll-TypedKind l ≡ k
     → mentions e ≡ types_in e.of ++ below l
 form_mentions e k l is rolls =
-    fold_out-TypedExpr Ms Ms Ms kind_step case_step expr_step e
+    fold_out-TypedExpr Ms Ms Ms kind_step case_parts expr_step e
     ∙ ap (λ z. types_in e.of ++ kind_mentions z) (is ∙ sym rolls)
-    ∙ ap (λ z. types_in e.of ++ z) (fold-roll-TypedKind Ms Ms Ms kind_step case_step expr_step l)
+    ∙ ap (λ z. types_in e.of ++ z) (fold-roll-TypedKind Ms Ms Ms kind_step case_parts expr_step l)
 
-case_parts : (p : TypedPattern) (g : Option TypedExpr) (b : TypedExpr)
+in_parts : (p : TypedPattern) (g : Option TypedExpr) (b : TypedExpr)
     → in_case (record { pattern = p; guard = g; body = b }) ≡ guard_mentions g ++ mentions b
-case_parts p None b = refl
-case_parts p (Some g) b = refl
+in_parts p None b = refl
+in_parts p (Some g) b = refl
 
 -- a case mentions what its guard and its body do
 case_is : (c : TypedCase) → case_mentions c ≡ guard_mentions (out-TypedCase c).guard ++ mentions (out-TypedCase c).body
 case_is c =
-    fold_out-TypedCase Ms Ms Ms kind_step case_step expr_step c
-    ∙ case_parts (out-TypedCase c).pattern (out-TypedCase c).guard (out-TypedCase c).body
+    fold_out-TypedCase Ms Ms Ms kind_step case_parts expr_step c
+    ∙ in_parts (out-TypedCase c).pattern (out-TypedCase c).guard (out-TypedCase c).body
 
 module _ (typed : Typed) (well : IsWellSorted typed) (params : ℕ) where
   abbrev P : Ms → Type 0
@@ -118,8 +119,8 @@ module _ (typed : Typed) (well : IsWellSorted typed) (params : ℕ) where
     proper_expr (sorted_unary {a = a} op is sorted operand of) scope =
         of_form (layer.Unary op a) (sorted_unary op is sorted operand of) scope is (kind.rolls-Unary op a)
         (proper_expr sorted scope)
-    proper_expr (sorted_binary {a = a} {b = b} op is left right same operates) scope =
-        of_form (layer.Binary op a b) (sorted_binary op is left right same operates) scope is (kind.rolls-Binary op a b)
+    proper_expr (sorted_binary {a = a} {b = b} op is left right operates) scope =
+        of_form (layer.Binary op a b) (sorted_binary op is left right operates) scope is (kind.rolls-Binary op a b)
         (both (proper_expr left scope) (proper_expr right scope))
     proper_expr (sorted_if {c = c} {a = a} {b = b} is test is_bool left left_is right right_is) scope =
         of_form (layer.If c a b) (sorted_if is test is_bool left left_is right right_is) scope is (kind.rolls-If c a b)

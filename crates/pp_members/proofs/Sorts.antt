@@ -1,20 +1,16 @@
 -- The sort of a sorted expression is in range, and so are the sorts of the values that a pattern binds.
-use Rattle.std.proofs.Common.{◌≡◌, ⊎_elim, ℕ, nat_eq, Bool, true, false, List, [], ◌∷◌, ◌++◌, map, length, sym, ap, ◌∙◌}
+use Rattle.std.proofs.Common.{◌≡◌, ℕ, nat_eq, Bool, true, false, List, [], ◌∷◌, ◌++◌, map, length, sym, ap, ◌∙◌}
 use Rattle.std.proofs.Common.{subst}
 use Rattle.std.specs.Prelude.{Some, All, slice_get}
 use Rattle.std.proofs.lemmas.List.Elements.{All-filter, All-head, All-contains}
 use Rattle.std.proofs.lemmas.Option.{same_Some}
 use Rattle.pp_list.proofs.Lists.{element}
 use Rattle.pp_members.proofs.Put.{at_in_range, put_in_range, puts_in_range}
-use Rattle.pp_operators.specs.Classes.{class_of}
-use Rattle.pp_operators.specs.declared.class.OperatorClass.{OperatorClass}
-use Rattle.pp_operators.specs.declared.class.OperatorClass.TheVariants as class
-use Rattle.pp_tree.specs.declared.operator.BinaryOp.{BinaryOp}
 use Rattle.pp_tree.specs.declared.operator.UnaryOp.{UnaryOp}
 use Rattle.pp_tree.specs.declared.operator.UnaryOp.TheVariants.{Neg, Not, Flip}
 use Rattle.pp_typed.specs.InRange.{IsInRange, AreInRange, int_in_range, bool_in_range, param_in_range, root_in_range}
 use Rattle.pp_typed.specs.InRange.{none_in_range, more_in_range}
-use Rattle.pp_typed.specs.Operators.{ClassOperates, IsLogical, IsNumeric, Operates, unary_sort}
+use Rattle.pp_typed.specs.Operators.{unary_sort}
 use Rattle.pp_typed.specs.Put.{put}
 use Rattle.pp_typed.specs.Sorted.{Binds, BindEach, IsSorted, binds_any, binds_int, binds_bool, binds_ctor, bind_none}
 use Rattle.pp_typed.specs.Sorted.{bind_more, ctors_of, own_value, sorted_int, sorted_bool, sorted_local, sorted_call}
@@ -30,6 +26,7 @@ use Rattle.pp_typed.specs.declared.sort.GenericSort.TheViews.{out-GenericSort}
 use Rattle.pp_typed.specs.declared.typed.Typed.{Typed}
 use Rattle.pp_typed.specs.declared.typed.TypedCtor.{TypedCtor}
 use Rattle.pp_typed.specs.declared.typed.TypedRoot.{TypedRoot}
+use Rattle.pp_typed_forms.proofs.Operators.{gives_in_range}
 
 abbrev pub Layer : Type 0
 Layer = layer.GenericSort-F GenericSort
@@ -78,20 +75,6 @@ module _ (roots : List TypedRoot) (n : ℕ) where
         all = ap length (sym are) ∙ all;
         each = subst (AreInRange roots n) are each;
       }
-
-  class_in_range : {s : GenericSort} (c : OperatorClass) (a : GenericSort) → ClassOperates c a s → IsInRange roots n s
-  class_in_range class.Sum a h = int_in_range h.1
-  class_in_range class.Product a h = int_in_range h.1
-  class_in_range class.Quotient a h = int_in_range h.1
-  class_in_range class.Equality a h = bool_in_range h
-  class_in_range class.Order a h = bool_in_range h.1
-  class_in_range class.Logic a h = bool_in_range h.1
-  class_in_range {s} class.Bitwise a h =
-      ⊎_elim (λ (q : IsNumeric a s). int_in_range q.1) (λ (q : IsLogical a s). bool_in_range q.1) h
-  class_in_range class.Shift a h = int_in_range h.1
-
-  int_or_bool : {s : GenericSort} (op : BinaryOp) (a : GenericSort) → Operates op a s → IsInRange roots n s
-  int_or_bool op a h = class_in_range (class_of op) a h
 
   unary_in_range : {s : GenericSort} (op : UnaryOp) → s ≡ unary_sort op → IsInRange roots n s
   unary_in_range Neg h = int_in_range h
@@ -157,8 +140,8 @@ module _ (typed : Typed) (well : IsWellSorted typed) (params : ℕ) where
         (root.all ∙ ap (λ (z : TypedRoot). z.type_params) (same_Some _ _ (sym root.declared ∙ c.declared)))
         (at_in_range typed.roots c.owner.type_params c.fields j s at))
     sort_in_range (sorted_unary op is sorted operand of) scope = unary_in_range typed.roots params op of
-    sort_in_range (sorted_binary {a = a} op is left right same operates) scope =
-        int_or_bool typed.roots params op a.of operates
+    sort_in_range (sorted_binary {a = a} op is left right operates) scope =
+        subst In (sym operates.1) (gives_in_range typed.roots params op a.of (sort_in_range left scope))
     sort_in_range (sorted_if is test is_bool left left_is right right_is) scope =
         subst In left_is (sort_in_range left scope)
     sort_in_range (sorted_match is matched (more_cases binds guard body body_is rest)) scope =

@@ -3,11 +3,11 @@ use Rattle.std.proofs.Common.{◌≡◌, ⊎_elim, ℕ, nat_eq, Bool, true, fals
 use Rattle.std.proofs.Common.{ap, ◌∙◌, subst}
 use Rattle.std.specs.Prelude.{Contains}
 use Rattle.std.proofs.lemmas.List.Elements.{Contains-append_cases}
+use Rattle.pp_list.specs.Joined.{joined}
 use Rattle.pp_concrete_types.proofs.Lists.{stands}
 use Rattle.pp_concrete_types.specs.Datatypes.{AreDatatypes}
 use Rattle.pp_instances.proofs.Kept.{nothing_in}
 use Rattle.pp_instances.proofs.Mentioned.{types_int, types_bool, types_param, types_root}
-use Rattle.pp_instances.specs.Same.{joined}
 use Rattle.pp_instances.specs.Uses.{at_args, ctor_mentions, decl_mentions, root_at, types_in, types_of}
 use Rattle.pp_instances.specs.declared.member.Decl.{Decl}
 use Rattle.pp_instances.specs.declared.member.Decl.TheVariants.{Root}

@@ -1,8 +1,11 @@
 -- Without the numbers of checks, an expression has its sites without their checks.
-use Rattle.std.proofs.Common.{◌≡◌, List, [], ◌∷◌, ◌++◌, map, Option, Some, None, refl, sym, ap, ◌∙◌, subst}
+use Rattle.std.proofs.Common.{◌≡◌, List, [], ◌∷◌, ◌++◌, map, Option, Some, None, refl, sym, ap, ◌∙◌}
 use Rattle.std.proofs.Common.{Bool, true, false}
 use Rattle.std.specs.Option.{option_map}
 use Rattle.std.proofs.lemmas.List.{map-append}
+use Rattle.pp_list.proofs.With.{With, elements}
+use Rattle.pp_prog.proofs.Induction.{case_under, each_expr, under}
+use Rattle.pp_prog.specs.Listing.{sites_in_case}
 use Rattle.pp_prog.specs.ExprSorts.{sort_of}
 use Rattle.pp_prog.specs.Listing.{CaseSites, Site, Sites, assertion, at_sort, case_sites, function_sites, matching}
 use Rattle.pp_prog.specs.Listing.{division_site, measure, measure_sites, operator_site, postcondition, post_sites}
@@ -14,8 +17,8 @@ use Rattle.pp_operators.specs.Classes.{is_division}
 use Rattle.pp_tree.specs.declared.operator.BinaryOp.{BinaryOp}
 use Rattle.pp_prog.specs.declared.expr.Case.{Case}
 use Rattle.pp_prog.specs.declared.expr.Expr.{Expr}
-use Rattle.pp_prog.specs.declared.expr.Expr.TheFolds.{fold-roll-Case, fold-roll-Expr, ind-Expr, map-Case, map-Expr}
-use Rattle.pp_prog.specs.declared.expr.Expr.TheFolds.{para-Case, para-roll-Case, para-roll-Expr}
+use Rattle.pp_prog.specs.declared.expr.Expr.TheFolds.{fold-roll-Case, fold-roll-Expr, map-Case, map-Expr}
+use Rattle.pp_prog.specs.declared.expr.Expr.TheFolds.{para-roll-Case, para-roll-Expr}
 use Rattle.pp_prog.specs.declared.expr.Expr.TheOpen as layer
 use Rattle.pp_prog.specs.declared.expr.Expr.TheVariants as prog
 use Rattle.pp_prog.specs.declared.expr.Expr.TheViews.{roll-Case, roll-Expr}
@@ -63,10 +66,10 @@ module _ (types : TypeTable) (fs : List Function) where
   Bare = sites types gs
 
   abbrev in_case : Case → CaseSites
-  in_case = para-Case Sites CaseSites (site_step types fs) (case_sites types fs)
+  in_case = sites_in_case types fs
 
   abbrev bare_in_case : Case → CaseSites
-  bare_in_case = para-Case Sites CaseSites (site_step types gs) (case_sites types gs)
+  bare_in_case = sites_in_case types gs
 
   abbrev beside : Expr → Expr × Sites
   beside x = (x, In x)
@@ -93,39 +96,27 @@ module _ (types : TypeTable) (fs : List Function) where
   abbrev Q : Case → Type 0
   Q c = SameSites c × SamePattern c
 
-  abbrev E : Type 0
-  E = (e : Expr) × P e
+  bare_sites : (ys : List (With P)) (scope : List Sort)
+      → sites_of_all (map bare_beside (map bare (elements ys))) scope
+      ≡ map blank (sites_of_all (map beside (elements ys)) scope)
+  bare_sites [] scope = refl
+  bare_sites (y ∷ ys) scope =
+      both_blank (In y.0 scope) (sites_of_all (map beside (elements ys)) scope) (y.1 scope) (bare_sites ys scope)
 
-  abbrev K : Type 0
-  K = (c : Case) × Q c
-
-  abbrev expr_below : layer.Expr-F E K → layer.Expr-F Expr Case
-  expr_below = map-Expr E K Expr Case (λ z. z.0) (λ z. z.0)
-
-  abbrev case_below : layer.Case-F E K → layer.Case-F Expr Case
-  case_below = map-Case E K Expr Case (λ z. z.0) (λ z. z.0)
-
-  each : (ys : List E) (scope : List Sort)
-      → sites_of_all (map bare_beside (map bare (map (λ (z : E). z.0) ys))) scope
-      ≡ map blank (sites_of_all (map beside (map (λ (z : E). z.0) ys)) scope)
-  each [] scope = refl
-  each (y ∷ ys) scope =
-      both_blank (In y.0 scope) (sites_of_all (map beside (map (λ (z : E). z.0) ys)) scope) (y.1 scope) (each ys scope)
-
-  each_case : (ys : List K) (s : Sort) (scope : List Sort)
-      → sites_of_cases (map bare_case_beside (map bare_of_case (map (λ (z : K). z.0) ys))) s scope
-      ≡ map blank (sites_of_cases (map case_beside (map (λ (z : K). z.0) ys)) s scope)
+  each_case : (ys : List (With Q)) (s : Sort) (scope : List Sort)
+      → sites_of_cases (map bare_case_beside (map bare_of_case (elements ys))) s scope
+      ≡ map blank (sites_of_cases (map case_beside (elements ys)) s scope)
   each_case [] s scope = refl
   each_case (y ∷ ys) s scope =
-      both_blank (in_case y.0 s scope) (sites_of_cases (map case_beside (map (λ (z : K). z.0) ys)) s scope)
+      both_blank (in_case y.0 s scope) (sites_of_cases (map case_beside (elements ys)) s scope)
       (y.1.0 s scope) (each_case ys s scope)
 
-  each_pattern : (ys : List K)
-      → unguarded (map bare_case_beside (map bare_of_case (map (λ (z : K). z.0) ys)))
-      ≡ unguarded (map case_beside (map (λ (z : K). z.0) ys))
+  each_pattern : (ys : List (With Q))
+      → unguarded (map bare_case_beside (map bare_of_case (elements ys)))
+      ≡ unguarded (map case_beside (elements ys))
   each_pattern [] = refl
   each_pattern (y ∷ ys) =
-      y.1.1 (unguarded (map bare_case_beside (map bare_of_case (map (λ (z : K). z.0) ys))))
+      y.1.1 (unguarded (map bare_case_beside (map bare_of_case (elements ys))))
       ∙ ap (unless_guarded y.0.guard y.0.pattern) (each_pattern ys)
 
   abbrev site_parts : layer.Expr-F Expr Case → layer.Expr-F (Expr × Sites) (Case × CaseSites)
@@ -141,9 +132,9 @@ module _ (types : TypeTable) (fs : List Function) where
       ap (λ z. Bare z scope) (sym is)
       ∙ ap (λ (f : Sites). f scope) (para-roll-Expr Sites CaseSites (site_step types gs) (case_sites types gs) y)
 
-  level : (y : layer.Expr-F E K) (scope : List Sort)
-      → Bare (bare_step (map-Expr Expr Case Expr Case bare bare_of_case (expr_below y))) scope
-      ≡ map blank (site_step types fs (site_parts (expr_below y)) scope)
+  level : (y : layer.Expr-F (With P) (With Q)) (scope : List Sort)
+      → Bare (bare_step (map-Expr Expr Case Expr Case bare bare_of_case (under y))) scope
+      ≡ map blank (site_step types fs (site_parts (under y)) scope)
   level (layer.Int n) scope = opened (layer.Int n) _ scope (prog.rolls-Int n)
   level (layer.Bool b) scope = opened (layer.Bool b) _ scope (prog.rolls-Bool b)
   level (layer.Var i) scope = opened (layer.Var i) _ scope (prog.rolls-Var i)
@@ -154,8 +145,8 @@ module _ (types : TypeTable) (fs : List Function) where
       ∙ both_blank (In a.0 scope ++ In b.0 scope) (operator_site op check ∷ [])
       (both_blank (In a.0 scope) (In b.0 scope) (a.1 scope) (b.1 scope)) (operator_blank op check)
   level (layer.Construct c args) scope =
-      let es = map bare (map (λ (z : E). z.0) args) in
-      opened (layer.Construct c es) _ scope (prog.rolls-Construct c es) ∙ each args scope
+      let es = map bare (elements args) in
+      opened (layer.Construct c es) _ scope (prog.rolls-Construct c es) ∙ bare_sites args scope
   level (layer.Field e k) scope =
       opened (layer.Field (bare e.0) k) _ scope (prog.rolls-Field (bare e.0) k) ∙ e.1 scope
   level (layer.If c a b) scope =
@@ -163,8 +154,8 @@ module _ (types : TypeTable) (fs : List Function) where
       ∙ both_blank (In c.0 scope ++ In a.0 scope) (In b.0 scope)
       (both_blank (In c.0 scope) (In a.0 scope) (c.1 scope) (a.1 scope)) (b.1 scope)
   level (layer.Match e cases check) scope =
-      let cs = map bare_of_case (map (λ (z : K). z.0) cases) in
-      let ds = map case_beside (map (λ (z : K). z.0) cases) in
+      let cs = map bare_of_case (elements cases) in
+      let ds = map case_beside (elements cases) in
       let go : Sort → List Site =
       λ s. matching s (unguarded (map bare_case_beside cs)) None ∷ sites_of_cases (map bare_case_beside cs) s scope in
       let from : Sort → List Site = λ s. matching s (unguarded ds) check ∷ sites_of_cases ds s scope in
@@ -187,15 +178,15 @@ module _ (types : TypeTable) (fs : List Function) where
       ∙ both_blank (In c.0 scope) (assertion check ∷ In e.0 scope) (c.1 scope)
       (ap (λ l. assertion unnumbered ∷ l) (e.1 scope))
   level (layer.Call g args pre down) scope =
-      let es = map bare (map (λ (z : E). z.0) args) in
+      let es = map bare (elements args) in
       opened (layer.Call g es None None) _ scope (prog.rolls-Call g es None None)
-      ∙ both_blank (sites_of_all (map beside (map (λ (z : E). z.0) args)) scope)
+      ∙ both_blank (sites_of_all (map beside (elements args)) scope)
       (precondition g pre ∷ measure g down ∷ [])
-      (each args scope) refl
+      (bare_sites args scope) refl
 
-  at_level : (y : layer.Expr-F E K) → P (roll-Expr (expr_below y))
+  at_level : (y : layer.Expr-F (With P) (With Q)) → P (roll-Expr (under y))
   at_level y scope =
-      let z = expr_below y in
+      let z = under y in
       ap (λ e. Bare e scope) (fold-roll-Expr Expr Case bare_step bare_case z) ∙ level y scope
       ∙ sym (ap (λ (f : Sites). map blank (f scope))
       (para-roll-Expr Sites CaseSites (site_step types fs) (case_sites types fs) z))
@@ -203,8 +194,8 @@ module _ (types : TypeTable) (fs : List Function) where
   abbrev case_parts : layer.Case-F Expr Case → layer.Case-F (Expr × Sites) (Case × CaseSites)
   case_parts = map-Case Expr Case (Expr × Sites) (Case × CaseSites) beside case_beside
 
-  at_parts : (p : Pattern) (o : Option E) (b : E) (s : Sort) (scope : List Sort)
-      → let z = case_below (record { pattern = p; guard = o; body = b }) in
+  at_parts : (p : Pattern) (o : Option (With P)) (b : With P) (s : Sort) (scope : List Sort)
+      → let z = case_under Q (record { pattern = p; guard = o; body = b }) in
       bare_in_case (bare_case (map-Case Expr Case Expr Case bare bare_of_case z)) s scope
       ≡ map blank (case_sites types fs (case_parts z) s scope)
   at_parts p None b s scope =
@@ -219,16 +210,16 @@ module _ (types : TypeTable) (fs : List Function) where
       ∙ bound_blank (bound_sorts types.ctors p s) _ _
       (λ l. both_blank (In g.0 (scope ++ l)) (In b.0 (scope ++ l)) (g.1 (scope ++ l)) (b.1 (scope ++ l)))
 
-  pattern_at : (p : Pattern) (o : Option E) (b : E) (rest : List Pattern)
-      → let z = case_below (record { pattern = p; guard = o; body = b }) in
+  pattern_at : (p : Pattern) (o : Option (With P)) (b : With P) (rest : List Pattern)
+      → let z = case_under Q (record { pattern = p; guard = o; body = b }) in
       let c = bare_case (map-Case Expr Case Expr Case bare bare_of_case z) in
       unless_guarded c.guard c.pattern rest ≡ unless_guarded z.guard z.pattern rest
   pattern_at p None b rest = refl
   pattern_at p (Some g) b rest = refl
 
-  at_case : (y : layer.Case-F E K) → Q (roll-Case (case_below y))
+  at_case : (y : layer.Case-F (With P) (With Q)) → Q (roll-Case (case_under Q y))
   at_case y =
-      let z = case_below y in
+      let z = case_under Q y in
       let is = fold-roll-Case Expr Case bare_step bare_case z in (
         λ s scope. ap (λ c. bare_in_case c s scope) is ∙ at_parts y.pattern y.guard y.body s scope
             ∙ sym (ap (λ (f : CaseSites). map blank (f s scope))
@@ -237,8 +228,7 @@ module _ (types : TypeTable) (fs : List Function) where
       )
 
   sites_of_bare : (e : Expr) → P e
-  sites_of_bare = ind-Expr P Q (λ x y is. subst (λ z. P (roll-Expr z)) is (at_level y))
-      (λ x y is. subst (λ z. Q (roll-Case z)) is (at_case y))
+  sites_of_bare = each_expr P Q at_level at_case
 
   of_pre : (pre : Option Expr) (scope : List Sort)
       → pre_sites types gs (option_map bare pre) scope ≡ map blank (pre_sites types fs pre scope)

@@ -5,7 +5,7 @@ use Rattle.std.proofs.Common.{refl, sym, ap, ◌∙◌, subst, arith}
 use Rattle.std.specs.Option.{option_map}
 use Rattle.std.proofs.lemmas.List.{map-append}
 use Rattle.std.proofs.lemmas.Option.{slice_get-map}
-use Rattle.pp_prog.specs.Calls.{joined}
+use Rattle.pp_list.specs.Joined.{joined}
 use Rattle.pp_prog.specs.Listing.{Site, plain, division, assertion, precondition, measure, matching, postcondition}
 use Rattle.pp_prog.specs.Listing.{as_kind, carried, function_checks, function_sites}
 use Rattle.pp_prog.specs.Valid.{Carries, Entry, IsValid, entry, entry_of, listing_from}

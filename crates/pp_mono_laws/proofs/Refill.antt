@@ -1,10 +1,12 @@
 -- An expression is told by its form without numbers and its slots: the form, filled with the slots in order, is it.
-use Rattle.std.proofs.Common.{◌≡◌, List, [], ◌∷◌, ◌++◌, map, Option, Some, None, refl, sym, ap, ◌∙◌, subst}
+use Rattle.std.proofs.Common.{◌≡◌, List, [], ◌∷◌, ◌++◌, map, Option, Some, None, refl, sym, ap, ◌∙◌}
 use Rattle.std.proofs.Common.{append_assoc}
-use Rattle.pp_prog.specs.Calls.{joined}
+use Rattle.pp_list.proofs.With.{With, elements}
+use Rattle.pp_prog.proofs.Induction.{case_under, each_expr, under}
+use Rattle.pp_list.specs.Joined.{joined}
 use Rattle.pp_prog.specs.declared.expr.Case.{Case}
 use Rattle.pp_prog.specs.declared.expr.Expr.{Expr}
-use Rattle.pp_prog.specs.declared.expr.Expr.TheFolds.{fold-Case, fold-Expr, fold-roll-Case, fold-roll-Expr, ind-Expr}
+use Rattle.pp_prog.specs.declared.expr.Expr.TheFolds.{fold-Case, fold-Expr, fold-roll-Case, fold-roll-Expr}
 use Rattle.pp_prog.specs.declared.expr.Expr.TheFolds.{map-Case, map-Expr}
 use Rattle.pp_prog.specs.declared.expr.Expr.TheOpen as layer
 use Rattle.pp_prog.specs.declared.expr.Expr.TheVariants as prog
@@ -93,40 +95,28 @@ P e = (rest : Slots) → fill (bare e) (slots e ++ rest) ≡ (e, rest)
 abbrev Q : Case → Type 0
 Q c = (rest : Slots) → fill_in_case (bare_of_case c) (case_slots c ++ rest) ≡ (c, rest)
 
-abbrev E : Type 0
-E = (e : Expr) × P e
-
-abbrev K : Type 0
-K = (c : Case) × Q c
-
-each : (ys : List E) (rest : Slots)
-    → fill_each (map fill (map bare (map (λ z. z.0) ys))) (joined (map slots (map (λ z. z.0) ys)) ++ rest)
-    ≡ (map (λ z. z.0) ys, rest)
-each [] rest = refl
-each (y ∷ ys) rest =
-    let more = joined (map slots (map (λ (z : E). z.0) ys)) in
-    let fills = map fill (map bare (map (λ (z : E). z.0) ys)) in
+exprs_filled : (ys : List (With P)) (rest : Slots)
+    → fill_each (map fill (map bare (elements ys))) (joined (map slots (elements ys)) ++ rest)
+    ≡ (elements ys, rest)
+exprs_filled [] rest = refl
+exprs_filled (y ∷ ys) rest =
+    let more = joined (map slots (elements ys)) in
+    let fills = map fill (map bare (elements ys)) in
     let go : Expr → Slots → Made (List Expr) = λ x ds. then (fill_each fills ds) (λ xs es. (x ∷ xs, es)) in
     ap (λ l. then (fill (bare y.0) l) go) (append_assoc (slots y.0) more rest)
-    ∙ made_then go (y.1 (more ++ rest)) ∙ made_then (λ xs es. (y.0 ∷ xs, es)) (each ys rest)
+    ∙ made_then go (y.1 (more ++ rest)) ∙ made_then (λ xs es. (y.0 ∷ xs, es)) (exprs_filled ys rest)
 
-each_case : (ys : List K) (rest : Slots)
-    → fill_each (map fill_in_case (map bare_of_case (map (λ z. z.0) ys)))
-    (joined (map case_slots (map (λ z. z.0) ys)) ++ rest)
-    ≡ (map (λ z. z.0) ys, rest)
+each_case : (ys : List (With Q)) (rest : Slots)
+    → fill_each (map fill_in_case (map bare_of_case (elements ys)))
+    (joined (map case_slots (elements ys)) ++ rest)
+    ≡ (elements ys, rest)
 each_case [] rest = refl
 each_case (y ∷ ys) rest =
-    let more = joined (map case_slots (map (λ (z : K). z.0) ys)) in
-    let fills = map fill_in_case (map bare_of_case (map (λ (z : K). z.0) ys)) in
+    let more = joined (map case_slots (elements ys)) in
+    let fills = map fill_in_case (map bare_of_case (elements ys)) in
     let go : Case → Slots → Made (List Case) = λ x ds. then (fill_each fills ds) (λ xs es. (x ∷ xs, es)) in
     ap (λ l. then (fill_in_case (bare_of_case y.0) l) go) (append_assoc (case_slots y.0) more rest)
     ∙ made_then go (y.1 (more ++ rest)) ∙ made_then (λ xs es. (y.0 ∷ xs, es)) (each_case ys rest)
-
-abbrev expr_below : layer.Expr-F E K → layer.Expr-F Expr Case
-expr_below = map-Expr E K Expr Case (λ z. z.0) (λ z. z.0)
-
-abbrev case_below : layer.Case-F E K → layer.Case-F Expr Case
-case_below = map-Case E K Expr Case (λ z. z.0) (λ z. z.0)
 
 opened : (y : layer.Expr-F Expr Case) (e : Expr) (cs : Slots) → roll-Expr y ≡ e
     → fill e cs ≡ fill_step (map-Expr Expr Case Fill FillCase fill fill_in_case y) cs
@@ -137,10 +127,10 @@ opened y e cs is =
 three : (a b c d : Slots) → (a ++ b ++ c) ++ d ≡ a ++ (b ++ (c ++ d))
 three a b c d = append_assoc (a ++ b) c d ∙ append_assoc a b (c ++ d)
 
-level : (y : layer.Expr-F E K) (rest : Slots)
-    → fill (bare_step (map-Expr Expr Case Expr Case bare bare_of_case (expr_below y)))
-    (slot_step (map-Expr Expr Case Slots Slots slots case_slots (expr_below y)) ++ rest)
-    ≡ (roll-Expr (expr_below y), rest)
+level : (y : layer.Expr-F (With P) (With Q)) (rest : Slots)
+    → fill (bare_step (map-Expr Expr Case Expr Case bare bare_of_case (under y)))
+    (slot_step (map-Expr Expr Case Slots Slots slots case_slots (under y)) ++ rest)
+    ≡ (roll-Expr (under y), rest)
 level (layer.Int n) rest = opened (layer.Int n) _ _ (prog.rolls-Int n)
 level (layer.Bool b) rest = opened (layer.Bool b) _ _ (prog.rolls-Bool b)
 level (layer.Var i) rest = opened (layer.Var i) _ _ (prog.rolls-Var i)
@@ -155,9 +145,9 @@ level (layer.Binary op a b check) rest =
     ∙ ap (λ l. then (fill (bare a.0) l) from) (three (slots a.0) (slots b.0) (check ∷ []) rest)
     ∙ made_then from (a.1 _) ∙ made_then (go a.0) (b.1 _)
 level (layer.Construct c args) rest =
-    let es = map bare (map (λ (z : E). z.0) args) in
+    let es = map bare (elements args) in
     opened (layer.Construct c es) _ _ (prog.rolls-Construct c es)
-    ∙ made_then (λ xs ds. (roll-Expr (layer.Construct c xs), ds)) (each args rest)
+    ∙ made_then (λ xs ds. (roll-Expr (layer.Construct c xs), ds)) (exprs_filled args rest)
 level (layer.Field e k) rest =
     opened (layer.Field (bare e.0) k) _ _ (prog.rolls-Field (bare e.0) k)
     ∙ made_then (λ x ds. (roll-Expr (layer.Field x k), ds)) (e.1 rest)
@@ -170,9 +160,9 @@ level (layer.If c a b) rest =
     ∙ ap (λ l. then (fill (bare c.0) l) from) (three (slots c.0) (slots a.0) (slots b.0) rest)
     ∙ made_then from (c.1 _) ∙ made_then (last c.0) (a.1 _) ∙ made_then (go c.0 a.0) (b.1 _)
 level (layer.Match e cases check) rest =
-    let cs = map bare_of_case (map (λ (z : K). z.0) cases) in
+    let cs = map bare_of_case (elements cases) in
     let here = layer.Match (bare e.0) cs None in
-    let more = joined (map case_slots (map (λ (z : K). z.0) cases)) in
+    let more = joined (map case_slots (elements cases)) in
     let go : Expr → Slots → List Case → Slots → Made Expr =
     λ x ds ys es. (roll-Expr (layer.Match x ys (first ds)), es) in
     let from : Expr → Slots → Made Expr = λ x ds. then (fill_each (map fill_in_case cs) (behind ds)) (go x ds) in
@@ -195,27 +185,27 @@ level (layer.Assert check c e) rest =
     ∙ ap (λ l. then (fill (bare c.0) l) from) (append_assoc (slots c.0) (Some check ∷ slots e.0) rest)
     ∙ made_then from (c.1 _) ∙ made_then (go c.0 (Some check ∷ (slots e.0 ++ rest))) (e.1 rest)
 level (layer.Call g args pre down) rest =
-    let es = map bare (map (λ (z : E). z.0) args) in
-    let more = joined (map slots (map (λ (z : E). z.0) args)) in
+    let es = map bare (elements args) in
+    let more = joined (map slots (elements args)) in
     let go : List Expr → Slots → Made Expr =
     λ xs ds. (roll-Expr (layer.Call g xs (first ds) (first (behind ds))), behind (behind ds)) in
     opened (layer.Call g es None None) _ _ (prog.rolls-Call g es None None)
     ∙ ap (λ l. then (fill_each (map fill es) l) go) (append_assoc more (pre ∷ down ∷ []) rest)
-    ∙ made_then go (each args _)
+    ∙ made_then go (exprs_filled args _)
 
-at_level : (y : layer.Expr-F E K) → P (roll-Expr (expr_below y))
+at_level : (y : layer.Expr-F (With P) (With Q)) → P (roll-Expr (under y))
 at_level y rest =
-    let z = expr_below y in
+    let z = under y in
     ap (λ e. fill e (slots (roll-Expr z) ++ rest)) (fold-roll-Expr Expr Case bare_step bare_case z)
     ∙ ap (λ l. fill (bare_step (map-Expr Expr Case Expr Case bare bare_of_case z)) (l ++ rest))
     (fold-roll-Expr Slots Slots slot_step case_step z)
     ∙ level y rest
 
-at_parts : (p : Pattern) (o : Option E) (b : E) (rest : Slots)
-    → let y : layer.Case-F E K = record { pattern = p; guard = o; body = b } in
-    fill_in_case (bare_case (map-Case Expr Case Expr Case bare bare_of_case (case_below y)))
-    (case_step (map-Case Expr Case Slots Slots slots case_slots (case_below y)) ++ rest)
-    ≡ (roll-Case (case_below y), rest)
+at_parts : (p : Pattern) (o : Option (With P)) (b : With P) (rest : Slots)
+    → let y : layer.Case-F (With P) (With Q) = record { pattern = p; guard = o; body = b } in
+    fill_in_case (bare_case (map-Case Expr Case Expr Case bare bare_of_case (case_under Q y)))
+    (case_step (map-Case Expr Case Slots Slots slots case_slots (case_under Q y)) ++ rest)
+    ≡ (roll-Case (case_under Q y), rest)
 at_parts p None b rest =
     ap (λ (f : FillCase). f (slots b.0 ++ rest))
     (fold-roll-Case Fill FillCase fill_step fill_case (record { pattern = p; guard = None; body = bare b.0 }))
@@ -230,9 +220,9 @@ at_parts p (Some g) b rest =
     ∙ ap (λ l. then (fill (bare g.0) l) from) (append_assoc (slots g.0) (slots b.0) rest)
     ∙ made_then from (g.1 _) ∙ made_then (go g.0) (b.1 rest)
 
-at_case : (y : layer.Case-F E K) → Q (roll-Case (case_below y))
+at_case : (y : layer.Case-F (With P) (With Q)) → Q (roll-Case (case_under Q y))
 at_case y rest =
-    let z = case_below y in
+    let z = case_under Q y in
     ap (λ c. fill_in_case c (case_slots (roll-Case z) ++ rest)) (fold-roll-Case Expr Case bare_step bare_case z)
     ∙ ap (λ l. fill_in_case (bare_case (map-Case Expr Case Expr Case bare bare_of_case z)) (l ++ rest))
     (fold-roll-Case Slots Slots slot_step case_step z)
@@ -240,5 +230,4 @@ at_case y rest =
 
 -- the form without numbers, filled with the slots of the expression, is the expression
 pub refilled : (e : Expr) → P e
-refilled = ind-Expr P Q (λ x y is. subst (λ z. P (roll-Expr z)) is (at_level y))
-    (λ x y is. subst (λ z. Q (roll-Case z)) is (at_case y))
+refilled = each_expr P Q at_level at_case

@@ -1,6 +1,6 @@
 -- The checks of an expression: a slot at each site that may carry one, in the order of the sites.
 use Rattle.std.proofs.Common.{List, [], ◌∷◌, ◌++◌, map, Option, Some, None}
-use Rattle.pp_prog.specs.Calls.{joined, or_none}
+use Rattle.pp_list.specs.Joined.{joined, or_none}
 use Rattle.pp_prog.specs.Listing.{Site, plain, division, assertion, precondition, measure, matching, postcondition}
 use Rattle.pp_prog.specs.declared.expr.Case.{Case}
 use Rattle.pp_prog.specs.declared.expr.Expr.{Expr}

@@ -1,9 +1,13 @@
 -- The sites of an expression that has a sort have its slots.
 use Rattle.std.proofs.Common.{◌≡◌, true, List, [], ◌∷◌, ◌++◌, map, Option, Some, None, slice_get, refl, sym, ap, ◌∙◌}
-use Rattle.std.proofs.Common.{subst, Bool, false}
+use Rattle.std.proofs.Common.{Bool, false}
 use Rattle.std.proofs.lemmas.Bool.{and_parts}
 use Rattle.std.proofs.lemmas.List.{map-append}
-use Rattle.pp_prog.specs.Calls.{joined}
+use Rattle.pp_list.proofs.With.{With, elements}
+use Rattle.pp_prog.proofs.Induction.{case_under, each_expr, under}
+use Rattle.pp_prog.specs.ExprSorts.{case_sorts}
+use Rattle.pp_prog.specs.Listing.{sites_in_case}
+use Rattle.pp_list.specs.Joined.{joined}
 use Rattle.pp_prog.specs.ExprSorts.{Arm, Sorting, alike, arm_sort, arm_step, arm_with, arms_like, arms_sort, field_sort}
 use Rattle.pp_prog.specs.ExprSorts.{is_sorted, is_sorted_measure, is_sorted_post, is_sorted_pre, sort_of, sort_step}
 use Rattle.pp_prog.specs.ExprSorts.{sorts_in}
@@ -16,8 +20,8 @@ use Rattle.pp_operators.specs.Classes.{is_division}
 use Rattle.pp_tree.specs.declared.operator.BinaryOp.{BinaryOp}
 use Rattle.pp_prog.specs.declared.expr.Case.{Case}
 use Rattle.pp_prog.specs.declared.expr.Expr.{Expr}
-use Rattle.pp_prog.specs.declared.expr.Expr.TheFolds.{fold-Case, fold-roll-Case, fold-roll-Expr, ind-Expr, map-Case}
-use Rattle.pp_prog.specs.declared.expr.Expr.TheFolds.{map-Expr, para-Case, para-roll-Case, para-roll-Expr}
+use Rattle.pp_prog.specs.declared.expr.Expr.TheFolds.{fold-roll-Case, fold-roll-Expr, map-Case}
+use Rattle.pp_prog.specs.declared.expr.Expr.TheFolds.{map-Expr, para-roll-Case, para-roll-Expr}
 use Rattle.pp_prog.specs.declared.expr.Expr.TheOpen as layer
 use Rattle.pp_prog.specs.declared.expr.Expr.TheViews.{roll-Case, roll-Expr}
 use Rattle.pp_prog.specs.declared.expr.Function.{Function}
@@ -47,13 +51,13 @@ module _ (types : TypeTable) (fs : List Function) where
   S = sort_of types fs
 
   abbrev arm_of : Case → Arm
-  arm_of = fold-Case Sorting Arm (sort_step types fs) arm_step
+  arm_of = case_sorts types fs
 
   abbrev In : Expr → Sites
   In = sites types fs
 
   abbrev in_case : Case → CaseSites
-  in_case = para-Case Sites CaseSites (site_step types fs) (case_sites types fs)
+  in_case = sites_in_case types fs
 
   abbrev beside : Expr → Expr × Sites
   beside x = (x, In x)
@@ -68,37 +72,25 @@ module _ (types : TypeTable) (fs : List Function) where
   Q c = (s : Sort) (scope : List Sort) (u : Sort) → arm_sort types fs (arm_of c) s scope ≡ Some u
       → map slot_of (in_case c s scope) ≡ case_slots c
 
-  abbrev E : Type 0
-  E = (e : Expr) × P e
-
-  abbrev K : Type 0
-  K = (c : Case) × Q c
-
-  abbrev expr_below : layer.Expr-F E K → layer.Expr-F Expr Case
-  expr_below = map-Expr E K Expr Case (λ z. z.0) (λ z. z.0)
-
-  abbrev case_below : layer.Case-F E K → layer.Case-F Expr Case
-  case_below = map-Case E K Expr Case (λ z. z.0) (λ z. z.0)
-
-  each : (ys : List E) (scope ts : List Sort) → sorts_in scope (map S (map (λ (z : E). z.0) ys)) ≡ map Some ts
-      → map slot_of (sites_of_all (map beside (map (λ (z : E). z.0) ys)) scope)
-      ≡ joined (map slots (map (λ (z : E). z.0) ys))
-  each [] scope ts h = refl
-  each (y ∷ ys) scope [] h = cc
-  each (y ∷ ys) scope (t ∷ ts) h =
+  exprs_slotted : (ys : List (With P)) (scope ts : List Sort) → sorts_in scope (map S (elements ys)) ≡ map Some ts
+      → map slot_of (sites_of_all (map beside (elements ys)) scope)
+      ≡ joined (map slots (elements ys))
+  exprs_slotted [] scope ts h = refl
+  exprs_slotted (y ∷ ys) scope [] h = cc
+  exprs_slotted (y ∷ ys) scope (t ∷ ts) h =
       let one : S y.0 scope ≡ Some t = cc in
-      let more : sorts_in scope (map S (map (λ (z : E). z.0) ys)) ≡ map Some ts = cc in
-      both_slotted (In y.0 scope) (sites_of_all (map beside (map (λ (z : E). z.0) ys)) scope) (y.1 scope t one)
-      (each ys scope ts more)
+      let more : sorts_in scope (map S (elements ys)) ≡ map Some ts = cc in
+      both_slotted (In y.0 scope) (sites_of_all (map beside (elements ys)) scope) (y.1 scope t one)
+      (exprs_slotted ys scope ts more)
 
-  abbrev in_cases : List K → Sort → List Sort → List Site
-  in_cases ys s scope = sites_of_cases (map case_beside (map (λ (z : K). z.0) ys)) s scope
+  abbrev in_cases : List (With Q) → Sort → List Sort → List Site
+  in_cases ys s scope = sites_of_cases (map case_beside (elements ys)) s scope
 
-  abbrev slots_in : List K → Slots
-  slots_in ys = joined (map case_slots (map (λ (z : K). z.0) ys))
+  abbrev slots_in : List (With Q) → Slots
+  slots_in ys = joined (map case_slots (elements ys))
 
-  each_case : (ys : List K) (t : Option Sort) (s : Sort) (scope : List Sort) (u : Sort)
-      → arms_like types fs t (map arm_of (map (λ (z : K). z.0) ys)) s scope ≡ Some u
+  each_case : (ys : List (With Q)) (t : Option Sort) (s : Sort) (scope : List Sort) (u : Sort)
+      → arms_like types fs t (map arm_of (elements ys)) s scope ≡ Some u
       → (t ≡ Some u) × (map slot_of (in_cases ys s scope) ≡ slots_in ys)
   each_case [] t s scope u h = (h, refl)
   each_case (y ∷ ys) t s scope u h =
@@ -107,8 +99,8 @@ module _ (types : TypeTable) (fs : List Function) where
       let both = alike_are t here u rest.0 in
       (both.0, both_slotted (in_case y.0 s scope) (in_cases ys s scope) (y.1 s scope u both.1) rest.1)
 
-  all_cases : (ys : List K) (s : Sort) (scope : List Sort) (u : Sort)
-      → arms_sort types fs (map arm_of (map (λ (z : K). z.0) ys)) s scope ≡ Some u
+  all_cases : (ys : List (With Q)) (s : Sort) (scope : List Sort) (u : Sort)
+      → arms_sort types fs (map arm_of (elements ys)) s scope ≡ Some u
       → map slot_of (in_cases ys s scope) ≡ slots_in ys
   all_cases [] s scope u h = cc
   all_cases (y ∷ ys) s scope u h =
@@ -124,9 +116,9 @@ module _ (types : TypeTable) (fs : List Function) where
   abbrev slot_parts : layer.Expr-F Expr Case → layer.Expr-F Slots Slots
   slot_parts = map-Expr Expr Case Slots Slots slots case_slots
 
-  level : (y : layer.Expr-F E K) (scope : List Sort) (s : Sort)
-      → sort_step types fs (sort_parts (expr_below y)) scope ≡ Some s
-      → map slot_of (site_step types fs (site_parts (expr_below y)) scope) ≡ slot_step (slot_parts (expr_below y))
+  level : (y : layer.Expr-F (With P) (With Q)) (scope : List Sort) (s : Sort)
+      → sort_step types fs (sort_parts (under y)) scope ≡ Some s
+      → map slot_of (site_step types fs (site_parts (under y)) scope) ≡ slot_step (slot_parts (under y))
   level (layer.Int n) scope s h = refl
   level (layer.Bool b) scope s h = refl
   level (layer.Var i) scope s h = refl
@@ -137,8 +129,8 @@ module _ (types : TypeTable) (fs : List Function) where
       (both_slotted (In a.0 scope) (In b.0 scope) (a.1 scope t.0.0 t.0.1) (b.1 scope t.1.0 t.1.1))
       (operator_slot op check)
   level (layer.Construct c args) scope s h =
-      let k = tree_sort_is (slice_get types.ctors c.0) (sorts_in scope (map S (map (λ (z : E). z.0) args))) s h in
-      each args scope k.0.fields k.2
+      let k = tree_sort_is (slice_get types.ctors c.0) (sorts_in scope (map S (elements args))) s h in
+      exprs_slotted args scope k.0.fields k.2
   level (layer.Field e k) scope s h =
       let t = tree_then (S e.0 scope) (λ d. field_sort types fs d k) s h in e.1 scope _ t.1
   level (layer.If c a b) scope s h =
@@ -147,8 +139,8 @@ module _ (types : TypeTable) (fs : List Function) where
       both_slotted (In c.0 scope ++ In a.0 scope) (In b.0 scope)
       (both_slotted (In c.0 scope) (In a.0 scope) (c.1 scope _ t.0) (a.1 scope s both.0)) (b.1 scope s both.1)
   level (layer.Match e cases check) scope s h =
-      let arms = map arm_of (map (λ (z : K). z.0) cases) in
-      let cs = map case_beside (map (λ (z : K). z.0) cases) in
+      let arms = map arm_of (elements cases) in
+      let cs = map case_beside (elements cases) in
       let go : Sort → List Site = λ u. matching u (unguarded cs) check ∷ sites_of_cases cs u scope in
       let t = sort_then (S e.0 scope) (λ u. arms_sort types fs arms u scope) s h in
       both_slotted (In e.0 scope) (at_sort (S e.0 scope) go) (e.1 scope t.0 t.1)
@@ -162,26 +154,26 @@ module _ (types : TypeTable) (fs : List Function) where
       let t = bool_then (S c.0 scope) (S e.0 scope) s h in
       both_slotted (In c.0 scope) _ (c.1 scope _ t.0) (ap (λ l. Some check ∷ l) (e.1 scope s t.1))
   level (layer.Call g args pre down) scope s h =
-      let k = call_sort_is (slice_get fs g.0) (sorts_in scope (map S (map (λ (z : E). z.0) args))) s h in
-      both_slotted (sites_of_all (map beside (map (λ (z : E). z.0) args)) scope) _
-      (each args scope (param_sorts k.0.params) k.2) refl
+      let k = call_sort_is (slice_get fs g.0) (sorts_in scope (map S (elements args))) s h in
+      both_slotted (sites_of_all (map beside (elements args)) scope) _
+      (exprs_slotted args scope (param_sorts k.0.params) k.2) refl
 
-  at_level : (y : layer.Expr-F E K) → P (roll-Expr (expr_below y))
+  at_level : (y : layer.Expr-F (With P) (With Q)) → P (roll-Expr (under y))
   at_level y scope s h =
-      let z = expr_below y in
+      let z = under y in
       ap (λ (f : Sites). map slot_of (f scope))
       (para-roll-Expr Sites CaseSites (site_step types fs) (case_sites types fs) z)
       ∙ level y scope s
       (sym (ap (λ (f : Sorting). f scope) (fold-roll-Expr Sorting Arm (sort_step types fs) arm_step z)) ∙ h)
       ∙ sym (fold-roll-Expr Slots Slots slot_step case_step z)
 
-  plain_arm : (b : E) (scope : List Sort) (u : Sort) (p : Pattern) (bound : Option (List Sort))
+  plain_arm : (b : With P) (scope : List Sort) (u : Sort) (p : Pattern) (bound : Option (List Sort))
       → arm_with (record { pattern = p; guard = None; body = S b.0 }) scope bound ≡ Some u
       → map slot_of (with_bound bound (λ more. In b.0 (scope ++ more))) ≡ slots b.0
   plain_arm b scope u p None h = cc
   plain_arm b scope u p (Some bound) h = b.1 (scope ++ bound) u h
 
-  guarded_arm : (g b : E) (scope : List Sort) (u : Sort) (p : Pattern) (bound : Option (List Sort))
+  guarded_arm : (g b : With P) (scope : List Sort) (u : Sort) (p : Pattern) (bound : Option (List Sort))
       → arm_with (record { pattern = p; guard = Some (S g.0); body = S b.0 }) scope bound ≡ Some u
       → map slot_of (with_bound bound (λ more. In g.0 (scope ++ more) ++ In b.0 (scope ++ more)))
       ≡ slots g.0 ++ slots b.0
@@ -194,17 +186,17 @@ module _ (types : TypeTable) (fs : List Function) where
   abbrev case_parts : layer.Case-F Expr Case → layer.Case-F (Expr × Sites) (Case × CaseSites)
   case_parts = map-Case Expr Case (Expr × Sites) (Case × CaseSites) beside case_beside
 
-  at_parts : (p : Pattern) (o : Option E) (b : E) (s : Sort) (scope : List Sort) (u : Sort)
-      → let z = case_below (record { pattern = p; guard = o; body = b }) in
+  at_parts : (p : Pattern) (o : Option (With P)) (b : With P) (s : Sort) (scope : List Sort) (u : Sort)
+      → let z = case_under Q (record { pattern = p; guard = o; body = b }) in
       arm_sort types fs (arm_step (map-Case Expr Case Sorting Arm S arm_of z)) s scope ≡ Some u
       → map slot_of (case_sites types fs (case_parts z) s scope)
       ≡ case_step (map-Case Expr Case Slots Slots slots case_slots z)
   at_parts p None b s scope u h = plain_arm b scope u p (bound_sorts types.ctors p s) h
   at_parts p (Some g) b s scope u h = guarded_arm g b scope u p (bound_sorts types.ctors p s) h
 
-  at_case : (y : layer.Case-F E K) → Q (roll-Case (case_below y))
+  at_case : (y : layer.Case-F (With P) (With Q)) → Q (roll-Case (case_under Q y))
   at_case y s scope u h =
-      let z = case_below y in
+      let z = case_under Q y in
       ap (λ (f : CaseSites). map slot_of (f s scope))
       (para-roll-Case Sites CaseSites (site_step types fs) (case_sites types fs) z)
       ∙ at_parts y.pattern y.guard y.body s scope u
@@ -213,8 +205,7 @@ module _ (types : TypeTable) (fs : List Function) where
       ∙ sym (fold-roll-Case Slots Slots slot_step case_step z)
 
   sites_slots : (e : Expr) → P e
-  sites_slots = ind-Expr P Q (λ x y is. subst (λ z. P (roll-Expr z)) is (at_level y))
-      (λ x y is. subst (λ z. Q (roll-Case z)) is (at_case y))
+  sites_slots = each_expr P Q at_level at_case
 
   pre_has : (pre : Option Expr) (scope : List Sort) → is_sorted_pre types fs pre scope ≡ true
       → map slot_of (pre_sites types fs pre scope) ≡ pre_slots pre

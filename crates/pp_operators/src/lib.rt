@@ -2,8 +2,8 @@
 //! same sort, and may take as many gates. So what holds of sorts and gates is said once a class, and not once an
 //! operator.
 //!
-//! `specs/Classes.antt` has the class of each operator, and `specs/Gates.antt` how many gates operators on numbers may
-//! take.
+//! `specs/Classes.antt` has the class of each operator, `specs/Sorts.antt` which sorts a class takes and gives, for the
+//! sorts of any layer, and `specs/Gates.antt` how many gates operators on numbers may take.
 #![tactic(auto)]
 
 mod class;

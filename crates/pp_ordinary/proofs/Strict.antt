@@ -1,20 +1,16 @@
 -- The tokens of a text begin at offsets of their own.
 use Rattle.std.proofs.Common.{◌≡◌, ◌≢◌, ◌+◌, ◌<◌, ◌≤◌, ℕ, List, [], ◌∷◌, ◌++◌, All, IsUtf8, length}
-use Rattle.std.proofs.Common.{ap, arith, lit≤, refl, subst, sym, true}
+use Rattle.std.proofs.Common.{ap, arith, refl, subst, sym, true}
 use Rattle.std.specs.Char.{len_utf8}
 use Rattle.std.proofs.lemmas.List.Sums.{sum_by-cons}
 use Rattle.std.proofs.lemmas.Str.{len_utf8_bounds}
 use Rattle.pp_declared.proofs.Steps.{all_first, all_rest}
+use Rattle.pp_tokens.proofs.Counts.{some_mark, some_operator}
 use Rattle.pp_tokens.specs.Characters.{goes_on_with, starts_name, width}
 use Rattle.pp_tokens.specs.Cutting.{token}
 use Rattle.pp_tokens.specs.Layout.{IsToken}
-use Rattle.pp_tokens.specs.Operators.{mark_text, operator_text}
 use Rattle.pp_tokens.specs.Spans.{AreInOrder}
 use Rattle.pp_tokens.specs.Tokens.{spelled, tokens_of}
-use Rattle.pp_tokens.specs.declared.token.Bracket.{Bracket}
-use Rattle.pp_tokens.specs.declared.token.Bracket.TheVariants.{OpenRound}
-use Rattle.pp_tokens.specs.declared.token.Operator.{Operator}
-use Rattle.pp_tokens.specs.declared.token.Operator.TheVariants.{Plus}
 use Rattle.pp_tokens.specs.declared.token.Token.{Token}
 use Rattle.pp_tokens.specs.declared.token.TokenKind.{TokenKind}
 use Rattle.pp_tokens.specs.declared.token.TokenKind.TheVariants.{Name, Word, Number, Hex, Op, Mark, Hole, Newline, End}
@@ -33,14 +29,6 @@ wide (c ∷ cs) h = omega (arith, (len_utf8_bounds c).0, sum_by-cons len_utf8 c 
 some_name : (cs : List ℕ) → goes_on_with starts_name cs ≡ true → 1 ≤ length cs
 some_name [] e = cc
 some_name (c ∷ cs) e = omega arith
-
-some_operator : (o : Operator) → 1 ≤ length (operator_text o)
-some_operator Plus = lit≤ tt
-some_operator _ = lit≤ tt
-
-some_mark : (b : Bracket) → 1 ≤ length (mark_text b)
-some_mark OpenRound = lit≤ tt
-some_mark _ = lit≤ tt
 
 some_token : (k : TokenKind) (cs after : List ℕ) → IsToken k cs after → 1 ≤ length cs
 some_token Name cs after h = some_name cs h.0.starts

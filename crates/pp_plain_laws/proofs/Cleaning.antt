@@ -2,9 +2,11 @@
 use Rattle.std.proofs.Common.{◌≡◌, ◌⊎◌, ℕ, ◌≤◌, Bool, true, false, List, ◌++◌, Option, Some, None, refl, sym, ap, ◌∙◌}
 use Rattle.std.proofs.Common.{subst, arith, inl, inr, ⊎_elim}
 use Rattle.std.specs.Option.{option_map}
+use Rattle.pp_list.proofs.With.{With}
+use Rattle.pp_prog.proofs.Induction.{case_under, each_expr, under}
 use Rattle.pp_prog.specs.declared.expr.Case.{Case}
 use Rattle.pp_prog.specs.declared.expr.Expr.{Expr}
-use Rattle.pp_prog.specs.declared.expr.Expr.TheFolds.{fold-roll-Case, fold-roll-Expr, ind-Expr, map-Case}
+use Rattle.pp_prog.specs.declared.expr.Expr.TheFolds.{fold-roll-Case, fold-roll-Expr, map-Case}
 use Rattle.pp_prog.specs.declared.expr.Expr.TheFolds.{para-roll-Case, para-roll-Expr}
 use Rattle.pp_prog.specs.declared.expr.Expr.TheOpen as layer
 use Rattle.pp_prog.specs.declared.expr.Expr.TheViews.{roll-Case, roll-Expr}
@@ -14,14 +16,14 @@ use Rattle.pp_prog.specs.declared.program.Program.{Program}
 use Rattle.pp_prog.specs.declared.sort.Sort.{Sort}
 use Rattle.pp_prog.specs.declared.sort.Sort.TheVariants as sort
 use Rattle.pp_prog.specs.declared.value.Value.{Value}
-use Rattle.pp_prog.specs.ExprSorts.{Sorting, alike, arm_with, field_sort, sort_of, sort_step, sorts_in}
+use Rattle.pp_prog.specs.ExprSorts.{Sorting, arm_with, sort_step}
 use Rattle.pp_prog.specs.ExprSorts as sorts
 use Rattle.pp_prog.specs.Fits.{fit}
 use Rattle.pp_prog.specs.Listing.{CaseSites, Sites, case_sites, guard_sites, site_step, with_bound}
 use Rattle.pp_prog.specs.PatternSorts.{bound_sorts}
 use Rattle.pp_prog.specs.Values.{IsBelow}
-use Rattle.pp_eval.specs.Meaning.{CallMeaning, Frame, Meaning, all_from, arm, attempt, attempt_with, binary, field}
-use Rattle.pp_eval.specs.Meaning.{first_case, guarded, meaning, meaning_step, or_next, taken}
+use Rattle.pp_eval.specs.Meaning.{CallMeaning, Frame, Meaning, attempt, attempt_with}
+use Rattle.pp_eval.specs.Meaning.{meaning_step, taken}
 use Rattle.pp_eval.specs.Meaning as mean
 use Rattle.pp_eval.specs.Part.{Part}
 use Rattle.pp_prog.proofs.ValueSorts.{Has, Have, have_more}
@@ -33,9 +35,8 @@ use Rattle.pp_plain_laws.proofs.Counts.{count_append, places_append}
 use Rattle.pp_plain_laws.proofs.Patterns.{pattern_marked}
 use Rattle.pp_plain_laws.proofs.Scope.{IsClean, clean_then, clean_value, more_in_scope, truth_clean}
 use Rattle.pp_plain_laws.proofs.Setting.{Setting, below_trans, Sorted, Placed, Meant, Looked, SortedArm, PlacedArm}
-use Rattle.pp_plain_laws.proofs.Setting.{MeantArm, LookedArm, found_in, carried_by, InScope, IsLive, IsExpr, IsCase, E}
-use Rattle.pp_plain_laws.proofs.Setting.{K}
-use Rattle.pp_plain_laws.proofs.Levels.{level_clean, level_few, level_variable, looked, under}
+use Rattle.pp_plain_laws.proofs.Setting.{MeantArm, LookedArm, found_in, carried_by, InScope, IsLive, IsExpr, IsCase}
+use Rattle.pp_plain_laws.proofs.Levels.{level_clean, level_few, level_variable, looked}
 
 module _ (x : Setting) where
   abbrev p : Program
@@ -61,11 +62,12 @@ module _ (x : Setting) where
 
   -- ---- one case
 
-  abbrev guard_expr : Option (E x) → Option Expr
+  abbrev guard_expr : Option (With (IsExpr x)) → Option Expr
   guard_expr None = None
   guard_expr (Some g) = Some g.0
 
-  few_parts : (pattern : Pattern) (o : Option (E x)) (b : (E x)) (ss : Option (List Sort)) (u : Sort)
+  few_parts : (pattern : Pattern) (o : Option (With (IsExpr x))) (b : With (IsExpr x)) (ss : Option (List Sort))
+      (u : Sort)
       (scope : List Sort)
       → arm_with (record { pattern = pattern; guard = option_map (Sorted x) (guard_expr o); body = (Sorted x) b.0 })
       scope ss ≡ Some u
@@ -90,7 +92,8 @@ module _ (x : Setting) where
   taken_clean false body h = clean_value
 
   -- guard and body, where the pattern fits
-  fitted : (pattern : Pattern) (o : Option (E x)) (b : (E x)) (ts : List Sort) (u : Sort) (scope : List Sort)
+  fitted : (pattern : Pattern) (o : Option (With (IsExpr x))) (b : With (IsExpr x)) (ts : List Sort) (u : Sort)
+      (scope : List Sort)
       → arm_with (record { pattern = pattern; guard = option_map (Sorted x) (guard_expr o); body = (Sorted x) b.0 })
       scope (Some ts) ≡ Some u
       → AreMet p i (guard_sites (option_map (λ e. (e, (Placed x) e)) (guard_expr o)) (scope ++ ts) ++ (Placed x) b.0
@@ -120,7 +123,8 @@ module _ (x : Setting) where
       (λ t at. taken_clean t _ (b.1.clean (scope ++ ts) u are.1 (met_right _ _ met) (env ++ vs) have marks inside
       (omega (arith, fg, fb, d, f, tight))))
 
-  clean_parts : (pattern : Pattern) (o : Option (E x)) (b : (E x)) (s u : Sort) (scope : List Sort)
+  clean_parts : (pattern : Pattern) (o : Option (With (IsExpr x))) (b : With (IsExpr x)) (s u : Sort)
+      (scope : List Sort)
       (ss : Option (List Sort)) → bound_sorts p.types.ctors pattern s ≡ ss
       → arm_with (record { pattern = pattern; guard = option_map (Sorted x) (guard_expr o); body = (Sorted x) b.0 })
       scope ss ≡ Some u
@@ -155,9 +159,6 @@ module _ (x : Setting) where
       below_either w v (inl e) b = subst (IsBelow w) e b
       below_either w v (inr e) b = below_trans w v v0 b e
 
-  abbrev case_under : layer.Case-F (E x) (K x) → layer.Case-F Expr Case
-  case_under y = map-Case (E x) (K x) Expr Case (λ z. z.0) (λ z. z.0) y
-
   -- a case by its parts
   record IsCaseLevel (z : layer.Case-F Expr Case) : Type 0 where
     few : (s u : Sort) (scope : List Sort)
@@ -179,8 +180,8 @@ module _ (x : Setting) where
         → (v : Value) → Has p.types.ctors s v → (IsLive x) live v
         → IsClean c (attempt (mean.arm_step (map-Case Expr Case Meaning mean.Arm (Meant x) (MeantArm x) z)) v old env)
 
-  case_level : (pattern : Pattern) (o : Option (E x)) (b : (E x))
-      → IsCaseLevel (case_under (record { pattern = pattern; guard = o; body = b }))
+  case_level : (pattern : Pattern) (o : Option (With (IsExpr x))) (b : With (IsExpr x))
+      → IsCaseLevel (case_under (IsCase x) (record { pattern = pattern; guard = o; body = b }))
   case_level pattern None b = record {
     few =
         λ s u scope h live marks. few_parts pattern None b (bound_sorts p.types.ctors pattern s) u scope h
@@ -198,9 +199,9 @@ module _ (x : Setting) where
         inside tight v has lives (fit pattern v) refl;
   }
 
-  at_case : (y : layer.Case-F (E x) (K x)) → (IsCase x) (roll-Case (case_under y))
+  at_case : (y : layer.Case-F (With (IsExpr x)) (With (IsCase x))) → (IsCase x) (roll-Case (case_under (IsCase x) y))
   at_case y =
-      let z = case_under y in
+      let z = case_under (IsCase x) y in
       let l = case_level y.pattern y.guard y.body in
       let sort_is = fold-roll-Case Sorting sorts.Arm (sort_step p.types p.functions) sorts.arm_step z in
       let sites_are = para-roll-Case Sites CaseSites (site_step p.types p.functions) (case_sites p.types p.functions)
@@ -223,9 +224,9 @@ module _ (x : Setting) where
             (λ (a : CaseSites). (carried_by x) (a s scope)) sites_are) v has lives);
       }
 
-  at_level : (y : layer.Expr-F (E x) (K x)) → (IsExpr x) (roll-Expr ((under x) y))
+  at_level : (y : layer.Expr-F (With (IsExpr x)) (With (IsCase x))) → (IsExpr x) (roll-Expr (under y))
   at_level y =
-      let z = (under x) y in
+      let z = under y in
       let sort_is = fold-roll-Expr Sorting sorts.Arm (sort_step p.types p.functions) sorts.arm_step z in
       let sites_are = para-roll-Expr Sites CaseSites (site_step p.types p.functions) (case_sites p.types p.functions)
       z in
@@ -250,6 +251,4 @@ module _ (x : Setting) where
 
   -- an expression in which the check is carried by plain descents alone doesn't fail it
   pub expr_clean : (e : Expr) → (IsExpr x) e
-  expr_clean = ind-Expr (IsExpr x) (IsCase x)
-      (λ e y is. subst (λ z. (IsExpr x) (roll-Expr z)) is (at_level y))
-      (λ e y is. subst (λ z. (IsCase x) (roll-Case z)) is (at_case y))
+  expr_clean = each_expr (IsExpr x) (IsCase x) at_level at_case

@@ -2,6 +2,10 @@
 -- as often, the level doesn't fail it.
 use Rattle.std.proofs.Common.{◌≡◌, ◌⊎◌, ℕ, ◌+◌, ◌≤◌, nat_eq, Bool, true, false, ◌||◌, List, [], ◌∷◌, ◌++◌, map, Option}
 use Rattle.std.proofs.Common.{Some, None, Ok, slice_get, refl, sym, ap, ◌∙◌, subst, arith, inl, inr, eqb-true}
+use Rattle.pp_list.proofs.With.{With, elements}
+use Rattle.pp_prog.proofs.Induction.{under}
+use Rattle.pp_prog.specs.Listing.{with_case_sites, with_sites}
+use Rattle.pp_plain_laws.proofs.Setting.{IsCase, IsExpr}
 use Rattle.pp_graph.specs.Rows.{marked}
 use Rattle.pp_prog.specs.declared.check.CheckKind.{CheckKind}
 use Rattle.pp_prog.specs.declared.check.CheckKind.TheVariants as kind
@@ -17,14 +21,14 @@ use Rattle.pp_prog.specs.declared.program.Program.{Program}
 use Rattle.pp_prog.specs.declared.sort.Sort.{Sort}
 use Rattle.pp_prog.specs.declared.sort.Sort.TheVariants as sort
 use Rattle.pp_prog.specs.declared.value.Value.{Value}
-use Rattle.pp_prog.specs.ExprSorts.{Sorting, alike, arm_with, field_sort, sort_of, sort_step, sorts_in}
+use Rattle.pp_prog.specs.ExprSorts.{Sorting, alike, field_sort, sort_step, sorts_in}
 use Rattle.pp_prog.specs.ExprSorts as sorts
 use Rattle.pp_prog.specs.Listing.{CaseSites, Sites, as_kind, assertion, at_sort, matching, measure, operator_site}
 use Rattle.pp_prog.specs.Listing.{precondition, site_step, sites_of_all, sites_of_cases, unguarded}
 use Rattle.pp_prog.specs.Sorts.{param_sorts}
 use Rattle.pp_prog.specs.Values.{IsBelow}
-use Rattle.pp_eval.specs.Meaning.{CallMeaning, Frame, Meaning, all_from, arm, attempt, attempt_with, binary, field}
-use Rattle.pp_eval.specs.Meaning.{first_case, guarded, meaning, meaning_step, or_next, taken}
+use Rattle.pp_eval.specs.Meaning.{CallMeaning, Frame, Meaning, all_from, binary}
+use Rattle.pp_eval.specs.Meaning.{meaning_step}
 use Rattle.pp_eval.specs.Meaning as mean
 use Rattle.pp_eval.specs.Part.{found}
 use Rattle.pp_sound.proofs.Cases.{each_arm}
@@ -39,8 +43,8 @@ use Rattle.pp_plain_laws.proofs.Counts.{count_append, ids, uncounted, places_app
 use Rattle.pp_plain_laws.proofs.Scope.{IsClean, IsOther, clean_either, clean_stop, clean_then, clean_value, found_some}
 use Rattle.pp_plain_laws.proofs.Scope.{one_in_scope, other_stuck, truth_clean}
 use Rattle.pp_plain_laws.proofs.Setting.{GoesBelow, Setting, Sorted, Placed, Meant, Looked, SortedArm, PlacedArm}
-use Rattle.pp_plain_laws.proofs.Setting.{MeantArm, LookedArm, found_in, carried_by, InScope, IsLive, E, K, exprs, cases}
-use Rattle.pp_plain_laws.proofs.Setting.{with_sites, with_case_sites, list_few, list_clean, list_sorted, variable_at}
+use Rattle.pp_plain_laws.proofs.Setting.{MeantArm, LookedArm, found_in, carried_by, InScope, IsLive}
+use Rattle.pp_plain_laws.proofs.Setting.{list_few, list_clean, list_sorted, variable_at}
 use Rattle.pp_plain_laws.proofs.Setting.{cases_few, cases_clean, other_fails, valued}
 
 module _ (x : Setting) where
@@ -67,24 +71,22 @@ module _ (x : Setting) where
 
   -- ---- one level of an expression
 
-  abbrev pub under : layer.Expr-F (E x) (K x) → layer.Expr-F Expr Case
-  under y = map-Expr (E x) (K x) Expr Case (λ z. z.0) (λ z. z.0) y
-
-  abbrev pub sorted : layer.Expr-F (E x) (K x) → Sorting
+  abbrev pub sorted : layer.Expr-F (With (IsExpr x)) (With (IsCase x)) → Sorting
   sorted y = sort_step p.types p.functions (map-Expr Expr Case Sorting sorts.Arm (Sorted x) (SortedArm x) (under y))
 
-  abbrev pub placed : layer.Expr-F (E x) (K x) → Sites
+  abbrev pub placed : layer.Expr-F (With (IsExpr x)) (With (IsCase x)) → Sites
   placed y =
       site_step p.types p.functions (map-Expr Expr Case (Expr × Sites) (Case × CaseSites) (λ e. (e, (Placed x) e))
       (λ k. (k, (PlacedArm x) k)) (under y))
 
-  abbrev pub looked : layer.Expr-F (E x) (K x) → Seen
+  abbrev pub looked : layer.Expr-F (With (IsExpr x)) (With (IsCase x)) → Seen
   looked y = seen_step p.functions pp (map-Expr Expr Case Seen CaseDescents (Looked x) (LookedArm x) (under y))
 
-  abbrev pub meant : layer.Expr-F (E x) (K x) → Meaning
+  abbrev pub meant : layer.Expr-F (With (IsExpr x)) (With (IsCase x)) → Meaning
   meant y = meaning_step calls0 (map-Expr Expr Case Meaning mean.Arm (Meant x) (MeantArm x) (under y))
 
-  pub level_variable : (y : layer.Expr-F (E x) (K x)) (k : ℕ) → (looked y).0 ≡ Some k → (env : List Value)
+  pub level_variable : (y : layer.Expr-F (With (IsExpr x)) (With (IsCase x))) (k : ℕ) → (looked y).0 ≡ Some k
+      → (env : List Value)
       → meant y old env ≡ found (slice_get env k)
   level_variable (layer.Var j) k is env = let same : j ≡ k = cc in ap (λ n. found (slice_get env n)) same
   level_variable (layer.Int n) k is env = cc
@@ -108,7 +110,8 @@ module _ (x : Setting) where
   check_ids k None = refl
   check_ids k (Some d) = refl
 
-  pub level_few : (y : layer.Expr-F (E x) (K x)) (scope : List Sort) (s : Sort) → sorted y scope ≡ Some s
+  pub level_few : (y : layer.Expr-F (With (IsExpr x)) (With (IsCase x))) (scope : List Sort) (s : Sort)
+      → sorted y scope ≡ Some s
       → (marks : List Bool)
       → (found_in x) ((looked y).1 marks) ≤ (carried_by x) (placed y scope)
   level_few (layer.Int n) scope s h marks = omega arith
@@ -127,7 +130,7 @@ module _ (x : Setting) where
         places_append c.0 ((Placed x) a.0 scope) ((Placed x) b.0 scope),
       )
   level_few (layer.Construct d args) scope s h marks =
-      let k = tree_sort_is (slice_get p.types.ctors d.0) (sorts_in scope (map (Sorted x) ((exprs x) args))) s h in
+      let k = tree_sort_is (slice_get p.types.ctors d.0) (sorts_in scope (map (Sorted x) (elements args))) s h in
       (list_few x) args k.0.fields scope k.2 marks
   level_few (layer.Field e k) scope s h marks =
       let d = tree_then ((Sorted x) e.0 scope) (λ d. field_sort p.types p.functions d k) s h in
@@ -146,8 +149,8 @@ module _ (x : Setting) where
         places_append c.0 ((Placed x) t.0 scope) ((Placed x) a.0 scope),
       )
   level_few (layer.Match e ys check) scope s h marks =
-      let arms = map (SortedArm x) ((cases x) ys) in
-      let placed_cases = (with_case_sites x) ((cases x) ys) in
+      let arms = map (SortedArm x) (elements ys) in
+      let placed_cases = with_case_sites p.types p.functions (elements ys) in
       let t = sort_then ((Sorted x) e.0 scope) (λ t. sorts.arms_sort p.types p.functions arms t scope) s h in
       let live = is_live pp marks ((Looked x) e.0).0 in
       let after : (carried_by x) (at_sort ((Sorted x) e.0 scope) (λ t. matching t (unguarded placed_cases) check ∷
@@ -160,7 +163,7 @@ module _ (x : Setting) where
         e.1.few scope t.0 t.1 marks,
         (cases_few x) ys t.0 s scope (each_arm p t.0 s scope arms t.2) live marks,
         after,
-        count_append c.0 (((Looked x) e.0).1 marks) (in_cases (map (LookedArm x) ((cases x) ys)) live marks),
+        count_append c.0 (((Looked x) e.0).1 marks) (in_cases (map (LookedArm x) (elements ys)) live marks),
         places_append c.0 ((Placed x) e.0 scope) (at_sort ((Sorted x) e.0 scope)
             (λ t. matching t (unguarded placed_cases) check ∷ sites_of_cases placed_cases t scope)),
       )
@@ -188,15 +191,15 @@ module _ (x : Setting) where
         places_append c.0 ((Placed x) t.0 scope) (assertion check ∷ (Placed x) rest.0 scope),
       )
   level_few (layer.Call g args pre down) scope s h marks =
-      let f = call_sort_is (slice_get p.functions g.0) (sorts_in scope (map (Sorted x) ((exprs x) args))) s h in
-      let plain = goes_down (first_param_of (slice_get p.functions g.0)) (map (Looked x) ((exprs x) args)) marks in
+      let f = call_sort_is (slice_get p.functions g.0) (sorts_in scope (map (Sorted x) (elements args))) s h in
+      let plain = goes_down (first_param_of (slice_get p.functions g.0)) (map (Looked x) (elements args)) marks in
       omega (
         arith,
         (list_few x) args (param_sorts f.0.params) scope f.2 marks,
         when_few plain (as_check down),
         check_ids kind.Measure down,
-        count_append c.0 (in_all (map (Looked x) ((exprs x) args)) marks) (when plain (as_check down)),
-        places_append c.0 (sites_of_all ((with_sites x) ((exprs x) args)) scope)
+        count_append c.0 (in_all (map (Looked x) (elements args)) marks) (when plain (as_check down)),
+        places_append c.0 (sites_of_all (with_sites p.types p.functions (elements args)) scope)
             (precondition g pre ∷ measure g down ∷ []),
       )
 
@@ -235,14 +238,15 @@ module _ (x : Setting) where
       by false e h = inr (inside.below k v h here)
 
   -- where the call is a plain descent, its argument goes below
-  goes_below : (args : List (E x)) (g : FunctionId) (marks : List Bool) (env vs : List Value) → (InScope x) marks env
-      → all_from [] (map (Meant x) ((exprs x) args)) old env ≡ Ok vs
-      → goes_down (first_param_of (slice_get p.functions g.0)) (map (Looked x) ((exprs x) args)) marks ≡ true
+  goes_below : (args : List (With (IsExpr x))) (g : FunctionId) (marks : List Bool) (env vs : List Value)
+      → (InScope x) marks env
+      → all_from [] (map (Meant x) (elements args)) old env ≡ Ok vs
+      → goes_down (first_param_of (slice_get p.functions g.0)) (map (Looked x) (elements args)) marks ≡ true
       → GoesBelow p.functions v0 g vs
   goes_below args g marks env vs inside e h = by_param (first_param_of (slice_get p.functions g.0)) refl h
     where
       by_variable : (q : ℕ) (sn : Seen) → first_param_of (slice_get p.functions g.0) ≡ Some q
-          → slice_get (map (Looked x) ((exprs x) args)) q ≡ Some sn → (o : Option ℕ) → sn.0 ≡ o
+          → slice_get (map (Looked x) (elements args)) q ≡ Some sn → (o : Option ℕ) → sn.0 ≡ o
           → is_inside marks o ≡ true
           → GoesBelow p.functions v0 g vs
       by_variable q sn is at None var h = cc
@@ -259,14 +263,14 @@ module _ (x : Setting) where
           }
 
       by_seen : (q : ℕ) → first_param_of (slice_get p.functions g.0) ≡ Some q → (o : Option Seen)
-          → slice_get (map (Looked x) ((exprs x) args)) q ≡ o → inside_at o marks ≡ true → GoesBelow p.functions v0 g vs
+          → slice_get (map (Looked x) (elements args)) q ≡ o → inside_at o marks ≡ true → GoesBelow p.functions v0 g vs
       by_seen q is None at h = cc
       by_seen q is (Some sn) at h = by_variable q sn is at sn.0 refl h
 
       by_param : (o : Option ℕ) → first_param_of (slice_get p.functions g.0) ≡ o
-          → goes_down o (map (Looked x) ((exprs x) args)) marks ≡ true → GoesBelow p.functions v0 g vs
+          → goes_down o (map (Looked x) (elements args)) marks ≡ true → GoesBelow p.functions v0 g vs
       by_param None is h = cc
-      by_param (Some q) is h = by_seen q is (slice_get (map (Looked x) ((exprs x) args)) q) refl h
+      by_param (Some q) is h = by_seen q is (slice_get (map (Looked x) (elements args)) q) refl h
 
   -- a check that is counted only where the descent is plain
   plain_there : (t : Bool) (down : Option CheckId)
@@ -276,7 +280,8 @@ module _ (x : Setting) where
   plain_there false down e is =
       absurd (uncounted c.0 kind.Measure down c refl (sym e) is)
 
-  pub level_clean : (y : layer.Expr-F (E x) (K x)) (scope : List Sort) (s : Sort) → sorted y scope ≡ Some s
+  pub level_clean : (y : layer.Expr-F (With (IsExpr x)) (With (IsCase x))) (scope : List Sort) (s : Sort)
+      → sorted y scope ≡ Some s
       → AreMet p i (placed y scope)
       → (env : List Value) → Have p.types.ctors scope env → (marks : List Bool) → (InScope x) marks env
       → (found_in x) ((looked y).1 marks) ≡ (carried_by x) (placed y scope) → IsClean c (meant y old env)
@@ -302,7 +307,7 @@ module _ (x : Setting) where
       (b.1.clean scope t.1.0 t.1.1 (met_right _ _ (met_left _ _ met)) env have marks inside
       (omega (arith, fa, fb, d, e, f, tight)))
   level_clean (layer.Construct d args) scope s h met env have marks inside tight =
-      let k = tree_sort_is (slice_get p.types.ctors d.0) (sorts_in scope (map (Sorted x) ((exprs x) args))) s h in
+      let k = tree_sort_is (slice_get p.types.ctors d.0) (sorts_in scope (map (Sorted x) (elements args))) s h in
       clean_then _ ((list_clean x) args k.0.fields scope k.2 met env have marks inside tight []) (λ vs at. clean_value)
   level_clean (layer.Field e k) scope s h met env have marks inside tight =
       let d = tree_then ((Sorted x) e.0 scope) (λ d. field_sort p.types p.functions d k) s h in
@@ -326,8 +331,8 @@ module _ (x : Setting) where
       (b.1.clean scope s both.1 (met_right _ _ met) env have marks inside
       (omega (arith, ft, fa, fb, d, e, f, g, tight)))))
   level_clean (layer.Match e ys check) scope s h met env have marks inside tight =
-      let arms = map (SortedArm x) ((cases x) ys) in
-      let placed_cases = (with_case_sites x) ((cases x) ys) in
+      let arms = map (SortedArm x) (elements ys) in
+      let placed_cases = with_case_sites p.types p.functions (elements ys) in
       let t = sort_then ((Sorted x) e.0 scope) (λ t. sorts.arms_sort p.types p.functions arms t scope) s h in
       let live = is_live pp marks ((Looked x) e.0).0 in
       let each = each_arm p t.0 s scope arms t.2 in
@@ -341,7 +346,7 @@ module _ (x : Setting) where
       t scope))) t.1 in
       let fe = e.1.few scope t.0 t.1 marks in
       let fc = (cases_few x) ys t.0 s scope each live marks in
-      let d = count_append c.0 (((Looked x) e.0).1 marks) (in_cases (map (LookedArm x) ((cases x) ys)) live marks) in
+      let d = count_append c.0 (((Looked x) e.0).1 marks) (in_cases (map (LookedArm x) (elements ys)) live marks) in
       let f = places_append c.0 ((Placed x) e.0 scope) (at_sort ((Sorted x) e.0 scope)
       (λ t. matching t (unguarded placed_cases) check ∷ sites_of_cases placed_cases t scope)) in
       clean_then _ (e.1.clean scope t.0 t.1 (met_left _ _ met) env have marks inside
@@ -384,15 +389,15 @@ module _ (x : Setting) where
       (rest.1.clean scope s k.1 (met_tail met_after) env have marks inside (omega (arith, ft, fr, d, f, tight)))
       (clean_stop ((other_fails x) (Some check) other check refl))))
   level_clean (layer.Call g args pre down) scope s h met env have marks inside tight =
-      let f = call_sort_is (slice_get p.functions g.0) (sorts_in scope (map (Sorted x) ((exprs x) args))) s h in
-      let plain = goes_down (first_param_of (slice_get p.functions g.0)) (map (Looked x) ((exprs x) args)) marks in
+      let f = call_sort_is (slice_get p.functions g.0) (sorts_in scope (map (Sorted x) (elements args))) s h in
+      let plain = goes_down (first_param_of (slice_get p.functions g.0)) (map (Looked x) (elements args)) marks in
       let own : AreMet p i (precondition g pre ∷ measure g down ∷ []) =
-      met_right (sites_of_all ((with_sites x) ((exprs x) args)) scope) _ met in
+      met_right (sites_of_all (with_sites p.types p.functions (elements args)) scope) _ met in
       let fl = (list_few x) args (param_sorts f.0.params) scope f.2 marks in
       let fw = when_few plain (as_check down) in
       let ci = check_ids kind.Measure down in
-      let d = count_append c.0 (in_all (map (Looked x) ((exprs x) args)) marks) (when plain (as_check down)) in
-      let e = places_append c.0 (sites_of_all ((with_sites x) ((exprs x) args)) scope)
+      let d = count_append c.0 (in_all (map (Looked x) (elements args)) marks) (when plain (as_check down)) in
+      let e = places_append c.0 (sites_of_all (with_sites p.types p.functions (elements args)) scope)
       (precondition g pre ∷ measure g down ∷ []) in
       clean_then _ ((list_clean x) args (param_sorts f.0.params) scope f.2 (met_left _ _ met) env have marks inside
       (omega (arith, fl, fw, ci, d, e, tight)) [])

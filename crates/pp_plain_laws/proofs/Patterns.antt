@@ -3,9 +3,12 @@ use Rattle.std.proofs.Common.{◌≡◌, ◌⊎◌, ℕ, zero, suc, Bool, true, 
 use Rattle.std.proofs.Common.{length, slice_get, refl, sym, ap, ◌∙◌, subst, arith, inl, inr, ⊎_elim, Contains}
 use Rattle.std.proofs.Common.{length-append}
 use Rattle.std.specs.Prelude.{nat_eq}
+use Rattle.pp_list.proofs.With.{With, elements}
+use Rattle.pp_prog.proofs.Induction.{each_pattern, pattern_under}
+use Rattle.pp_list.specs.Joined.{joined}
 use Rattle.pp_graph.specs.Rows.{marked}
 use Rattle.pp_prog.specs.declared.expr.Pattern.{Pattern}
-use Rattle.pp_prog.specs.declared.expr.Pattern.TheFolds.{fold-roll-Pattern, ind-Pattern, map-Pattern}
+use Rattle.pp_prog.specs.declared.expr.Pattern.TheFolds.{fold-roll-Pattern, map-Pattern}
 use Rattle.pp_prog.specs.declared.expr.Pattern.TheOpen as pattern
 use Rattle.pp_prog.specs.declared.expr.Pattern.TheViews.{roll-Pattern}
 use Rattle.pp_prog.specs.declared.id.CtorId.{CtorId}
@@ -13,7 +16,6 @@ use Rattle.pp_prog.specs.declared.value.Value.{Value}
 use Rattle.pp_prog.specs.declared.value.Value.TheOpen as value
 use Rattle.pp_prog.specs.declared.value.Value.TheVariants.{Tree, rolls-Tree}
 use Rattle.pp_prog.specs.declared.value.Value.TheViews.{out-Value, roll-Value, roll-out-Value}
-use Rattle.pp_prog.specs.Calls.{joined}
 use Rattle.pp_prog.specs.Fits.{Fitting, fit, fit_fields, fit_step, fit_tree}
 use Rattle.pp_prog.proofs.PatternFits.{before_is, both_are, if_some, int_binds, truth_binds}
 use Rattle.pp_prog.specs.Values.{IsBelow, is_deeper, is_field}
@@ -48,9 +50,6 @@ Fine f m = (v : Value) (vs : List Value) → f v ≡ Some vs → (top below : Bo
 abbrev FineAt : Pattern → Type 0
 FineAt p = Fine (fit p) (marks_of p)
 
-abbrev P : Type 0
-P = (p : Pattern) × FineAt p
-
 none_marked : (v : Value) (vs : List Value) (top below : Bool) → [] ≡ vs → AreMarked v [] vs top below
 none_marked v vs top below e = subst (λ l. AreMarked v [] l top below) e (record { size = refl; each = λ j w m is. cc })
 
@@ -60,21 +59,21 @@ at_head x xs = (0, omega arith, refl)
 in_tail : (x y : Value) (xs : List Value) → Contains xs y → Contains (x ∷ xs) y
 in_tail x y xs c = (suc c.0, omega (arith, c.1), c.2)
 
-fields_marked : (ys : List P) (fields vs : List Value) → fit_fields (map fit (map (λ y. y.0) ys)) fields ≡ Some vs
+fields_marked : (ys : List (With FineAt)) (fields vs : List Value) → fit_fields (map fit (elements ys)) fields ≡ Some vs
     → (below : Bool) → AreInside fields (joined (map (λ (m : Marking). m below below)
-    (map marks_of (map (λ y. y.0) ys)))) vs below
+    (map marks_of (elements ys)))) vs below
 fields_marked [] [] vs e below =
     let same : [] ≡ vs = cc in
     subst (λ l. AreInside [] [] l below) same (record { size = refl; each = λ j w m is. cc })
 fields_marked [] (f ∷ fs) vs e below = cc
 fields_marked (y ∷ ys) [] vs e below = cc
 fields_marked (y ∷ ys) (f ∷ fs) vs e below =
-    let q = both_are (fit y.0 f) (fit_fields (map fit (map (λ (z : P). z.0) ys)) fs) vs e in
+    let q = both_are (fit y.0 f) (fit_fields (map fit (elements ys)) fs) vs e in
     let here = y.1 f q.0 q.2 below below in
     let rest = fields_marked ys fs q.1 q.3 below in
     subst (λ l. AreInside (f ∷ fs) (marks_of y.0 below below ++ joined
-    (map (λ (m : Marking). m below below) (map marks_of (map (λ (z : P). z.0) ys)))) l below) q.4
-    (joins y.0 (joined (map (λ (m : Marking). m below below) (map marks_of (map (λ (z : P). z.0) ys)))) q.0 q.1 here
+    (map (λ (m : Marking). m below below) (map marks_of (elements ys)))) l below) q.4
+    (joins y.0 (joined (map (λ (m : Marking). m below below) (map marks_of (elements ys)))) q.0 q.1 here
     rest)
   where
     joins : (p : Pattern) (ms : List Bool) (xs zs : List Value) → AreMarked f (marks_of p below below) xs below below
@@ -89,9 +88,10 @@ fields_marked (y ∷ ys) (f ∷ fs) vs e below =
           (split_at (marks_of p below below) ms xs zs here.size j w m is);
     }
 
-tree_marked : (c : CtorId) (ys : List P) (v : Value) (o : value.Value-F Value) → out-Value v ≡ o → (vs : List Value)
-    → fit_tree c (map fit (map (λ y. y.0) ys)) o ≡ Some vs → (top below : Bool)
-    → AreMarked v (joined (map (λ (m : Marking). m below below) (map marks_of (map (λ y. y.0) ys)))) vs top below
+tree_marked : (c : CtorId) (ys : List (With FineAt)) (v : Value) (o : value.Value-F Value) → out-Value v ≡ o
+    → (vs : List Value)
+    → fit_tree c (map fit (elements ys)) o ≡ Some vs → (top below : Bool)
+    → AreMarked v (joined (map (λ (m : Marking). m below below) (map marks_of (elements ys)))) vs top below
 tree_marked c ys v (value.Int n) is vs e top below = cc
 tree_marked c ys v (value.Bool b) is vs e top below = cc
 tree_marked c ys v (value.Tree d fields) is vs e top below =
@@ -109,9 +109,9 @@ tree_marked c ys v (value.Tree d fields) is vs e top below =
           );
     }
 
-level : (y : pattern.Pattern-F P)
-    → Fine (fit_step (map-Pattern Pattern Fitting fit (map-Pattern P Pattern (λ z. z.0) y)))
-    (marking_step (map-Pattern Pattern Marking marks_of (map-Pattern P Pattern (λ z. z.0) y)))
+level : (y : pattern.Pattern-F (With FineAt))
+    → Fine (fit_step (map-Pattern Pattern Fitting fit (pattern_under y)))
+    (marking_step (map-Pattern Pattern Marking marks_of (pattern_under y)))
 level pattern.Any v vs e top below = none_marked v vs top below (cc)
 level (pattern.Bind q) v vs e top below =
     let n = before_is (v ∷ []) (fit q.0 v) vs e in
@@ -129,9 +129,9 @@ level (pattern.Int n) v vs e top below = none_marked v vs top below (int_binds n
 level (pattern.Bool a) v vs e top below = none_marked v vs top below (truth_binds a (out-Value v) vs e)
 level (pattern.Ctor c ys) v vs e top below = tree_marked c ys v (out-Value v) refl vs e top below
 
-at_level : (y : pattern.Pattern-F P) → FineAt (roll-Pattern (map-Pattern P Pattern (λ z. z.0) y))
+at_level : (y : pattern.Pattern-F (With FineAt)) → FineAt (roll-Pattern (pattern_under y))
 at_level y =
-    let z = map-Pattern P Pattern (λ w. w.0) y in
+    let z = pattern_under y in
     let one = fold-roll-Pattern Fitting fit_step z in
     let two = fold-roll-Pattern Marking marking_step z in
     subst (λ f. Fine f (marks_of (roll-Pattern z))) (sym one)
@@ -139,4 +139,4 @@ at_level y =
 
 -- what a pattern binds is marked as it lies
 pub pattern_marked : (p : Pattern) → FineAt p
-pattern_marked = ind-Pattern FineAt (λ x y is. subst (λ z. FineAt (roll-Pattern z)) is (at_level y))
+pattern_marked = each_pattern FineAt at_level

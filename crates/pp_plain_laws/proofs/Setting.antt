@@ -3,24 +3,26 @@
 use Rattle.std.proofs.Common.{◌≡◌, ◌⊎◌, ℕ, zero, suc, ◌+◌, ◌≤◌, Bool, true, List, [], ◌∷◌, ◌++◌, map, Option, Some}
 use Rattle.std.proofs.Common.{None, Ok, length, slice_get, sym, ap, ◌∙◌, subst, arith, append_assoc, append-nil}
 use Rattle.std.proofs.Common.{length-append}
+use Rattle.pp_list.proofs.With.{With, elements}
+use Rattle.pp_prog.specs.ExprSorts.{case_sorts}
+use Rattle.pp_prog.specs.Listing.{sites_in_case, with_case_sites, with_sites}
 use Rattle.pp_prog.specs.declared.expr.Case.{Case}
 use Rattle.pp_prog.specs.declared.expr.Expr.{Expr}
-use Rattle.pp_prog.specs.declared.expr.Expr.TheFolds.{fold-Case, para-Case}
 use Rattle.pp_prog.specs.declared.expr.Function.{Function}
 use Rattle.pp_prog.specs.declared.id.CheckId.{CheckId}
 use Rattle.pp_prog.specs.declared.id.FunctionId.{FunctionId}
 use Rattle.pp_prog.specs.declared.program.Program.{Program}
 use Rattle.pp_prog.specs.declared.sort.Sort.{Sort}
 use Rattle.pp_prog.specs.declared.value.Value.{Value}
-use Rattle.pp_prog.specs.ExprSorts.{Sorting, alike, arm_with, field_sort, sort_of, sort_step, sorts_in}
+use Rattle.pp_prog.specs.ExprSorts.{Sorting, sort_of, sorts_in}
 use Rattle.pp_prog.specs.ExprSorts as sorts
-use Rattle.pp_prog.specs.Listing.{CaseSites, Site, Sites, case_sites, measure, precondition, site_step, sites}
+use Rattle.pp_prog.specs.Listing.{CaseSites, Site, Sites, measure, precondition, sites}
 use Rattle.pp_prog.specs.Listing.{sites_of_all, sites_of_cases}
 use Rattle.pp_prog.specs.Sorts.{param_sorts}
 use Rattle.pp_prog.specs.Values.{IsBelow, is_deeper, is_field}
 use Rattle.pp_eval.specs.declared.outcome.Stop.TheVariants.{Fails}
-use Rattle.pp_eval.specs.Meaning.{CallMeaning, Frame, Meaning, all_from, arm, attempt, attempt_with, binary, field}
-use Rattle.pp_eval.specs.Meaning.{first_case, guarded, meaning, meaning_step, or_next, taken}
+use Rattle.pp_eval.specs.Meaning.{CallMeaning, Frame, Meaning, all_from, arm, attempt}
+use Rattle.pp_eval.specs.Meaning.{first_case, meaning, or_next}
 use Rattle.pp_eval.specs.Meaning as mean
 use Rattle.pp_eval.specs.Part.{Part, failed, found}
 use Rattle.pp_sound.proofs.Cases.{EachArm}
@@ -103,10 +105,10 @@ module _ (x : Setting) where
   Looked = seen p.functions pp
 
   abbrev pub SortedArm : Case → sorts.Arm
-  SortedArm = fold-Case Sorting sorts.Arm (sort_step p.types p.functions) sorts.arm_step
+  SortedArm = case_sorts p.types p.functions
 
   abbrev pub PlacedArm : Case → CaseSites
-  PlacedArm = para-Case Sites CaseSites (site_step p.types p.functions) (case_sites p.types p.functions)
+  PlacedArm = sites_in_case p.types p.functions
 
   abbrev pub MeantArm : Case → mean.Arm
   MeantArm = arm calls0
@@ -145,24 +147,6 @@ module _ (x : Setting) where
         → (marks : List Bool) → InScope marks env → found_in (LookedArm k live marks) ≡ carried_by (PlacedArm k s scope)
         → (v : Value) → Has p.types.ctors s v → IsLive live v → IsClean c (attempt (MeantArm k) v old env)
 
-  abbrev pub E : Type 0
-  E = (e : Expr) × IsExpr e
-
-  abbrev pub K : Type 0
-  K = (k : Case) × IsCase k
-
-  abbrev pub exprs : List E → List Expr
-  exprs ys = map (λ y. y.0) ys
-
-  abbrev pub cases : List K → List Case
-  cases ys = map (λ y. y.0) ys
-
-  abbrev pub with_sites : List Expr → List (Expr × Sites)
-  with_sites es = map (λ e. (e, Placed e)) es
-
-  abbrev pub with_case_sites : List Case → List (Case × CaseSites)
-  with_case_sites ks = map (λ k. (k, PlacedArm k)) ks
-
   -- the value of a sorted expression has its sort
   pub valued : (e : Expr) (scope : List Sort) (s : Sort) → Sorted e scope ≡ Some s → AreMet p i (Placed e scope)
       → (env : List Value) → Have p.types.ctors scope env → (v : Value) → Meant e old env ≡ Ok v → Has p.types.ctors s v
@@ -171,48 +155,52 @@ module _ (x : Setting) where
 
   -- ---- several expressions
 
-  pub list_few : (ys : List E) (ts : List Sort) (scope : List Sort)
-      → sorts_in scope (map Sorted (exprs ys)) ≡ map Some ts
-      → (marks : List Bool) → found_in (in_all (map Looked (exprs ys)) marks) ≤ carried_by
-      (sites_of_all (with_sites (exprs ys)) scope)
+  pub list_few : (ys : List (With IsExpr)) (ts : List Sort) (scope : List Sort)
+      → sorts_in scope (map Sorted (elements ys)) ≡ map Some ts
+      → (marks : List Bool) → found_in (in_all (map Looked (elements ys)) marks) ≤ carried_by
+      (sites_of_all (with_sites p.types p.functions (elements ys)) scope)
   list_few [] ts scope h marks = omega arith
   list_few (y ∷ ys) [] scope h marks = cc
   list_few (y ∷ ys) (t ∷ ts) scope h marks =
       let here : Sorted y.0 scope ≡ Some t = cc in
-      let rest : sorts_in scope (map Sorted (exprs ys)) ≡ map Some ts = cc in
+      let rest : sorts_in scope (map Sorted (elements ys)) ≡ map Some ts = cc in
       omega (
         arith,
         y.1.few scope t here marks,
         list_few ys ts scope rest marks,
-        count_append c.0 ((Looked y.0).1 marks) (in_all (map Looked (exprs ys)) marks),
-        places_append c.0 (Placed y.0 scope) (sites_of_all (with_sites (exprs ys)) scope),
+        count_append c.0 ((Looked y.0).1 marks) (in_all (map Looked (elements ys)) marks),
+        places_append c.0 (Placed y.0 scope) (sites_of_all (with_sites p.types p.functions (elements ys)) scope),
       )
 
-  pub list_clean : (ys : List E) (ts : List Sort) (scope : List Sort)
-      → sorts_in scope (map Sorted (exprs ys)) ≡ map Some ts
-      → AreMet p i (sites_of_all (with_sites (exprs ys)) scope) → (env : List Value) → Have p.types.ctors scope env
+  pub list_clean : (ys : List (With IsExpr)) (ts : List Sort) (scope : List Sort)
+      → sorts_in scope (map Sorted (elements ys)) ≡ map Some ts
+      → AreMet p i (sites_of_all (with_sites p.types p.functions (elements ys)) scope) → (env : List Value)
+      → Have p.types.ctors scope env
       → (marks : List Bool) → InScope marks env
-      → found_in (in_all (map Looked (exprs ys)) marks) ≡ carried_by (sites_of_all (with_sites (exprs ys)) scope)
-      → (done : List Value) → IsClean c (all_from done (map Meant (exprs ys)) old env)
+      → found_in (in_all (map Looked (elements ys)) marks) ≡ carried_by
+      (sites_of_all (with_sites p.types p.functions (elements ys)) scope)
+      → (done : List Value) → IsClean c (all_from done (map Meant (elements ys)) old env)
   list_clean [] ts scope h met env have marks inside tight done = clean_value
   list_clean (y ∷ ys) [] scope h met env have marks inside tight done = cc
   list_clean (y ∷ ys) (t ∷ ts) scope h met env have marks inside tight done =
       let here : Sorted y.0 scope ≡ Some t = cc in
-      let rest : sorts_in scope (map Sorted (exprs ys)) ≡ map Some ts = cc in
+      let rest : sorts_in scope (map Sorted (elements ys)) ≡ map Some ts = cc in
       let one = y.1.few scope t here marks in
       let more = list_few ys ts scope rest marks in
-      let both = count_append c.0 ((Looked y.0).1 marks) (in_all (map Looked (exprs ys)) marks) in
-      let all = places_append c.0 (Placed y.0 scope) (sites_of_all (with_sites (exprs ys)) scope) in
+      let both = count_append c.0 ((Looked y.0).1 marks) (in_all (map Looked (elements ys)) marks) in
+      let all = places_append c.0 (Placed y.0 scope)
+      (sites_of_all (with_sites p.types p.functions (elements ys)) scope) in
       clean_then _ (y.1.clean scope t here (met_left _ _ met) env have marks inside
       (omega (arith, one, more, both, all, tight)))
       (λ v at. list_clean ys ts scope rest (met_right _ _ met) env have marks inside
       (omega (arith, one, more, both, all, tight)) (done ++ v ∷ []))
 
-  pub list_sorted : (ys : List E) (ts : List Sort) (scope : List Sort)
-      → sorts_in scope (map Sorted (exprs ys)) ≡ map Some ts
-      → AreMet p i (sites_of_all (with_sites (exprs ys)) scope) → (env : List Value) → Have p.types.ctors scope env
+  pub list_sorted : (ys : List (With IsExpr)) (ts : List Sort) (scope : List Sort)
+      → sorts_in scope (map Sorted (elements ys)) ≡ map Some ts
+      → AreMet p i (sites_of_all (with_sites p.types p.functions (elements ys)) scope) → (env : List Value)
+      → Have p.types.ctors scope env
       → (before : List Sort) (done : List Value) → Have p.types.ctors before done → (vs : List Value)
-      → all_from done (map Meant (exprs ys)) old env ≡ Ok vs → Have p.types.ctors (before ++ ts) vs
+      → all_from done (map Meant (elements ys)) old env ≡ Ok vs → Have p.types.ctors (before ++ ts) vs
   list_sorted [] [] scope h met env have before done known vs e =
       let same : done ≡ vs = cc in
       subst (λ l. Have p.types.ctors l vs) (sym (append-nil before)) (subst (Have p.types.ctors before) same known)
@@ -220,24 +208,25 @@ module _ (x : Setting) where
   list_sorted (y ∷ ys) [] scope h met env have before done known vs e = cc
   list_sorted (y ∷ ys) (t ∷ ts) scope h met env have before done known vs e =
       let here : Sorted y.0 scope ≡ Some t = cc in
-      let rest : sorts_in scope (map Sorted (exprs ys)) ≡ map Some ts = cc in
-      let v = then_value (Meant y.0 old env) (λ v. all_from (done ++ v ∷ []) (map Meant (exprs ys)) old env) vs e in
+      let rest : sorts_in scope (map Sorted (elements ys)) ≡ map Some ts = cc in
+      let v = then_value (Meant y.0 old env) (λ v. all_from (done ++ v ∷ []) (map Meant (elements ys)) old env) vs e in
       let has = valued y.0 scope t here (met_left _ _ met) env have v.0 v.1 in
       subst (λ l. Have p.types.ctors l vs) (append_assoc before (t ∷ []) ts)
       (list_sorted ys ts scope rest (met_right _ _ met) env have (before ++ t ∷ []) (done ++ v.0 ∷ [])
       (have_more p.types.ctors before (t ∷ []) done (v.0 ∷ []) known (have_one p.types.ctors t v.0 has)) vs v.2)
 
   -- an argument that is a variable has its value
-  pub variable_at : (ys : List E) (q : ℕ) (sn : Seen) (k : ℕ) → slice_get (map Looked (exprs ys)) q ≡ Some sn
+  pub variable_at : (ys : List (With IsExpr)) (q : ℕ) (sn : Seen) (k : ℕ)
+      → slice_get (map Looked (elements ys)) q ≡ Some sn
       → sn.0 ≡ Some k
-      → (env done vs : List Value) → all_from done (map Meant (exprs ys)) old env ≡ Ok vs
+      → (env done vs : List Value) → all_from done (map Meant (elements ys)) old env ≡ Ok vs
       → (w : Value) × (slice_get env k ≡ Some w) × (slice_get vs (length done + q) ≡ Some w)
   variable_at [] q sn k is var env done vs e = cc
   variable_at (y ∷ ys) zero sn k is var env done vs e =
-      let v = then_value (Meant y.0 old env) (λ v. all_from (done ++ v ∷ []) (map Meant (exprs ys)) old env) vs e in
+      let v = then_value (Meant y.0 old env) (λ v. all_from (done ++ v ∷ []) (map Meant (elements ys)) old env) vs e in
       let same : Looked y.0 ≡ sn = cc in
       let at : found (slice_get env k) ≡ Ok v.0 = sym (y.1.variable k (ap (λ (s : Seen). s.0) same ∙ var) env) ∙ v.1 in
-      let more = values_behind (map Meant (exprs ys)) (done ++ v.0 ∷ []) old env vs v.2 in
+      let more = values_behind (map Meant (elements ys)) (done ++ v.0 ∷ []) old env vs v.2 in
       let n : length done + 0 ≡ length done = omega arith in (
         v.0,
         found_some (slice_get env k) v.0 at,
@@ -245,7 +234,7 @@ module _ (x : Setting) where
             ∙ ap (slice_get (done ++ v.0 ∷ more.0)) n ∙ get_behind done v.0 more.0,
       )
   variable_at (y ∷ ys) (suc q) sn k is var env done vs e =
-      let v = then_value (Meant y.0 old env) (λ v. all_from (done ++ v ∷ []) (map Meant (exprs ys)) old env) vs e in
+      let v = then_value (Meant y.0 old env) (λ v. all_from (done ++ v ∷ []) (map Meant (elements ys)) old env) vs e in
       let r = variable_at ys q sn k is var env (done ++ v.0 ∷ []) vs v.2 in
       let n : length (done ++ v.0 ∷ []) + q ≡ length done + suc q = omega (arith, length-append done (v.0 ∷ [])) in (
         r.0,
@@ -255,18 +244,20 @@ module _ (x : Setting) where
 
   -- ---- cases
 
-  pub cases_few : (ys : List K) (s u : Sort) (scope : List Sort) → EachArm p s u scope (map SortedArm (cases ys))
+  pub cases_few : (ys : List (With IsCase)) (s u : Sort) (scope : List Sort)
+      → EachArm p s u scope (map SortedArm (elements ys))
       → (live : Bool) (marks : List Bool)
-      → found_in (in_cases (map LookedArm (cases ys)) live marks) ≤ carried_by
-      (sites_of_cases (with_case_sites (cases ys)) s scope)
+      → found_in (in_cases (map LookedArm (elements ys)) live marks) ≤ carried_by
+      (sites_of_cases (with_case_sites p.types p.functions (elements ys)) s scope)
   cases_few [] s u scope each live marks = omega arith
   cases_few (y ∷ ys) s u scope each live marks =
       omega (
         arith,
         y.1.few s u scope each.0 live marks,
         cases_few ys s u scope each.1 live marks,
-        count_append c.0 (LookedArm y.0 live marks) (in_cases (map LookedArm (cases ys)) live marks),
-        places_append c.0 (PlacedArm y.0 s scope) (sites_of_cases (with_case_sites (cases ys)) s scope),
+        count_append c.0 (LookedArm y.0 live marks) (in_cases (map LookedArm (elements ys)) live marks),
+        places_append c.0 (PlacedArm y.0 s scope)
+            (sites_of_cases (with_case_sites p.types p.functions (elements ys)) s scope),
       )
 
   pub next_clean : (o : Option Value) (next : Part Value) → IsClean c next → IsClean c (or_next o next)
@@ -284,19 +275,21 @@ module _ (x : Setting) where
   failed_clean check other =
       record { told = failed_stops (IsOther c) (other_stuck c) Value check (other_fails check other) }
 
-  pub cases_clean : (ys : List K) (s u : Sort) (scope : List Sort) → EachArm p s u scope (map SortedArm (cases ys))
-      → AreMet p i (sites_of_cases (with_case_sites (cases ys)) s scope) → (env : List Value)
+  pub cases_clean : (ys : List (With IsCase)) (s u : Sort) (scope : List Sort)
+      → EachArm p s u scope (map SortedArm (elements ys))
+      → AreMet p i (sites_of_cases (with_case_sites p.types p.functions (elements ys)) s scope) → (env : List Value)
       → Have p.types.ctors scope env → (live : Bool) (marks : List Bool) → InScope marks env
-      → found_in (in_cases (map LookedArm (cases ys)) live marks) ≡ carried_by
-      (sites_of_cases (with_case_sites (cases ys)) s scope)
+      → found_in (in_cases (map LookedArm (elements ys)) live marks) ≡ carried_by
+      (sites_of_cases (with_case_sites p.types p.functions (elements ys)) s scope)
       → (v : Value) → Has p.types.ctors s v → IsLive live v → (check : Option CheckId) → NotIt check
-      → IsClean c (first_case (map MeantArm (cases ys)) check v old env)
+      → IsClean c (first_case (map MeantArm (elements ys)) check v old env)
   cases_clean [] s u scope each met env have live marks inside tight v has lives check other = failed_clean check other
   cases_clean (y ∷ ys) s u scope each met env have live marks inside tight v has lives check other =
       let one = y.1.few s u scope each.0 live marks in
       let more = cases_few ys s u scope each.1 live marks in
-      let both = count_append c.0 (LookedArm y.0 live marks) (in_cases (map LookedArm (cases ys)) live marks) in
-      let all = places_append c.0 (PlacedArm y.0 s scope) (sites_of_cases (with_case_sites (cases ys)) s scope) in
+      let both = count_append c.0 (LookedArm y.0 live marks) (in_cases (map LookedArm (elements ys)) live marks) in
+      let all = places_append c.0 (PlacedArm y.0 s scope)
+      (sites_of_cases (with_case_sites p.types p.functions (elements ys)) s scope) in
       clean_then _
       (y.1.clean s u scope each.0 (met_left _ _ met) env have live marks inside
       (omega (arith, one, more, both, all, tight)) v has lives)

@@ -1,6 +1,6 @@
 -- What follows for the parts of an expression from its sort.
 use Rattle.std.proofs.Common.{◌≡◌, Bool, true, false, List, [], ◌∷◌, map, Option, Some, None, is_some, refl, sym, ap}
-use Rattle.std.proofs.Common.{◌∙◌}
+use Rattle.std.proofs.Common.{◌∙◌, ◌&&◌, ◌⊎◌, inl, inr}
 use Rattle.std.proofs.lemmas.Bool.{and_parts}
 use Rattle.pp_tree.specs.declared.operator.BinaryOp.{BinaryOp}
 use Rattle.pp_operators.specs.Classes.{class_of}
@@ -14,10 +14,10 @@ use Rattle.pp_prog.specs.declared.sort.Sort.{Sort}
 use Rattle.pp_prog.specs.declared.sort.Sort.TheVariants as sort
 use Rattle.pp_prog.specs.declared.types.Ctor.{Ctor}
 use Rattle.pp_prog.specs.declared.types.TypeTable.{TypeTable}
-use Rattle.pp_prog.specs.ExprSorts.{a_bool, a_tree, alike, an_int, binary_sort, bits_sort, call_sort, class_sort}
-use Rattle.pp_prog.specs.ExprSorts.{equality_sort, has_the_sort, match_sorts, number_sort, order_sort, sort_if}
-use Rattle.pp_prog.specs.ExprSorts.{then_sort, tree_sort, truth_sort, unary_sort}
-use Rattle.pp_prog.specs.Sorts.{param_sorts}
+use Rattle.pp_prog.specs.ExprSorts.{a_bool, a_tree, alike, an_int, binary_sort, call_sort, class_gives, class_sort}
+use Rattle.pp_prog.specs.ExprSorts.{class_takes, has_the_sort, is_number, match_sorts, sort_if, then_sort, tree_sort}
+use Rattle.pp_prog.specs.ExprSorts.{unary_sort}
+use Rattle.pp_prog.specs.Sorts.{param_sorts, same_sort}
 use Rattle.pp_prog.proofs.ValueSorts.{one_sort}
 
 -- there is a sort
@@ -103,34 +103,84 @@ unary_part Flip o s h = int_part o _ s h
 abbrev HaveSorts : Option Sort → Option Sort → Type 0
 HaveSorts a b = HasSort a × HasSort b
 
-number_parts : (a b : Option Sort) (s : Sort) → number_sort a b ≡ Some s → HaveSorts a b
-number_parts a b s h = let p = int_then a _ s h in ((sort.Int, p.0), int_part b _ s p.1)
+-- what it tells of the operands that an operator of this class has a sort
+pub record Operands (c : OperatorClass) (a b : Option Sort) (s : Sort) : Type 0 where
+  pub left : Sort
+  pub right : Sort
+  pub is_left : a ≡ Some left
+  pub is_right : b ≡ Some right
+  pub taken : class_takes c left right ≡ true
+  pub given : class_gives c left ≡ s
 
-order_parts : (a b : Option Sort) (s : Sort) → order_sort a b ≡ Some s → HaveSorts a b
-order_parts a b s h = let p = int_then a _ s h in ((sort.Int, p.0), int_part b _ s p.1)
+pub operands : (c : OperatorClass) (a b : Option Sort) (s : Sort) → class_sort c a b ≡ Some s → Operands c a b s
+operands c None b s h = cc
+operands c (Some t) None s h = cc
+operands c (Some t) (Some u) s h =
+    let g = sort_there _ _ s h in
+    record { left = t; right = u; is_left = refl; is_right = refl; taken = g.0; given = g.1 }
 
-truth_parts : (a b : Option Sort) (s : Sort) → truth_sort a b ≡ Some s → HaveSorts a b
-truth_parts a b s h = let p = bool_then a _ s h in ((sort.Bool, p.0), bool_part b _ s p.1)
+-- both operands have the first sort, and the result has the second
+abbrev pub Operated : Option Sort → Option Sort → Sort → Sort → Sort → Type 0
+Operated o q a r s = (o ≡ Some a) × (q ≡ Some a) × (r ≡ s)
 
-equality_parts : (a b : Option Sort) (s : Sort) → equality_sort a b ≡ Some s → HaveSorts a b
-equality_parts a b s h =
-    let t = sort_then (alike a b) _ s h in let p = alike_are a b t.0 t.1 in ((t.0, p.0), (t.0, p.1))
+operated : (c : OperatorClass) (o q : Option Sort) (a s : Sort) (h : Operands c o q s) → a ≡ h.left → a ≡ h.right
+    → Operated o q a (class_gives c a) s
+operated c o q a s h e f =
+    (h.is_left ∙ ap Some (sym e), h.is_right ∙ ap Some (sym f), ap (class_gives c) e ∙ h.given)
 
-bits_parts : (a b : Option Sort) (s : Sort) → bits_sort a b ≡ Some s → HaveSorts a b
-bits_parts None b s h = cc
-bits_parts (Some sort.Int) b s h = ((sort.Int, refl), int_part b _ s h)
-bits_parts (Some sort.Bool) b s h = ((sort.Bool, refl), bool_part b _ s h)
-bits_parts (Some (sort.Tree d)) b s h = cc
+-- the classes that take two numbers of one sort
+of_one : (c : OperatorClass) (o q : Option Sort) (s : Sort) (h : Operands c o q s)
+    → (is_number h.left && same_sort h.left h.right) ≡ true → Operated o q sort.Int (class_gives c sort.Int) s
+of_one c o q s h t =
+    let p = and_parts _ _ t in
+    let e = one_sort sort.Int h.left p.0 in operated c o q sort.Int s h e (e ∙ one_sort h.left h.right p.1)
 
-class_parts : (c : OperatorClass) (a b : Option Sort) (s : Sort) → class_sort c a b ≡ Some s → HaveSorts a b
-class_parts class.Sum a b s h = number_parts a b s h
-class_parts class.Product a b s h = number_parts a b s h
-class_parts class.Quotient a b s h = number_parts a b s h
-class_parts class.Equality a b s h = equality_parts a b s h
-class_parts class.Order a b s h = order_parts a b s h
-class_parts class.Logic a b s h = truth_parts a b s h
-class_parts class.Bitwise a b s h = bits_parts a b s h
-class_parts class.Shift a b s h = number_parts a b s h
+-- `+ -`, and as well `*` and `/ %`
+pub sum_parts : (o q : Option Sort) (s : Sort) → class_sort class.Sum o q ≡ Some s
+    → Operated o q sort.Int sort.Int s
+sum_parts o q s h = let k = operands class.Sum o q s h in of_one class.Sum o q s k k.taken
+
+-- `< <= > >=`
+pub order_parts : (o q : Option Sort) (s : Sort) → class_sort class.Order o q ≡ Some s
+    → Operated o q sort.Int sort.Bool s
+order_parts o q s h = let k = operands class.Order o q s h in of_one class.Order o q s k k.taken
+
+-- `<< >> >>>`
+pub shift_parts : (o q : Option Sort) (s : Sort) → class_sort class.Shift o q ≡ Some s
+    → Operated o q sort.Int sort.Int s
+shift_parts o q s h =
+    let k = operands class.Shift o q s h in
+    let p = and_parts _ _ k.taken in
+    operated class.Shift o q sort.Int s k (one_sort sort.Int k.left p.0) (one_sort sort.Int k.right p.1)
+
+-- `&& ||`
+pub logic_parts : (o q : Option Sort) (s : Sort) → class_sort class.Logic o q ≡ Some s
+    → Operated o q sort.Bool sort.Bool s
+logic_parts o q s h =
+    let k = operands class.Logic o q s h in
+    let p = and_parts _ _ k.taken in
+    operated class.Logic o q sort.Bool s k (one_sort sort.Bool k.left p.0) (one_sort sort.Bool k.right p.1)
+
+-- `== !=`
+pub equality_parts : (o q : Option Sort) (s : Sort) → class_sort class.Equality o q ≡ Some s
+    → (a : Sort) × Operated o q a sort.Bool s
+equality_parts o q s h =
+    let k = operands class.Equality o q s h in
+    (k.left, operated class.Equality o q k.left s k refl (one_sort k.left k.right k.taken))
+
+-- `& | ^`
+pub bits_parts : (o q : Option Sort) (s : Sort) → class_sort class.Bitwise o q ≡ Some s
+    → Operated o q sort.Int sort.Int s ⊎ Operated o q sort.Bool sort.Bool s
+bits_parts o q s h = by k.left k.right k.is_left k.is_right k.taken k.given
+  where
+    k : Operands class.Bitwise o q s
+    k = operands class.Bitwise o q s h
+
+    by : (a b : Sort) → o ≡ Some a → q ≡ Some b → class_takes class.Bitwise a b ≡ true → a ≡ s
+        → Operated o q sort.Int sort.Int s ⊎ Operated o q sort.Bool sort.Bool s
+    by sort.Int b e f t g = inl (e, f ∙ ap Some (sym (one_sort sort.Int b t)), g)
+    by sort.Bool b e f t g = inr (e, f ∙ ap Some (sym (one_sort sort.Bool b t)), g)
+    by (sort.Tree d) b e f t g = cc
 
 pub binary_parts : (op : BinaryOp) (a b : Option Sort) (s : Sort) → binary_sort op a b ≡ Some s → HaveSorts a b
-binary_parts op a b s h = class_parts (class_of op) a b s h
+binary_parts op a b s h = let o = operands (class_of op) a b s h in ((o.left, o.is_left), (o.right, o.is_right))

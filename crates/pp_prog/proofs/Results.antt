@@ -1,20 +1,20 @@
 -- Where an expression has a sort, it is the one that is read off its form.
 use Rattle.std.proofs.Common.{◌≡◌, ℕ, nat_eq, Bool, true, false, if◌then◌else◌, List, [], ◌∷◌, ◌++◌, map, Option, Some}
-use Rattle.std.proofs.Common.{None, slice_get, refl, sym, ap, ◌∙◌, subst, ◌&&◌}
+use Rattle.std.proofs.Common.{None, slice_get, refl, sym, ap, ◌∙◌}
 use Rattle.std.proofs.lemmas.Option.{same_Some}
+use Rattle.pp_prog.proofs.Induction.{case_under, each_expr, each_pattern, pattern_under, under}
+use Rattle.pp_list.proofs.With.{With, elements}
 use Rattle.pp_tree.specs.declared.operator.BinaryOp.{BinaryOp}
 use Rattle.pp_operators.specs.Classes.{class_of}
-use Rattle.pp_operators.specs.declared.class.OperatorClass.{OperatorClass}
-use Rattle.pp_operators.specs.declared.class.OperatorClass.TheVariants as class
 use Rattle.pp_prog.specs.declared.expr.Case.{Case}
 use Rattle.pp_prog.specs.declared.expr.Expr.{Expr}
-use Rattle.pp_prog.specs.declared.expr.Expr.TheFolds.{fold-Case, fold-roll-Case, fold-roll-Expr, ind-Expr, map-Case}
+use Rattle.pp_prog.specs.declared.expr.Expr.TheFolds.{fold-roll-Case, fold-roll-Expr, map-Case}
 use Rattle.pp_prog.specs.declared.expr.Expr.TheFolds.{map-Expr}
 use Rattle.pp_prog.specs.declared.expr.Expr.TheOpen as layer
 use Rattle.pp_prog.specs.declared.expr.Expr.TheViews.{roll-Case, roll-Expr}
 use Rattle.pp_prog.specs.declared.expr.Function.{Function}
 use Rattle.pp_prog.specs.declared.expr.Pattern.{Pattern}
-use Rattle.pp_prog.specs.declared.expr.Pattern.TheFolds.{fold-roll-Pattern, ind-Pattern, map-Pattern}
+use Rattle.pp_prog.specs.declared.expr.Pattern.TheFolds.{fold-roll-Pattern, map-Pattern}
 use Rattle.pp_prog.specs.declared.expr.Pattern.TheOpen as pattern
 use Rattle.pp_prog.specs.declared.expr.Pattern.TheViews.{roll-Pattern}
 use Rattle.pp_tree.specs.declared.operator.UnaryOp.{UnaryOp}
@@ -26,15 +26,15 @@ use Rattle.pp_prog.specs.declared.types.Ctor.{Ctor}
 use Rattle.pp_prog.specs.declared.types.Datatype.{Datatype}
 use Rattle.pp_prog.specs.declared.types.TypeTable.{TypeTable}
 use Rattle.pp_prog.specs.ExprSorts.{Arm, Sorting, a_bool, a_tree, alike, an_int, arm_sort, arm_step, arm_with}
-use Rattle.pp_prog.specs.ExprSorts.{arms_like, arms_sort, binary_sort, bits_sort, call_sort, class_sort, equality_sort}
-use Rattle.pp_prog.specs.ExprSorts.{field_of_ctor, field_of_data, field_sort, guarded_sort, match_sorts, number_sort}
-use Rattle.pp_prog.specs.ExprSorts.{order_sort, sort_if, sort_of, sort_step, then_sort, tree_sort, truth_sort}
-use Rattle.pp_prog.specs.ExprSorts.{unary_sort}
+use Rattle.pp_prog.specs.ExprSorts.{arms_like, arms_sort, binary_sort, call_sort, case_sorts, field_of_ctor}
+use Rattle.pp_prog.specs.ExprSorts.{field_of_data, field_sort, gives, guarded_sort, match_sorts, sort_if, sort_of}
+use Rattle.pp_prog.specs.ExprSorts.{sort_step, then_sort, tree_sort, unary_sort}
 use Rattle.pp_prog.specs.PatternSorts.{Binding, bind_fields, bind_step, bind_tree, binds_none, bound_sorts, then_bind}
 use Rattle.pp_prog.specs.Sorts.{is_int, param_sorts, same_sort}
 use Rattle.pp_prog.specs.Results.{Binds, Body, Result, bind_each, binds, binds_step, body, body_step, call_result}
-use Rattle.pp_prog.specs.Results.{class_result, field_result, fields_of_ctor, first_ctor, first_result, operator_result}
+use Rattle.pp_prog.specs.Results.{field_result, fields_of_ctor, first_ctor, first_result}
 use Rattle.pp_prog.specs.Results.{or_int, result_of, result_step, sort_at, tree_result, unary_result}
+use Rattle.pp_prog.proofs.PartSorts.{operands}
 
 if_sort : (b : Bool) (t s : Sort) → sort_if b t ≡ Some s → t ≡ s
 if_sort true t s e = same_Some t s e
@@ -62,46 +62,11 @@ unary_is Neg a s e = same_Some sort.Int s (after_int a (Some sort.Int) s e)
 unary_is Not a s e = same_Some sort.Bool s (after_bool a (Some sort.Bool) s e)
 unary_is Flip a s e = same_Some sort.Int s (after_int a (Some sort.Int) s e)
 
-number_is : (a b : Option Sort) (s : Sort) → number_sort a b ≡ Some s → sort.Int ≡ s
-number_is a b s e =
-    same_Some sort.Int s (after_int b (Some sort.Int) s (after_int a (an_int b (Some sort.Int)) s e))
-
-order_is : (a b : Option Sort) (s : Sort) → order_sort a b ≡ Some s → sort.Bool ≡ s
-order_is a b s e =
-    same_Some sort.Bool s (after_int b (Some sort.Bool) s (after_int a (an_int b (Some sort.Bool)) s e))
-
-truth_is : (a b : Option Sort) (s : Sort) → truth_sort a b ≡ Some s → sort.Bool ≡ s
-truth_is a b s e =
-    same_Some sort.Bool s (after_bool b (Some sort.Bool) s (after_bool a (a_bool b (Some sort.Bool)) s e))
-
-equality_is : (a b : Option Sort) (s : Sort) → equality_sort a b ≡ Some s → sort.Bool ≡ s
-equality_is a b s e = by (alike a b) e
-  where
-    by : (o : Option Sort) → then_sort o (λ t. Some sort.Bool) ≡ Some s → sort.Bool ≡ s
-    by None e = let no : None ≡ Some s = e in cc
-    by (Some t) e = same_Some sort.Bool s e
-
-bits_are : (a b : Option Sort) (s : Sort) → bits_sort a b ≡ Some s → a ≡ Some s
-bits_are None b s e = let no : None ≡ Some s = e in cc
-bits_are (Some sort.Int) b s e = after_int b (Some sort.Int) s e
-bits_are (Some sort.Bool) b s e = after_bool b (Some sort.Bool) s e
-bits_are (Some (sort.Tree d)) b s e = let no : None ≡ Some s = e in cc
-
-class_is : (c : OperatorClass) (a b : Option Sort) (r s : Sort) → ((t : Sort) → a ≡ Some t → r ≡ t)
-    → class_sort c a b ≡ Some s → class_result c r ≡ s
-class_is class.Sum a b r s left e = number_is a b s e
-class_is class.Product a b r s left e = number_is a b s e
-class_is class.Quotient a b r s left e = number_is a b s e
-class_is class.Equality a b r s left e = equality_is a b s e
-class_is class.Order a b r s left e = order_is a b s e
-class_is class.Logic a b r s left e = truth_is a b s e
-class_is class.Bitwise a b r s left e = left s (bits_are a b s e)
-class_is class.Shift a b r s left e = number_is a b s e
-
 -- where the left operand's sort is read off rightly, so is the result's
 pub binary_is : (op : BinaryOp) (a b : Option Sort) (r s : Sort) → ((t : Sort) → a ≡ Some t → r ≡ t)
-    → binary_sort op a b ≡ Some s → operator_result op r ≡ s
-binary_is op a b r s left e = class_is (class_of op) a b r s left e
+    → binary_sort op a b ≡ Some s → gives op r ≡ s
+binary_is op a b r s left e =
+    let o = operands (class_of op) a b s e in ap (gives op) (left o.left o.is_left) ∙ o.given
 
 data_is : (ctors : List Ctor) (t : Datatype) (k : ℕ) (s : Sort) → field_of_data ctors (Some t) k ≡ Some s
     → sort_at (fields_of_ctor (slice_get ctors t.first.0)) k ≡ s
@@ -135,37 +100,34 @@ module _ (ctors : List Ctor) where
   abbrev R : Pattern → Type 0
   R p = (s : Sort) (l : List Sort) → bound_sorts ctors p s ≡ Some l → binds ctors p s ≡ l
 
-  abbrev N : Type 0
-  N = (p : Pattern) × R p
-
-  fields_bind : (ps : List N) (ss : List Sort) (l : List Sort)
-      → bind_fields (map (bound_sorts ctors) (map (λ (z : N). z.0) ps)) ss ≡ Some l
-      → bind_each (map (binds ctors) (map (λ (z : N). z.0) ps)) ss ≡ l
+  fields_bind : (ps : List (With R)) (ss : List Sort) (l : List Sort)
+      → bind_fields (map (bound_sorts ctors) (elements ps)) ss ≡ Some l
+      → bind_each (map (binds ctors) (elements ps)) ss ≡ l
   fields_bind [] [] l e = cc
   fields_bind [] (s ∷ ss) l e = let no : None ≡ Some l = e in cc
   fields_bind (p ∷ ps) [] l e = let no : None ≡ Some l = e in cc
   fields_bind (p ∷ ps) (s ∷ ss) l e =
-      by (bound_sorts ctors p.0 s) (bind_fields (map (bound_sorts ctors) (map (λ (z : N). z.0) ps)) ss) (p.1 s)
+      by (bound_sorts ctors p.0 s) (bind_fields (map (bound_sorts ctors) (elements ps)) ss) (p.1 s)
       (fields_bind ps ss) e
     where
       by : (a b : Option (List Sort)) → ((x : List Sort) → a ≡ Some x → binds ctors p.0 s ≡ x)
-          → ((x : List Sort) → b ≡ Some x → bind_each (map (binds ctors) (map (λ (z : N). z.0) ps)) ss ≡ x)
+          → ((x : List Sort) → b ≡ Some x → bind_each (map (binds ctors) (elements ps)) ss ≡ x)
           → then_bind a (λ here. then_bind b (λ more. Some (here ++ more))) ≡ Some l
-          → binds ctors p.0 s ++ bind_each (map (binds ctors) (map (λ (z : N). z.0) ps)) ss ≡ l
+          → binds ctors p.0 s ++ bind_each (map (binds ctors) (elements ps)) ss ≡ l
       by None b f g e = let no : None ≡ Some l = e in cc
       by (Some here) None f g e = let no : None ≡ Some l = e in cc
       by (Some here) (Some more) f g e =
           let same : here ++ more ≡ l = cc in
-          ap (λ (x : List Sort). x ++ bind_each (map (binds ctors) (map (λ (z : N). z.0) ps)) ss) (f here refl)
+          ap (λ (x : List Sort). x ++ bind_each (map (binds ctors) (elements ps)) ss) (f here refl)
           ∙ ap (λ (x : List Sort). here ++ x) (g more refl) ∙ same
 
   none_bound : (b : Bool) (l : List Sort) → binds_none b ≡ Some l → [] ≡ l
   none_bound true l e = cc
   none_bound false l e = let no : None ≡ Some l = e in cc
 
-  pattern_level : (y : pattern.Pattern-F N) (s : Sort) (l : List Sort)
-      → bind_step ctors (map-Pattern Pattern Binding (bound_sorts ctors) (map-Pattern N Pattern (λ z. z.0) y)) s ≡ Some
-      l → binds_step ctors (map-Pattern Pattern Binds (binds ctors) (map-Pattern N Pattern (λ z. z.0) y)) s ≡ l
+  pattern_level : (y : pattern.Pattern-F (With R)) (s : Sort) (l : List Sort)
+      → bind_step ctors (map-Pattern Pattern Binding (bound_sorts ctors) (pattern_under y)) s ≡ Some
+      l → binds_step ctors (map-Pattern Pattern Binds (binds ctors) (pattern_under y)) s ≡ l
   pattern_level pattern.Any s l e = cc
   pattern_level (pattern.Bind inner) s l e = by (bound_sorts ctors inner.0 s) (inner.1 s) e
     where
@@ -182,26 +144,26 @@ module _ (ctors : List Ctor) where
       test true o e = e
       test false o e = let no : None ≡ Some l = e in cc
 
-      by : (k : Option Ctor) → bind_tree k (map (bound_sorts ctors) (map (λ (z : N). z.0) ps)) s ≡ Some l
-          → bind_each (map (binds ctors) (map (λ (z : N). z.0) ps)) (fields_of_ctor k) ≡ l
+      by : (k : Option Ctor) → bind_tree k (map (bound_sorts ctors) (elements ps)) s ≡ Some l
+          → bind_each (map (binds ctors) (elements ps)) (fields_of_ctor k) ≡ l
       by None e = let no : None ≡ Some l = e in cc
       by (Some k) e =
           fields_bind ps k.fields l
           (test (same_sort (sort.Tree k.of) s)
-          (bind_fields (map (bound_sorts ctors) (map (λ (z : N). z.0) ps)) k.fields) e)
+          (bind_fields (map (bound_sorts ctors) (elements ps)) k.fields) e)
 
-  at_pattern : (y : pattern.Pattern-F N) → R (roll-Pattern (map-Pattern N Pattern (λ z. z.0) y))
+  at_pattern : (y : pattern.Pattern-F (With R)) → R (roll-Pattern (pattern_under y))
   at_pattern y s l e =
-      let z = map-Pattern N Pattern (λ w. w.0) y in
+      let z = pattern_under y in
       ap (λ (f : Binds). f s) (fold-roll-Pattern Binds (binds_step ctors) z)
       ∙ pattern_level y s l (ap (λ (f : Binding). f s) (sym (fold-roll-Pattern Binding (bind_step ctors) z)) ∙ e)
 
   pub binds_are : (p : Pattern) → R p
-  binds_are = ind-Pattern R (λ x y is. subst (λ z. R (roll-Pattern z)) is (at_pattern y))
+  binds_are = each_pattern R at_pattern
 
 module _ (types : TypeTable) (functions : List Function) where
   abbrev sorting : Case → Arm
-  sorting = fold-Case Sorting Arm (sort_step types functions) arm_step
+  sorting = case_sorts types functions
 
   abbrev P : Expr → Type 0
   P e = (scope : List Sort) (s : Sort) → sort_of types functions e scope ≡ Some s
@@ -211,15 +173,6 @@ module _ (types : TypeTable) (functions : List Function) where
   Q k = (m : Sort) (scope : List Sort) (s : Sort) → arm_sort types functions (sorting k) m scope ≡ Some s
       → (body types functions k).1 (scope ++ binds types.ctors (body types functions k).0 m) ≡ s
 
-  abbrev E : Type 0
-  E = (e : Expr) × P e
-
-  abbrev K : Type 0
-  K = (k : Case) × Q k
-
-  abbrev under : layer.Expr-F E K → layer.Expr-F Expr Case
-  under y = map-Expr E K Expr Case (λ z. z.0) (λ z. z.0) y
-
   -- the first case has the sort of all
   first_like : (arms : List Arm) (m : Sort) (scope : List Sort) (t : Option Sort) (s : Sort)
       → arms_like types functions t arms m scope ≡ Some s → t ≡ Some s
@@ -228,12 +181,12 @@ module _ (types : TypeTable) (functions : List Function) where
       left_alike t (arm_sort types functions a m scope) s
       (first_like arms m scope (alike t (arm_sort types functions a m scope)) s e)
 
-  first_is : (ks : List K) (m : Sort) (scope : List Sort) (s : Sort)
-      → arms_sort types functions (map sorting (map (λ (z : K). z.0) ks)) m scope ≡ Some s
-      → first_result types functions (map (body types functions) (map (λ (z : K). z.0) ks)) m scope ≡ s
+  first_is : (ks : List (With Q)) (m : Sort) (scope : List Sort) (s : Sort)
+      → arms_sort types functions (map sorting (elements ks)) m scope ≡ Some s
+      → first_result types functions (map (body types functions) (elements ks)) m scope ≡ s
   first_is [] m scope s e = let no : None ≡ Some s = e in cc
   first_is (k ∷ ks) m scope s e =
-      k.1 m scope s (first_like (map sorting (map (λ (z : K). z.0) ks)) m scope
+      k.1 m scope s (first_like (map sorting (elements ks)) m scope
       (arm_sort types functions (sorting k.0) m scope) s e)
 
   tree_of : (o : Option Sort) (go : DataId → Option Sort) (s : Sort) → a_tree o go ≡ Some s → (d : DataId)
@@ -248,7 +201,7 @@ module _ (types : TypeTable) (functions : List Function) where
   then_of None go s e = let no : None ≡ Some s = e in cc
   then_of (Some t) go s e = (t, refl, e)
 
-  level : (y : layer.Expr-F E K) (scope : List Sort) (s : Sort)
+  level : (y : layer.Expr-F (With P) (With Q)) (scope : List Sort) (s : Sort)
       → sort_step types functions (map-Expr Expr Case Sorting Arm (sort_of types functions) sorting (under y)) scope ≡
       Some s → result_step types functions
       (map-Expr Expr Case Result Body (result_of types functions) (body types functions) (under y)) scope ≡ s
@@ -269,8 +222,8 @@ module _ (types : TypeTable) (functions : List Function) where
       (alike (sort_of types functions a.0 scope) (sort_of types functions b.0 scope)) s e))
   level (layer.Match x ks check) scope s e =
       let t = then_of (sort_of types functions x.0 scope)
-      (λ m. arms_sort types functions (map sorting (map (λ (z : K). z.0) ks)) m scope) s e in
-      ap (λ (z : Sort). first_result types functions (map (body types functions) (map (λ (k : K). k.0) ks)) z scope)
+      (λ m. arms_sort types functions (map sorting (elements ks)) m scope) s e in
+      ap (λ (z : Sort). first_result types functions (map (body types functions) (elements ks)) z scope)
       (x.1 scope t.0 t.1) ∙ first_is ks t.0 scope s t.2
   level (layer.Val a b) scope s e =
       let t = then_of (sort_of types functions a.0 scope) (λ m. sort_of types functions b.0 (scope ++ m ∷ [])) s e in
@@ -280,7 +233,7 @@ module _ (types : TypeTable) (functions : List Function) where
       b.1 scope s (after_bool (sort_of types functions c.0 scope) (sort_of types functions b.0 scope) s e)
   level (layer.Call g args pre measure) scope s e = call_is (slice_get functions g.0) _ s e
 
-  at_level : (y : layer.Expr-F E K) → P (roll-Expr (under y))
+  at_level : (y : layer.Expr-F (With P) (With Q)) → P (roll-Expr (under y))
   at_level y scope s e =
       let z = under y in
       ap (λ (f : Result). f scope) (fold-roll-Expr Result Body (result_step types functions) body_step z)
@@ -292,8 +245,8 @@ module _ (types : TypeTable) (functions : List Function) where
   guarded_is None scope o s e = e
   guarded_is (Some g) scope o s e = after_bool (g scope) o s e
 
-  at_parts : (p : Pattern) (o : Option E) (b : E) → let z =
-      map-Case E K Expr Case (λ w. w.0) (λ w. w.0) (record { pattern = p; guard = o; body = b }) in
+  at_parts : (p : Pattern) (o : Option (With P)) (b : With P) → let z =
+      case_under Q (record { pattern = p; guard = o; body = b }) in
       (m : Sort) (scope : List Sort) (s : Sort)
       → arm_sort types functions (arm_step (map-Case Expr Case Sorting Arm (sort_of types functions) sorting z)) m
       scope ≡ Some s
@@ -324,9 +277,9 @@ module _ (types : TypeTable) (functions : List Function) where
           ∙ b.1 (scope ++ x) s (after_bool (sort_of types functions g.0 (scope ++ x))
           (sort_of types functions b.0 (scope ++ x)) s e)
 
-  at_case : (y : layer.Case-F E K) → Q (roll-Case (map-Case E K Expr Case (λ z. z.0) (λ z. z.0) y))
+  at_case : (y : layer.Case-F (With P) (With Q)) → Q (roll-Case (case_under Q y))
   at_case y m scope s e =
-      let z = map-Case E K Expr Case (λ w. w.0) (λ w. w.0) y in
+      let z = case_under Q y in
       let one = fold-roll-Case Result Body (result_step types functions) body_step z in
       let two = fold-roll-Case Sorting Arm (sort_step types functions) arm_step z in
       ap (λ (b : Body). b.1 (scope ++ binds types.ctors b.0 m)) one
@@ -335,5 +288,4 @@ module _ (types : TypeTable) (functions : List Function) where
 
   pub result_is : (e : Expr) (scope : List Sort) (s : Sort) → sort_of types functions e scope ≡ Some s
       → result_of types functions e scope ≡ s
-  result_is = ind-Expr P Q (λ x y is. subst (λ z. P (roll-Expr z)) is (at_level y))
-      (λ x y is. subst (λ z. Q (roll-Case z)) is (at_case y))
+  result_is = each_expr P Q at_level at_case

@@ -1,15 +1,15 @@
 -- The sites of each form of an expression.
 use Rattle.std.proofs.Common.{◌≡◌, ℕ, ℤ, Bool, List, [], ◌∷◌, ◌++◌, map, refl, sym, ap, ◌∙◌}
-use Rattle.std.specs.Prelude.{Option, Some, None}
-use Rattle.pp_prog.specs.Calls.{joined}
+use Rattle.std.specs.Prelude.{Option}
+use Rattle.pp_list.specs.Joined.{joined}
 use Rattle.pp_prog.specs.ExprSorts.{sort_of}
 use Rattle.pp_prog.specs.Listing.{CaseSites, Site, Sites, assertion, at_sort, case_sites, matching, measure}
 use Rattle.pp_prog.specs.Listing.{operator_site, precondition, site_step, sites, sites_of_all, sites_of_cases}
-use Rattle.pp_prog.specs.Listing.{unguarded}
+use Rattle.pp_prog.specs.Listing.{unguarded, with_case_sites, with_sites}
 use Rattle.pp_tree.specs.declared.operator.BinaryOp.{BinaryOp}
 use Rattle.pp_prog.specs.declared.expr.Case.{Case}
 use Rattle.pp_prog.specs.declared.expr.Expr.{Expr}
-use Rattle.pp_prog.specs.declared.expr.Expr.TheFolds.{para-Case, para-roll-Expr}
+use Rattle.pp_prog.specs.declared.expr.Expr.TheFolds.{para-roll-Expr}
 use Rattle.pp_prog.specs.declared.expr.Expr.TheOpen as layer
 use Rattle.pp_prog.specs.declared.expr.Expr.TheVariants as prog
 use Rattle.pp_prog.specs.declared.expr.Function.{Function}
@@ -24,16 +24,7 @@ module _ (types : TypeTable) (fs : List Function) (sc : List Sort) where
   abbrev pub In : Expr → List Site
   In x = sites types fs x sc
 
-  abbrev pub beside : Expr → Expr × Sites
-  beside x = (x, sites types fs x)
-
-  abbrev pub sites_in_case : Case → CaseSites
-  sites_in_case = para-Case Sites CaseSites (site_step types fs) (case_sites types fs)
-
-  abbrev pub case_beside : Case → Case × CaseSites
-  case_beside y = (y, sites_in_case y)
-
-  pub all_sites : (xs : List Expr) → sites_of_all (map beside xs) sc ≡ joined (map In xs)
+  pub all_sites : (xs : List Expr) → sites_of_all (with_sites types fs xs) sc ≡ joined (map In xs)
   all_sites [] = refl
   all_sites (x ∷ xs) = ap (λ l. In x ++ l) (all_sites xs)
 
@@ -75,7 +66,7 @@ module _ (types : TypeTable) (fs : List Function) (sc : List Sort) where
 
   pub sites_match : (a : Expr) (ys : List Case) (n : Option CheckId)
       → In (prog.Match a ys n) ≡ In a ++ at_sort (sort_of types fs a sc)
-      (λ s. matching s (unguarded (map case_beside ys)) n ∷ sites_of_cases (map case_beside ys) s sc)
+      (λ s. matching s (unguarded (with_case_sites types fs ys)) n ∷ sites_of_cases (with_case_sites types fs ys) s sc)
   sites_match a ys n = ap In (sym (prog.rolls-Match a ys n))
       ∙ ap (λ (g : Sites). g sc) (para-roll-Expr Sites CaseSites (site_step types fs) (case_sites types fs)
       (layer.Match a ys n))

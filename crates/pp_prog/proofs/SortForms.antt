@@ -2,12 +2,13 @@
 use Rattle.std.proofs.Common.{◌≡◌, ℕ, ℤ, Bool, List, [], ◌∷◌, ◌++◌, map, refl, sym, ap, ◌∙◌}
 use Rattle.std.specs.Prelude.{Option, Some, slice_get}
 use Rattle.pp_prog.specs.ExprSorts.{Arm, Sorting, a_bool, a_tree, alike, arm_step, arms_sort, binary_sort, call_sort}
+use Rattle.pp_prog.specs.ExprSorts.{case_sorts}
 use Rattle.pp_prog.specs.ExprSorts.{field_sort, sort_if, sort_of, sort_step, sorts_in, then_sort, tree_sort, unary_sort}
 use Rattle.pp_prog.specs.Sorts.{is_int}
 use Rattle.pp_tree.specs.declared.operator.BinaryOp.{BinaryOp}
 use Rattle.pp_prog.specs.declared.expr.Case.{Case}
 use Rattle.pp_prog.specs.declared.expr.Expr.{Expr}
-use Rattle.pp_prog.specs.declared.expr.Expr.TheFolds.{fold-Case, fold-roll-Expr}
+use Rattle.pp_prog.specs.declared.expr.Expr.TheFolds.{fold-roll-Expr}
 use Rattle.pp_prog.specs.declared.expr.Expr.TheOpen as layer
 use Rattle.pp_prog.specs.declared.expr.Expr.TheVariants as prog
 use Rattle.pp_prog.specs.declared.expr.Function.{Function}
@@ -22,9 +23,6 @@ use Rattle.pp_prog.specs.declared.types.TypeTable.{TypeTable}
 module _ (types : TypeTable) (functions : List Function) (scope : List Sort) where
   abbrev pub Sorted : Expr → Option Sort
   Sorted x = sort_of types functions x scope
-
-  abbrev pub arm : Case → Arm
-  arm = fold-Case Sorting Arm (sort_step types functions) arm_step
 
   one : (x : Expr) (f : Sorting) → sort_of types functions x ≡ f → Sorted x ≡ f scope
   one x f e = ap (λ (g : Sorting). g scope) e
@@ -78,7 +76,8 @@ module _ (types : TypeTable) (functions : List Function) (scope : List Sort) whe
       ∙ fold-roll-Expr Sorting Arm (sort_step types functions) arm_step (layer.If c a b))
 
   pub sort_of_match : (a : Expr) (ys : List Case) (n : Option CheckId)
-      → Sorted (prog.Match a ys n) ≡ then_sort (Sorted a) (λ s. arms_sort types functions (map arm ys) s scope)
+      → Sorted (prog.Match a ys n) ≡ then_sort (Sorted a)
+      (λ s. arms_sort types functions (map (case_sorts types functions) ys) s scope)
   sort_of_match a ys n = one _ _ (ap (sort_of types functions) (sym (prog.rolls-Match a ys n))
       ∙ fold-roll-Expr Sorting Arm (sort_step types functions) arm_step (layer.Match a ys n))
 

@@ -1,5 +1,7 @@
 -- Which functions a function calls, contracts included, and which reach which. Source: own.
 use Rattle.std.specs.Prelude.{ℕ, List, [], ◌∷◌, ◌++◌, map, Option, Some, None}
+use Rattle.pp_list.specs.Joined.{joined}
+use Rattle.pp_prog.specs.Parts.{case_parts, parts}
 use Rattle.pp_prog.specs.declared.expr.Case.{Case}
 use Rattle.pp_prog.specs.declared.expr.Expr.{Expr}
 use Rattle.pp_prog.specs.declared.expr.Expr.TheFolds.{fold-Case, fold-Expr}
@@ -8,41 +10,18 @@ use Rattle.pp_prog.specs.declared.expr.Function.{Function}
 use Rattle.pp_prog.specs.declared.id.CheckId.{CheckId}
 use Rattle.pp_graph.specs.Reaches.{Reaches, SameGroup}
 
--- lists, one after another
-abbrev pub joined : {A : Type 0} → List (List A) → List A
-joined [] = []
-joined (xs ∷ rest) = xs ++ joined rest
-
-abbrev pub or_none : {A : Type 0} → Option (List A) → List A
-or_none None = []
-or_none (Some xs) = xs
-
--- a case, with the calls of its guard and its body
-abbrev pub case_calls : layer.Case-F (List ℕ) (List ℕ) → List ℕ
-case_calls c = or_none c.guard ++ c.body
-
 -- one level, with the calls of the parts in their place
 abbrev pub calls_step : layer.Expr-F (List ℕ) (List ℕ) → List ℕ
-calls_step (layer.Int n) = []
-calls_step (layer.Bool b) = []
-calls_step (layer.Var i) = []
-calls_step (layer.Unary op a) = a
-calls_step (layer.Binary op a b check) = a ++ b
-calls_step (layer.Construct c args) = joined args
-calls_step (layer.Field e k) = e
-calls_step (layer.If c a b) = c ++ a ++ b
-calls_step (layer.Match e cases check) = e ++ joined cases
-calls_step (layer.Val bound rest) = bound ++ rest
-calls_step (layer.Assert check c rest) = c ++ rest
 calls_step (layer.Call g args pre measure) = joined args ++ g.0 ∷ []
+calls_step y = parts y
 
 -- the functions that an expression calls
 abbrev pub calls : Expr → List ℕ
-calls = fold-Expr (List ℕ) (List ℕ) calls_step case_calls
+calls = fold-Expr (List ℕ) (List ℕ) calls_step case_parts
 
 -- the functions that a case calls, in its guard and its body
 abbrev pub calls_in_case : Case → List ℕ
-calls_in_case = fold-Case (List ℕ) (List ℕ) calls_step case_calls
+calls_in_case = fold-Case (List ℕ) (List ℕ) calls_step case_parts
 
 abbrev pub pre_calls : Option Expr → List ℕ
 pre_calls None = []

@@ -3,6 +3,7 @@ use Rattle.std.specs.Prelude.{◌≡◌, ◌⊎◌, ℕ, Bool, true, false, ◌&
 use Rattle.std.specs.Prelude.{IsTrue}
 use Rattle.std.specs.List.{list_all}
 use Rattle.std.specs.Option.{option_map}
+use Rattle.pp_list.specs.Joined.{or_none}
 use Rattle.pp_prog.specs.declared.expr.Case.{Case}
 use Rattle.pp_prog.specs.declared.expr.Expr.{Expr}
 use Rattle.pp_prog.specs.declared.expr.Expr.TheFolds.{para-Expr}
@@ -15,7 +16,7 @@ use Rattle.pp_prog.specs.declared.types.TypeTable.{TypeTable}
 use Rattle.pp_prog.specs.Sorts.{param_sorts}
 use Rattle.pp_prog.specs.PatternSorts.{bound_sorts}
 use Rattle.pp_prog.specs.ExprSorts.{sort_of}
-use Rattle.pp_prog.specs.Calls.{FunctionReaches, or_none}
+use Rattle.pp_prog.specs.Calls.{FunctionReaches}
 
 -- g is in the cone of f: it is f, or f reaches it by calls, those in contracts included
 abbrev pub InCone : List Function → ℕ → ℕ → Type 0

@@ -4,10 +4,11 @@ use Rattle.std.specs.Prelude.{ℕ, nat_eq, Bool, true, false, if◌then◌else�
 use Rattle.std.specs.Prelude.{None, is_some, slice_get}
 use Rattle.pp_tree.specs.declared.operator.BinaryOp.{BinaryOp}
 use Rattle.pp_operators.specs.Classes.{class_of}
+use Rattle.pp_operators.specs.Sorts as operators
 use Rattle.pp_operators.specs.declared.class.OperatorClass.{OperatorClass}
-use Rattle.pp_operators.specs.declared.class.OperatorClass.TheVariants as class
+use Rattle.pp_prog.specs.declared.expr.Case.{Case}
 use Rattle.pp_prog.specs.declared.expr.Expr.{Expr}
-use Rattle.pp_prog.specs.declared.expr.Expr.TheFolds.{fold-Expr}
+use Rattle.pp_prog.specs.declared.expr.Expr.TheFolds.{fold-Case, fold-Expr}
 use Rattle.pp_prog.specs.declared.expr.Expr.TheOpen as layer
 use Rattle.pp_prog.specs.declared.expr.Function.{Function}
 use Rattle.pp_tree.specs.declared.operator.UnaryOp.{UnaryOp}
@@ -81,39 +82,31 @@ unary_sort Neg a = an_int a (Some sort.Int)
 unary_sort Not a = a_bool a (Some sort.Bool)
 unary_sort Flip a = an_int a (Some sort.Int)
 
--- two Ints give an Int
-abbrev pub number_sort : Option Sort → Option Sort → Option Sort
-number_sort a b = an_int a (an_int b (Some sort.Int))
+-- whether it is a sort of numbers
+abbrev pub is_number : Sort → Bool
+is_number = same_sort sort.Int
 
--- two Ints give a Boolean
-abbrev pub order_sort : Option Sort → Option Sort → Option Sort
-order_sort a b = an_int a (an_int b (Some sort.Bool))
+-- whether operators of this class take operands of these sorts
+abbrev pub class_takes : OperatorClass → Sort → Sort → Bool
+class_takes = operators.class_takes is_number same_sort sort.Bool
 
--- two Booleans give a Boolean
-abbrev pub truth_sort : Option Sort → Option Sort → Option Sort
-truth_sort a b = a_bool a (a_bool b (Some sort.Bool))
+-- the sort of the result of an operator of this class, whose left operand has this sort
+abbrev pub class_gives : OperatorClass → Sort → Sort
+class_gives = operators.class_gives sort.Bool
 
--- two of one sort give a Boolean
-abbrev pub equality_sort : Option Sort → Option Sort → Option Sort
-equality_sort a b = then_sort (alike a b) (λ s. Some sort.Bool)
+-- the sort of the operator's result, whose left operand has this sort
+abbrev pub gives : BinaryOp → Sort → Sort
+gives op s = class_gives (class_of op) s
 
--- two Ints give an Int, and two Booleans a Boolean
-abbrev pub bits_sort : Option Sort → Option Sort → Option Sort
-bits_sort (Some sort.Int) b = an_int b (Some sort.Int)
-bits_sort (Some sort.Bool) b = a_bool b (Some sort.Bool)
-bits_sort (Some (sort.Tree d)) b = None
-bits_sort None b = None
+-- goes on with the sorts of both operands
+abbrev pub both_sorts : Option Sort → Option Sort → (Sort → Sort → Option Sort) → Option Sort
+both_sorts None b go = None
+both_sorts (Some s) None go = None
+both_sorts (Some s) (Some t) go = go s t
 
 -- the sort of the result of an operator of this class, at the sorts of its operands
 abbrev pub class_sort : OperatorClass → Option Sort → Option Sort → Option Sort
-class_sort class.Sum a b = number_sort a b
-class_sort class.Product a b = number_sort a b
-class_sort class.Quotient a b = number_sort a b
-class_sort class.Equality a b = equality_sort a b
-class_sort class.Order a b = order_sort a b
-class_sort class.Logic a b = truth_sort a b
-class_sort class.Bitwise a b = bits_sort a b
-class_sort class.Shift a b = number_sort a b
+class_sort c a b = both_sorts a b (λ s t. sort_if (class_takes c s t) (class_gives c s))
 
 abbrev pub binary_sort : BinaryOp → Option Sort → Option Sort → Option Sort
 binary_sort op a b = class_sort (class_of op) a b
@@ -190,6 +183,10 @@ module _ (types : TypeTable) (functions : List Function) where
   -- the sort of an expression, with the sorts of the variables in scope, or none
   abbrev pub sort_of : Expr → List Sort → Option Sort
   sort_of = fold-Expr Sorting Arm sort_step arm_step
+
+  -- a case, with the sorts of its guard and its body
+  abbrev pub case_sorts : Case → Arm
+  case_sorts = fold-Case Sorting Arm sort_step arm_step
 
   abbrev pub has_the_sort : Sort → Option Sort → Bool
   has_the_sort s None = false

@@ -4,6 +4,7 @@ pub mod Table
 pub mod Fits
 pub mod PatternSorts
 pub mod ExprSorts
+pub mod Parts
 pub mod Calls
 pub mod Listing
 pub mod Names

@@ -1,13 +1,14 @@
 -- The sites of a function, in order: those in its precondition, its measure, its body and its postcondition, and last
 -- that of the postcondition itself. Inside an expression they stand in the order of evaluation. Source: own.
 use Rattle.std.specs.Prelude.{Bool, true, false, List, [], ◌∷◌, ◌++◌, map, Option, Some, None}
+use Rattle.pp_list.specs.Joined.{joined}
 use Rattle.pp_prog.specs.declared.check.CheckKind.{CheckKind}
 use Rattle.pp_prog.specs.declared.check.CheckKind.TheVariants as kind
 use Rattle.pp_operators.specs.Classes.{is_division}
 use Rattle.pp_tree.specs.declared.operator.BinaryOp.{BinaryOp}
 use Rattle.pp_prog.specs.declared.expr.Case.{Case}
 use Rattle.pp_prog.specs.declared.expr.Expr.{Expr}
-use Rattle.pp_prog.specs.declared.expr.Expr.TheFolds.{para-Expr}
+use Rattle.pp_prog.specs.declared.expr.Expr.TheFolds.{para-Case, para-Expr}
 use Rattle.pp_prog.specs.declared.expr.Expr.TheOpen as layer
 use Rattle.pp_prog.specs.declared.expr.Function.{Function}
 use Rattle.pp_prog.specs.declared.expr.Pattern.{Pattern}
@@ -18,7 +19,6 @@ use Rattle.pp_prog.specs.declared.types.TypeTable.{TypeTable}
 use Rattle.pp_prog.specs.Sorts.{param_sorts}
 use Rattle.pp_prog.specs.PatternSorts.{bound_sorts}
 use Rattle.pp_prog.specs.ExprSorts.{sort_of}
-use Rattle.pp_prog.specs.Calls.{joined}
 
 -- a site, with the check that it carries: an operator that can't fail; `/` or `%`; an assertion; the precondition of
 -- the called function; its measure; a match on a value of a sort, with the patterns of its cases without a guard; a
@@ -117,6 +117,23 @@ module _ (types : TypeTable) (functions : List Function) where
   -- the sites of an expression, in the order of evaluation
   abbrev pub sites : Expr → List Sort → List Site
   sites = para-Expr Sites CaseSites site_step case_sites
+
+  -- the sites of a case, at the sort of the matched value
+  abbrev pub sites_in_case : Case → CaseSites
+  sites_in_case = para-Case Sites CaseSites site_step case_sites
+
+  -- expressions and cases, each with its sites beside it
+  abbrev pub beside : Expr → Expr × Sites
+  beside e = (e, sites e)
+
+  abbrev pub case_beside : Case → Case × CaseSites
+  case_beside c = (c, sites_in_case c)
+
+  abbrev pub with_sites : List Expr → List (Expr × Sites)
+  with_sites = map beside
+
+  abbrev pub with_case_sites : List Case → List (Case × CaseSites)
+  with_case_sites = map case_beside
 
   abbrev pub pre_sites : Option Expr → Sites
   pre_sites None scope = []

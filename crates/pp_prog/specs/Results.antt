@@ -1,11 +1,6 @@
 -- The sort of an expression, read off its form without a test of its parts. Where the expression has a sort, it is
 -- this one: `proofs/Results` has that lemma. Source: own.
-use Rattle.pp_prog.specs.declared.id.DataId.{DataId}
 use Rattle.std.specs.Prelude.{ℕ, List, [], ◌∷◌, ◌++◌, Option, Some, None, slice_get}
-use Rattle.pp_tree.specs.declared.operator.BinaryOp.{BinaryOp}
-use Rattle.pp_operators.specs.Classes.{class_of}
-use Rattle.pp_operators.specs.declared.class.OperatorClass.{OperatorClass}
-use Rattle.pp_operators.specs.declared.class.OperatorClass.TheVariants as class
 use Rattle.pp_prog.specs.declared.expr.Expr.{Expr}
 use Rattle.pp_prog.specs.declared.expr.Case.{Case}
 use Rattle.pp_prog.specs.declared.expr.Expr.TheFolds.{fold-Case, fold-Expr}
@@ -21,6 +16,7 @@ use Rattle.pp_prog.specs.declared.sort.Sort.TheVariants as sort
 use Rattle.pp_prog.specs.declared.types.Ctor.{Ctor}
 use Rattle.pp_prog.specs.declared.types.Datatype.{Datatype}
 use Rattle.pp_prog.specs.declared.types.TypeTable.{TypeTable}
+use Rattle.pp_prog.specs.ExprSorts.{gives}
 
 -- where no sort can be read off, Int stands in its place
 abbrev pub or_int : Option Sort → Sort
@@ -30,17 +26,6 @@ or_int (Some s) = s
 -- the sort at this place of the scope
 abbrev pub sort_at : List Sort → ℕ → Sort
 sort_at scope i = or_int (slice_get scope i)
-
--- the sort of the result of an operator of this class, at the sort of its left operand
-abbrev pub class_result : OperatorClass → Sort → Sort
-class_result class.Equality s = sort.Bool
-class_result class.Order s = sort.Bool
-class_result class.Logic s = sort.Bool
-class_result class.Bitwise s = s
-class_result c s = sort.Int
-
-abbrev pub operator_result : BinaryOp → Sort → Sort
-operator_result op s = class_result (class_of op) s
 
 abbrev pub unary_result : UnaryOp → Sort
 unary_result Not = sort.Bool
@@ -115,7 +100,7 @@ module _ (types : TypeTable) (functions : List Function) where
   result_step (layer.Bool b) scope = sort.Bool
   result_step (layer.Var i) scope = sort_at scope i
   result_step (layer.Unary op a) scope = unary_result op
-  result_step (layer.Binary op a b check) scope = operator_result op (a scope)
+  result_step (layer.Binary op a b check) scope = gives op (a scope)
   result_step (layer.Construct c args) scope = tree_result (slice_get types.ctors c.0)
   result_step (layer.Field e k) scope = field_result types (e scope) k
   result_step (layer.If c a b) scope = a scope

@@ -1,7 +1,8 @@
 //! The functions that a function calls.
 
 ghost use Rattle.std.specs.Prelude.{◌≡◌, ◌++◌, IfOk, map};
-ghost use Rattle.pp_prog.specs.Calls.{call_table, calls, calls_in_case, contract_calls, function_calls, joined};
+ghost use Rattle.pp_list.specs.Joined.{joined};
+ghost use Rattle.pp_prog.specs.Calls.{call_table, calls, calls_in_case, contract_calls, function_calls};
 ghost use Rattle.pp_prog.specs.Calls.{pre_calls};
 
 use crate::{Case, Expr, Function, NoMemory};

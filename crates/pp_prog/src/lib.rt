@@ -6,7 +6,9 @@
 //! `specs/Values` says what height and subtree are, `specs/Sorts` which values have which sort, `specs/Table` which
 //! tables agree, `specs/Fits` which values fit a pattern, `specs/PatternSorts` and `specs/ExprSorts` which patterns and
 //! expressions have which sort, `specs/Calls` which functions reach which, `specs/Listing` the sites of a function that
-//! may carry checks, `specs/Names` which function has a name, and `specs/Valid` which programs are valid. `proofs/Sure`
+//! may carry checks, `specs/Names` which function has a name, and `specs/Valid` which programs are valid. `specs/Parts`
+//! joins what the parts of an expression have, and `proofs/Induction` is how proofs go over expressions, cases and
+//! patterns. `proofs/Sure`
 //! gives the whole validity of a program from its type, `proofs/SortForms` the sort of each form of an expression, and
 //! `proofs/SiteForms` its sites. `proofs/PartSorts` says what follows for the parts of an expression from its sort,
 //! `proofs/ValueSorts` and `proofs/Fields` what a value of a sort is, and `proofs/PatternFits` what a pattern binds.

@@ -1,9 +1,9 @@
 -- What is left in the table after the literals of the lemma are taken out.
-use Rattle.std.proofs.Common.{ℕ, ◌+◌, ◌≡◌, ◌<◌, Bool, true, false, List, [], ◌∷◌, ◌++◌, Option, Some, None, sym, refl}
+use Rattle.std.proofs.Common.{ℕ, ◌+◌, ◌≡◌, ◌<◌, Bool, true, false, List, [], ◌∷◌, Option, Some, None, sym, refl}
 use Rattle.std.proofs.Common.{ap, ◌∙◌, subst, inl, inr, arith, length, get_or, take, not, All}
 use Rattle.std.specs.Prelude.{IfSome, ◌&&◌}
 use Rattle.std.proofs.lemmas.Bool.{and_parts, and_cases, not-true, not-false, false_from_ne_true}
-use Rattle.std.proofs.lemmas.List.{take_more, get_or-take, get_or_default, length-take-le}
+use Rattle.std.proofs.lemmas.List.{get_or-take, get_or_default, length-take-le}
 use Rattle.std.proofs.lemmas.List.Folds.{list_any_at}
 use Rattle.std.proofs.lemmas.Option.{IfSome_then}
 use Rattle.std.proofs.lemmas.List.Elements.{All-more, All-weaker}
@@ -15,7 +15,7 @@ use Rattle.pp_refute.specs.Table.{is_sign, marked, Agrees}
 use Rattle.pp_refute.specs.Checking.{HasDerived, TakesOut, Lacks, HasSome, is_clear_of, IsClearOfNumber, IsClearOfAll}
 use Rattle.pp_refute.proofs.Sources.{IsFree, derived_free}
 
-and_true : (b : Bool) → (b && true) ≡ b
+pub and_true : (b : Bool) → (b && true) ≡ b
 and_true true = refl
 and_true false = refl
 
@@ -61,10 +61,6 @@ fresh c i x o lt is h =
     subst (λ (z : Literal). z.var < x.var) (sym same) up in
     let self : x.var < x.var = has-All (λ l. l.var < x.var) (take i c) x below h in
     omega arith
-
-one_more : (c : List Literal) (i : ℕ) (x : Literal) → i < length c → x ≡ get_or c i x
-    → take (i + 1) c ≡ take i c ++ x ∷ []
-one_more c i x lt is = take_more c i x lt ∙ ap (λ (z : Literal). take i c ++ z ∷ []) (sym is)
 
 has_at : (c : List Literal) (i : ℕ) (x : Literal) → i < length c → x ≡ get_or c i x → has c x ≡ true
 has_at c i x lt is = list_any_at (literal_eq x) c i x lt (ap (literal_eq x) (sym is) ∙ literal_eq-same x)

@@ -10,6 +10,7 @@ use Rattle.std.proofs.lemmas.Bool.Decides.{eqb_tells}
 use Rattle.pp_clause.specs.Literal.{Literal, opposite}
 use Rattle.pp_clause.specs.Clause.{has, IsClause}
 use Rattle.pp_clause.specs.Derivation.{clashes, only_item, without, resolvent}
+use Rattle.pp_clause.proofs.Resolving.{resolvent_of}
 use Rattle.pp_clause.proofs.Has.{beq-same, same_bool, false_not_true, has-nil, has-here, has-there, has-cases}
 use Rattle.pp_clause.proofs.Has.{has-append_cases, has-append_left, has-append_right, has-filter, opposite_twice}
 use Rattle.pp_clause.proofs.Has.{same_var_cases}
@@ -146,11 +147,6 @@ resolved_agrees t xs ys l a f c e lt = record {
             ])
       ];
 }
-
-resolvent_of : (xs ys : List Literal) (l : Literal) → clashes xs ys ≡ l ∷ []
-    → resolvent xs ys ≡ Some (without l.var (xs ++ ys))
-unfolding resolvent
-resolvent_of xs ys l e = ap (λ (z : List Literal). option_map (λ k. without k.var (xs ++ ys)) (only_item z)) e
 
 no_resolvent : (xs ys : List Literal) → only_item (clashes xs ys) ≡ None → resolvent xs ys ≡ None
 unfolding resolvent

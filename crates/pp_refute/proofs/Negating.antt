@@ -14,15 +14,12 @@ use Rattle.pp_clause.proofs.Has.{has-append, has-nil, has-cases, All-from_has, f
 use Rattle.pp_clause.specs.Bound.{Fits}
 use Rattle.pp_refute.specs.Table.{marked, Agrees, put_all}
 use Rattle.pp_refute.specs.Checking.{IsStruck, is_clear_of}
+use Rattle.pp_refute.proofs.Clearing.{and_true}
 use Rattle.pp_refute.proofs.Marking.{put_first}
 
 -- the table has the literals of the clause, but for the negations of the assumptions read so far
 pub record Crossed (table : List (Option Bool)) (clause done : List Literal) : Type 0 where
   pub left : (m : Literal) → marked table m ≡ (has clause m && not (has done (opposite m)))
-
-and_true : (b : Bool) → (b && true) ≡ b
-and_true true = refl
-and_true false = refl
 
 pub crossed_first : (t : List (Option Bool)) (clause : List Literal) → Agrees t [] → Fits (length t) clause
     → IsClause clause → Crossed (put_all t clause) clause []

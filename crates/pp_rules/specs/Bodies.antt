@@ -1,14 +1,14 @@
 -- The typing of a function: its contracts and its body. Source: Stainless documentation (`require`, `decreases`,
 -- `ensuring`, `holds`) for what they are; the rest is own.
-use Rattle.std.specs.Prelude.{◌≡◌, ℕ, Bool, true, false, if◌then◌else◌, List, [], ◌∷◌, ◌++◌, length, Option, Some, None}
+use Rattle.std.specs.Prelude.{◌≡◌, ℕ, Bool, false, if◌then◌else◌, List, [], ◌∷◌, ◌++◌, length, Option, Some, None}
 use Rattle.std.specs.Prelude.{Ok}
 use Rattle.pp_fault.specs.declared.Rule.TheVariants.{Duplicate, Mismatch}
 use Rattle.pp_fault.specs.Part.{Part, and_then}
 use Rattle.pp_generic.specs.declared.expected.Expected.TheVariants.{Open}
-use Rattle.pp_generic.specs.Equal.{equal}
+use Rattle.pp_typed.specs.Equal.{equal}
 use Rattle.pp_generic.specs.Expected.{exact}
 use Rattle.pp_names.specs.Reserved.{is_reserved}
-use Rattle.pp_tree.specs.Plain.{Word, TypeTree, type_text, Tree, ParamTree, PostTree, DefTree}
+use Rattle.pp_tree.specs.Plain.{TypeTree, type_text, Tree, ParamTree, PostTree, DefTree}
 use Rattle.pp_typed.specs.declared.declared.Declared.{Declared}
 use Rattle.pp_typed.specs.declared.declared.Signature.{Signature}
 use Rattle.pp_typed.specs.declared.expr.TypedExpr.{TypedExpr}

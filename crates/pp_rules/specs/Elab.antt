@@ -1,15 +1,16 @@
 -- The typing of an expression, or the fault that is found first. `Typing` has the rules of the language; `Elab` is how
 -- a typing is found, and is the same by the laws above this crate. Source: own.
-use Rattle.std.specs.Prelude.{ℕ, zero, suc, nat_eq, ℤ, Bool, true, false, if◌then◌else◌, List, [], ◌∷◌, ◌++◌, map}
+use Rattle.std.specs.Prelude.{ℕ, zero, suc, nat_eq, Bool, false, if◌then◌else◌, List, [], ◌∷◌, ◌++◌, map}
 use Rattle.std.specs.Prelude.{length, Option, Some, None, is_some, unwrap_or, Ok, slice_get}
 use Rattle.pp_fault.specs.declared.Rule.{Rule}
 use Rattle.pp_fault.specs.declared.Rule.TheVariants.{Unknown, Duplicate, Mismatch, Arity, CannotInfer, NotABoolean}
 use Rattle.pp_fault.specs.Part.{Part, and_then, fault}
 use Rattle.pp_generic.specs.declared.expected.Expected.{Expected}
 use Rattle.pp_generic.specs.declared.expected.Expected.TheVariants.{Open}
-use Rattle.pp_generic.specs.Equal.{equal}
+use Rattle.pp_typed.specs.Equal.{equal}
 use Rattle.pp_generic.specs.Expected.{Found, exact, expect, every, fits, known}
 use Rattle.pp_generic.specs.Found.{learn, none_found}
+use Rattle.pp_typed.specs.Operators.{gives, takes, unary_sort}
 use Rattle.pp_typed.specs.Put.{put}
 use Rattle.pp_names.specs.Find.{find_ctor}
 use Rattle.pp_tree.specs.declared.operator.BinaryOp.{BinaryOp}
@@ -33,7 +34,7 @@ use Rattle.pp_typed.specs.declared.sort.GenericSort.TheViews.{out-GenericSort}
 use Rattle.pp_typed.specs.declared.typed.TypedCtor.{TypedCtor}
 use Rattle.pp_rules.specs.declared.callee.Callee.{Callee}
 use Rattle.pp_operators.specs.Classes.{is_equality}
-use Rattle.pp_rules.specs.Operators.{admits, gives, right_expected, unary_sort}
+use Rattle.pp_rules.specs.Operators.{admits, right_expected}
 use Rattle.pp_rules.specs.Scope.{Env, Scope, clashes, place}
 use Rattle.pp_rules.specs.Shapes.{application, applied_by, field_place, field_sort, named_by, only_ctor}
 use Rattle.pp_sorts.specs.IsSort.{count as count_types}
@@ -295,7 +296,7 @@ module _ (env : Env) where
         and_then (elab a sc (length sc) Open) (λ t.
         unless (admits op t.of) Mismatch (name_at a) t.at (
         and_then (elab b sc (length sc) (right_expected (is_equality op) t.of)) (λ u.
-        and_then (of_sort Mismatch t.of (name_at b) u) (operated at x op t))))
+        unless (takes op t.of u.of) Mismatch (name_at b) u.at (operated at x op t u))))
     elab (choice at c a b) sc k x =
         and_then (condition (name_at c) (elab c sc (length sc) Open)) (λ t.
         and_then (elab a sc (length sc) x) (λ u.

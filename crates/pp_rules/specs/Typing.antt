@@ -2,11 +2,12 @@
 -- the forms are; that a name, an application and a pattern stand for what they do, and that types are found from what
 -- is expected and from left to right, is own.
 use Rattle.std.specs.Prelude.{◌≡◌, ℕ, suc, ℤ, Bool, true, false, List, [], ◌∷◌, ◌++◌, map, length, Option, Some, None}
-use Rattle.std.specs.Prelude.{Ok, slice_get}
+use Rattle.std.specs.Prelude.{slice_get}
 use Rattle.pp_generic.specs.declared.expected.Expected.{Expected}
 use Rattle.pp_generic.specs.declared.expected.Expected.TheVariants.{Open}
 use Rattle.pp_generic.specs.Expected.{Found, exact, expect, every, fits, known}
 use Rattle.pp_generic.specs.Found.{learn, none_found}
+use Rattle.pp_typed.specs.Operators.{gives, takes, unary_sort}
 use Rattle.pp_typed.specs.Put.{put}
 use Rattle.pp_names.specs.Find.{find_ctor}
 use Rattle.pp_tree.specs.declared.operator.BinaryOp.{BinaryOp}
@@ -26,7 +27,7 @@ use Rattle.pp_typed.specs.declared.typed.TypedCtor.{TypedCtor}
 use Rattle.pp_rules.specs.declared.callee.Callee.{Callee}
 use Rattle.pp_rules.specs.Elab.{arm, pattern, typed}
 use Rattle.pp_operators.specs.Classes.{is_equality}
-use Rattle.pp_rules.specs.Operators.{admits, gives, right_expected, unary_sort}
+use Rattle.pp_rules.specs.Operators.{admits, right_expected}
 use Rattle.pp_rules.specs.Scope.{Env, Scope, clashes, place}
 use Rattle.pp_rules.specs.Shapes.{application, applied_by, field_place, field_sort, named_by, only_ctor}
 use Rattle.pp_sorts.specs.IsSort.{count as count_types}
@@ -108,7 +109,8 @@ module _ (env : Env) where
           → Types sc k x (unary at op a) (typed env at (unary_sort op) (kind.Unary op t))
       an_operation : {sc : Scope} {k : ℕ} {x : Expected} {a b : Tree} {t u : TypedExpr} (at : ℕ) (op : BinaryOp)
           → Types sc (length sc) Open a t → admits op t.of ≡ true
-          → Types sc (length sc) (right_expected (is_equality op) t.of) b u → u.of ≡ t.of → Suits x (gives op t.of)
+          → Types sc (length sc) (right_expected (is_equality op) t.of) b u → takes op t.of u.of ≡ true
+          → Suits x (gives op t.of)
           → Types sc k x (binary at op a b) (typed env at (gives op t.of) (kind.Binary op t u))
       a_choice : {sc : Scope} {k : ℕ} {x : Expected} {c a b : Tree} {t u v : TypedExpr} (at : ℕ)
           → Types sc (length sc) Open c t → t.of ≡ sort.Bool

@@ -2,13 +2,14 @@
 use Rattle.std.proofs.Common.{◌≡◌, ℕ, List, [], ◌∷◌, ◌++◌, map, Option, Some, None, Ok, Err, refl, sym, ap, ◌∙◌, arith}
 use Rattle.std.proofs.Common.{Contains}
 use Rattle.std.proofs.lemmas.List.Elements.{Contains-append_left, Contains-append_right}
+use Rattle.pp_list.specs.Joined.{joined}
 use Rattle.pp_prog.specs.declared.expr.Expr.{Expr}
 use Rattle.pp_prog.specs.declared.expr.Function.{Function}
 use Rattle.pp_prog.specs.declared.id.CheckId.{CheckId}
 use Rattle.pp_prog.specs.declared.id.FunctionId.{FunctionId}
 use Rattle.pp_prog.specs.declared.types.Ctor.{Ctor}
 use Rattle.pp_prog.specs.declared.value.Value.{Value}
-use Rattle.pp_prog.specs.Calls.{calls, function_calls, joined, post_calls, pre_calls}
+use Rattle.pp_prog.specs.Calls.{calls, function_calls, post_calls, pre_calls}
 use Rattle.pp_eval.specs.declared.outcome.Outcome.TheVariants.{Outside}
 use Rattle.pp_eval.specs.declared.outcome.Stop.{Stop}
 use Rattle.pp_eval.specs.Invocation.{admits, allowed, enters, frame_of}

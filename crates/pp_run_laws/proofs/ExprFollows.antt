@@ -3,18 +3,22 @@ use Rattle.std.proofs.Common.{◌≡◌, ℕ, List, [], ◌∷◌, ◌++◌, map
 use Rattle.std.proofs.Common.{ap, ◌∙◌, subst, Contains}
 use Rattle.std.specs.Prelude.{slice_get}
 use Rattle.std.proofs.lemmas.List.Elements.{Contains-append_left, Contains-append_right, Contains-push}
+use Rattle.pp_list.proofs.With.{With, elements}
+use Rattle.pp_prog.proofs.Induction.{case_under, each_expr, under}
+use Rattle.pp_prog.specs.Parts.{case_parts}
+use Rattle.pp_list.specs.Joined.{joined}
 use Rattle.pp_tree.specs.declared.operator.BinaryOp.{BinaryOp}
 use Rattle.pp_tree.specs.declared.operator.BinaryOp.TheVariants.{AndAlso, OrElse}
 use Rattle.pp_prog.specs.declared.expr.Case.{Case}
 use Rattle.pp_prog.specs.declared.expr.Expr.{Expr}
-use Rattle.pp_prog.specs.declared.expr.Expr.TheFolds.{fold-roll-Expr, fold-roll-Case, ind-Expr, map-Expr, map-Case}
+use Rattle.pp_prog.specs.declared.expr.Expr.TheFolds.{fold-roll-Expr, fold-roll-Case, map-Expr, map-Case}
 use Rattle.pp_prog.specs.declared.expr.Expr.TheOpen as layer
 use Rattle.pp_prog.specs.declared.expr.Expr.TheViews.{roll-Expr, roll-Case}
 use Rattle.pp_prog.specs.declared.expr.Pattern.{Pattern}
 use Rattle.pp_prog.specs.declared.id.CheckId.{CheckId}
 use Rattle.pp_prog.specs.declared.id.FunctionId.{FunctionId}
 use Rattle.pp_prog.specs.declared.value.Value.{Value}
-use Rattle.pp_prog.specs.Calls.{calls, calls_in_case, calls_step, case_calls, joined}
+use Rattle.pp_prog.specs.Calls.{calls, calls_in_case, calls_step}
 use Rattle.pp_prog.specs.Fits.{fit}
 use Rattle.pp_eval.specs.declared.outcome.Stop.{Stop}
 use Rattle.pp_eval.specs.declared.outcome.Stop.TheVariants.{Fails}
@@ -71,21 +75,10 @@ module _ (T S : Stop → Type 0) (closed : IsClosed T) (c : CallMeaning) (d : �
   abbrev Q : Case → Type 0
   Q k = CallsFollow (calls_in_case k) → ArmFollows (arm c k) (λ m. arm (d m) k)
 
-  abbrev E : Type 0
-  E = (e : Expr) × P e
-
-  abbrev K : Type 0
-  K = (k : Case) × Q k
-
-  abbrev exprs : List E → List Expr
-  exprs ys = map (λ y. y.0) ys
-
-  abbrev cases : List K → List Case
-  cases ys = map (λ y. y.0) ys
-
-  all_follow : (ys : List E) (done : List Value) (env : List Value) → CallsFollow (joined (map calls (exprs ys)))
-      → Follows T S (all_from done (map (meaning c) (exprs ys)) old env)
-      (λ m. all_from done (map (meaning (d m)) (exprs ys)) frame env)
+  all_follow : (ys : List (With P)) (done : List Value) (env : List Value)
+      → CallsFollow (joined (map calls (elements ys)))
+      → Follows T S (all_from done (map (meaning c) (elements ys)) old env)
+      (λ m. all_from done (map (meaning (d m)) (elements ys)) frame env)
   all_follow [] done env ask = follows_value
   all_follow (y ∷ ys) done env ask =
       follows_then (y.1 (left (calls y.0) _ ask) env) (λ v. all_follow ys (done ++ v ∷ []) env
@@ -107,10 +100,10 @@ module _ (T S : Stop → Type 0) (closed : IsClosed T) (c : CallMeaning) (d : �
   next_follows None h = h
   next_follows (Some v) h = follows_value
 
-  cases_follow : (ys : List K) (check : Option CheckId) (v : Value) (env : List Value)
-      → CallsFollow (joined (map calls_in_case (cases ys)))
-      → Follows T S (first_case (map (arm c) (cases ys)) check v old env)
-      (λ m. first_case (map (arm (d m)) (cases ys)) check v frame env)
+  cases_follow : (ys : List (With Q)) (check : Option CheckId) (v : Value) (env : List Value)
+      → CallsFollow (joined (map calls_in_case (elements ys)))
+      → Follows T S (first_case (map (arm c) (elements ys)) check v old env)
+      (λ m. first_case (map (arm (d m)) (elements ys)) check v frame env)
   cases_follow [] check v env ask =
       follows_same (failed check) (failed_stops T closed.stuck Value check (λ c _. closed.fails c))
   cases_follow (y ∷ ys) check v env ask =
@@ -133,10 +126,8 @@ module _ (T S : Stop → Type 0) (closed : IsClosed T) (c : CallMeaning) (d : �
       follows_then (e env) (λ x. follows_then (f env) (λ y. follows_same (operated op check x y)
       (operated_stops T closed.stuck op check (may_divide T closed.stuck op check (λ c _. closed.fails c)) x y)))
 
-  abbrev under : layer.Expr-F E K → layer.Expr-F Expr Case
-  under y = map-Expr E K Expr Case (λ z. z.0) (λ z. z.0) y
-
-  level : (y : layer.Expr-F E K) → CallsFollow (calls_step (map-Expr Expr Case (List ℕ) (List ℕ) calls calls_in_case
+  level : (y : layer.Expr-F (With P) (With Q))
+      → CallsFollow (calls_step (map-Expr Expr Case (List ℕ) (List ℕ) calls calls_in_case
       (under y)))
       → MeaningFollows (meaning_step c (map-Expr Expr Case Meaning Arm (meaning c) (arm c) (under y)))
       (λ m. meaning_step (d m) (map-Expr Expr Case Meaning Arm (meaning (d m)) (arm (d m)) (under y)))
@@ -165,14 +156,14 @@ module _ (T S : Stop → Type 0) (closed : IsClosed T) (c : CallMeaning) (d : �
       (λ q. follows_either q (rest.1 (right (calls t.0) _ ask) env) (follows_same (Err (Fails check))
       (closed.fails check))))
   level (layer.Call g args pre down) ask env =
-      let gs = joined (map calls (exprs args)) in
+      let gs = joined (map calls (elements args)) in
       follows_then (all_follow args [] env (left gs (g.0 ∷ []) ask))
       (λ vs. right gs (g.0 ∷ []) ask g (Contains-push [] g.0) pre down vs)
 
-  at_level : (y : layer.Expr-F E K) → P (roll-Expr (under y))
+  at_level : (y : layer.Expr-F (With P) (With Q)) → P (roll-Expr (under y))
   at_level y ask env =
       let z = under y in
-      let called = fold-roll-Expr (List ℕ) (List ℕ) calls_step case_calls z in
+      let called = fold-roll-Expr (List ℕ) (List ℕ) calls_step case_parts z in
       let one = fold-roll-Expr Meaning Arm (meaning_step c) arm_step z in
       follows_along (λ m. ap (λ (a : Meaning). a frame env) (fold-roll-Expr Meaning Arm (meaning_step (d m)) arm_step
       z))
@@ -180,9 +171,9 @@ module _ (T S : Stop → Type 0) (closed : IsClosed T) (c : CallMeaning) (d : �
       (map-Expr Expr Case Meaning Arm (meaning (d m)) (arm (d m)) z) frame env)) (sym one)
       (level y (subst CallsFollow called ask) env))
 
-  at_parts : (p : Pattern) (o : Option E) (b : E)
-      → let z = map-Case E K Expr Case (λ w. w.0) (λ w. w.0) (record { pattern = p; guard = o; body = b }) in
-      CallsFollow (case_calls (map-Case Expr Case (List ℕ) (List ℕ) calls calls_in_case z))
+  at_parts : (p : Pattern) (o : Option (With P)) (b : With P)
+      → let z = case_under Q (record { pattern = p; guard = o; body = b }) in
+      CallsFollow (case_parts (map-Case Expr Case (List ℕ) (List ℕ) calls calls_in_case z))
       → ArmFollows (arm_step (map-Case Expr Case Meaning Arm (meaning c) (arm c) z))
       (λ m. arm_step (map-Case Expr Case Meaning Arm (meaning (d m)) (arm (d m)) z))
   at_parts p None b ask =
@@ -195,10 +186,10 @@ module _ (T S : Stop → Type 0) (closed : IsClosed T) (c : CallMeaning) (d : �
     bodies = b.1 (right (calls e.0) (calls b.0) ask);
   }
 
-  at_case : (y : layer.Case-F E K) → Q (roll-Case (map-Case E K Expr Case (λ z. z.0) (λ z. z.0) y))
+  at_case : (y : layer.Case-F (With P) (With Q)) → Q (roll-Case (case_under Q y))
   at_case y ask =
-      let z = map-Case E K Expr Case (λ w. w.0) (λ w. w.0) y in
-      let called = fold-roll-Case (List ℕ) (List ℕ) calls_step case_calls z in
+      let z = case_under Q y in
+      let called = fold-roll-Case (List ℕ) (List ℕ) calls_step case_parts z in
       let one = fold-roll-Case Meaning Arm (meaning_step c) arm_step z in
       let h = at_parts y.pattern y.guard y.body (subst CallsFollow called ask) in
       let all : (m : ℕ) → arm (d m) (roll-Case z) ≡ arm_step (map-Case Expr Case Meaning Arm (meaning (d m))
@@ -209,5 +200,4 @@ module _ (T S : Stop → Type 0) (closed : IsClosed T) (c : CallMeaning) (d : �
   -- an expression follows where each call of a function that it names is followed
   pub expr_follows : (e : Expr) → P e
   expr_follows =
-      ind-Expr P Q (λ x y is. subst (λ z. P (roll-Expr z)) is (at_level y))
-      (λ x y is. subst (λ z. Q (roll-Case z)) is (at_case y))
+      each_expr P Q at_level at_case

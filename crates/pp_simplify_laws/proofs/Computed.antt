@@ -5,6 +5,7 @@ use Rattle.std.specs.Prelude.{ℤ, pos, not}
 use Rattle.std.specs.Int.{w32}
 use Rattle.std.specs.Ordering.{int_eq}
 use Rattle.std.proofs.lemmas.Option.{same_Some}
+use Rattle.pp_operators.specs.declared.class.OperatorClass.TheVariants as class
 use Rattle.pp_word.specs.Word.{word_div, word_neg, word_not, word_rem}
 use Rattle.pp_tree.specs.declared.operator.BinaryOp.{BinaryOp}
 use Rattle.pp_tree.specs.declared.operator.BinaryOp.TheVariants.{Add, Sub, Mul, Div, Rem, Equal, Differ, Less, AtMost}
@@ -19,9 +20,9 @@ use Rattle.pp_prog.specs.declared.value.Value.{Value}
 use Rattle.pp_prog.specs.declared.value.Value.TheOpen as layer
 use Rattle.pp_prog.specs.declared.value.Value.TheVariants.{Int, Bool as Truth, outs-Int, outs-Bool}
 use Rattle.pp_prog.specs.declared.value.Value.TheViews.{out-Value}
-use Rattle.pp_prog.specs.ExprSorts.{a_bool, alike, an_int, equality_sort, unary_sort}
+use Rattle.pp_prog.specs.ExprSorts.{a_bool, an_int, class_sort, unary_sort}
 use Rattle.pp_prog.specs.Sorts.{is_int}
-use Rattle.pp_prog.proofs.PartSorts.{sort_then}
+use Rattle.pp_prog.proofs.PartSorts.{equality_parts}
 use Rattle.pp_eval.specs.Equality.{equal}
 use Rattle.pp_eval.specs.Measure.{goes_down, one_sort}
 use Rattle.pp_eval.specs.Operators.{divided, number_in, on_layers, on_numbers, on_truths, operated, truth_in, unary}
@@ -235,8 +236,9 @@ module _ (types : TypeTable) (σ : Sorts) (news : List Step)
         truths_suit op p q t (same_operated op u v sort.Bool sort.Bool a b ∙ h)
     layers_suit op o q u v t a b h = λ s own. own
 
-    equality_suits : (b : Bool) (u v t : Sort) → equality_sort (Some u) (Some v) ≡ Some t → Suits t (Ok (Truth b))
-    equality_suits b u v t h = truth_suits b t (sort_then (alike (Some u) (Some v)) (λ s. Some sort.Bool) t h).2
+    equality_suits : (b : Bool) (u v t : Sort) → class_sort class.Equality (Some u) (Some v) ≡ Some t
+        → Suits t (Ok (Truth b))
+    equality_suits b u v t h = truth_suits b t (ap Some (equality_parts (Some u) (Some v) t h).1.2)
 
     binary_suits : (op : BinaryOp) (x y : Value) (u v t : Sort) → IsLiteral u (out-Value x) → IsLiteral v (out-Value y)
         → operated_sort op (Some u) (Some v) ≡ Some t → Suits t (operated op None x y)

@@ -2,10 +2,14 @@
 use Rattle.std.proofs.Common.{◌≡◌, ℕ, true, false, List, [], ◌∷◌, ◌++◌, map, Option, Some, None, is_some, slice_get, Ok}
 use Rattle.std.proofs.Common.{refl, sym, ap, ◌∙◌, subst, append_assoc, append-nil}
 use Rattle.std.proofs.lemmas.Bool.{or_from}
+use Rattle.pp_list.proofs.With.{With, elements}
+use Rattle.pp_prog.proofs.Induction.{case_under, each_expr, under}
+use Rattle.pp_prog.specs.ExprSorts.{case_sorts}
+use Rattle.pp_prog.specs.Listing.{sites_in_case, with_case_sites, with_sites}
 use Rattle.pp_prog.specs.declared.expr.Case.{Case}
 use Rattle.pp_prog.specs.declared.expr.Expr.{Expr}
-use Rattle.pp_prog.specs.declared.expr.Expr.TheFolds.{fold-Case, fold-roll-Case, fold-roll-Expr, ind-Expr, map-Case}
-use Rattle.pp_prog.specs.declared.expr.Expr.TheFolds.{map-Expr, para-Case, para-roll-Case, para-roll-Expr}
+use Rattle.pp_prog.specs.declared.expr.Expr.TheFolds.{fold-roll-Case, fold-roll-Expr, map-Case}
+use Rattle.pp_prog.specs.declared.expr.Expr.TheFolds.{map-Expr, para-roll-Case, para-roll-Expr}
 use Rattle.pp_prog.specs.declared.expr.Expr.TheOpen as layer
 use Rattle.pp_prog.specs.declared.expr.Expr.TheViews.{roll-Case, roll-Expr}
 use Rattle.pp_prog.specs.declared.expr.Function.{Function}
@@ -58,10 +62,10 @@ module _ (p : Program) (D : Type 0) (i : ℕ) (calls : CallMeaning) where
 
   -- and those of a case
   abbrev SortedArm : Case → sorts.Arm
-  SortedArm = fold-Case Sorting sorts.Arm (sort_step p.types p.functions) sorts.arm_step
+  SortedArm = case_sorts p.types p.functions
 
   abbrev PlacedArm : Case → CaseSites
-  PlacedArm = para-Case Sites CaseSites (site_step p.types p.functions) (case_sites p.types p.functions)
+  PlacedArm = sites_in_case p.types p.functions
 
   abbrev MeantArm : Case → mean.Arm
   MeantArm = arm calls
@@ -78,81 +82,63 @@ module _ (p : Program) (D : Type 0) (i : ℕ) (calls : CallMeaning) where
       → (v : Value) → Has p.types.ctors s v → IsFine (MayStop p D i) (IsTaken p u (IsMissed k.guard k.pattern v))
       (attempt (MeantArm k) v frame env)
 
-  -- expressions and cases with their proofs
-  abbrev E : Type 0
-  E = (e : Expr) × IsSound e
-
-  abbrev K : Type 0
-  K = (k : Case) × IsSoundCase k
-
-  abbrev exprs : List E → List Expr
-  exprs ys = map (λ y. y.0) ys
-
-  abbrev cases : List K → List Case
-  cases ys = map (λ y. y.0) ys
-
-  abbrev with_sites : List Expr → List (Expr × Sites)
-  with_sites es = map (λ e. (e, Placed e)) es
-
-  abbrev with_case_sites : List Case → List (Case × CaseSites)
-  with_case_sites ks = map (λ k. (k, PlacedArm k)) ks
-
   -- ---- several expressions
 
-  all_fine : (ys : List E) (ts : List Sort) (scope : List Sort) → sorts_in scope (map Sorted (exprs ys)) ≡ map Some ts
-      → AreMet p i (sites_of_all (with_sites (exprs ys)) scope)
+  all_fine : (ys : List (With IsSound)) (ts : List Sort) (scope : List Sort)
+      → sorts_in scope (map Sorted (elements ys)) ≡ map Some ts
+      → AreMet p i (sites_of_all (with_sites p.types p.functions (elements ys)) scope)
       → (frame : Frame) (env : List Value) → Have p.types.ctors scope env → (before : List Sort) (done : List Value)
       → Have p.types.ctors before done
-      → IsFine (MayStop p D i) (Have p.types.ctors (before ++ ts)) (all_from done (map Meant (exprs ys)) frame env)
+      → IsFine (MayStop p D i) (Have p.types.ctors (before ++ ts)) (all_from done (map Meant (elements ys)) frame env)
   all_fine [] [] scope h met frame env have before done known = fine_value
       (subst (λ l. Have p.types.ctors l done) (sym (append-nil before)) known)
   all_fine [] (t ∷ ts) scope h met frame env have before done known = cc
   all_fine (y ∷ ys) [] scope h met frame env have before done known = cc
   all_fine (y ∷ ys) (t ∷ ts) scope h met frame env have before done known =
       let here : Sorted y.0 scope ≡ Some t = cc in
-      let rest : sorts_in scope (map Sorted (exprs ys)) ≡ map Some ts = cc in
+      let rest : sorts_in scope (map Sorted (elements ys)) ≡ map Some ts = cc in
       fine_then (y.1 scope t here (met_left _ _ met) frame env have)
       (λ v has. subst (λ l. IsFine (MayStop p D i) (Have p.types.ctors l)
-      (all_from (done ++ v ∷ []) (map Meant (exprs ys)) frame env)) (append_assoc before (t ∷ []) ts)
+      (all_from (done ++ v ∷ []) (map Meant (elements ys)) frame env)) (append_assoc before (t ∷ []) ts)
       (all_fine ys ts scope rest (met_right _ _ met) frame env have (before ++ t ∷ []) (done ++ v ∷ [])
       (have_more p.types.ctors before (t ∷ []) done (v ∷ []) known (have_one p.types.ctors t v has))))
 
   -- ---- cases
 
-  cases_fine : (ys : List K) (s u : Sort) (scope : List Sort) → EachArm p s u scope (map SortedArm (cases ys))
-      → AreMet p i (sites_of_cases (with_case_sites (cases ys)) s scope)
+  cases_fine : (ys : List (With IsSoundCase)) (s u : Sort) (scope : List Sort)
+      → EachArm p s u scope (map SortedArm (elements ys))
+      → AreMet p i (sites_of_cases (with_case_sites p.types p.functions (elements ys)) s scope)
       → (frame : Frame) (env : List Value) → Have p.types.ctors scope env → (v : Value) → Has p.types.ctors s v
-      → (check : Option CheckId) → MayReach p i check (unguarded (with_case_sites (cases ys))) v
-      → IsSorted p D i u (first_case (map MeantArm (cases ys)) check v frame env)
+      → (check : Option CheckId) → MayReach p i check (unguarded (with_case_sites p.types p.functions (elements ys))) v
+      → IsSorted p D i u (first_case (map MeantArm (elements ys)) check v frame env)
   cases_fine [] s u scope each met frame env have v has None may = cc
   cases_fine [] s u scope each met frame env have v has (Some c) may = fine_stop may
   cases_fine (y ∷ ys) s u scope each met frame env have v has check may =
       fine_then (y.1 s u scope each.0 (met_left _ _ met) frame env have v has)
       (λ o taken. or_next_fine p D i u (IsMissed y.0.guard y.0.pattern v) o
-      (first_case (map MeantArm (cases ys)) check v frame env) taken
+      (first_case (map MeantArm (elements ys)) check v frame env) taken
       (λ missed. cases_fine ys s u scope each.1 (met_right _ _ met) frame env have v has check
-      (reaches_next p i check y.0.guard y.0.pattern (unguarded (with_case_sites (cases ys))) v missed may)))
+      (reaches_next p i check y.0.guard y.0.pattern (unguarded (with_case_sites p.types p.functions (elements ys))) v
+      missed may)))
 
   -- ---- one level of an expression
 
-  abbrev under : layer.Expr-F E K → layer.Expr-F Expr Case
-  under y = map-Expr E K Expr Case (λ z. z.0) (λ z. z.0) y
-
-  abbrev sorted : layer.Expr-F E K → Sorting
+  abbrev sorted : layer.Expr-F (With IsSound) (With IsSoundCase) → Sorting
   sorted y = sort_step p.types p.functions (map-Expr Expr Case Sorting sorts.Arm Sorted SortedArm (under y))
 
-  abbrev placed : layer.Expr-F E K → Sites
+  abbrev placed : layer.Expr-F (With IsSound) (With IsSoundCase) → Sites
   placed y =
       site_step p.types p.functions (map-Expr Expr Case (Expr × Sites) (Case × CaseSites) (λ e. (e, Placed e))
       (λ k. (k, PlacedArm k)) (under y))
 
-  abbrev meant : layer.Expr-F E K → Meaning
+  abbrev meant : layer.Expr-F (With IsSound) (With IsSoundCase) → Meaning
   meant y = meaning_step calls (map-Expr Expr Case Meaning mean.Arm Meant MeantArm (under y))
 
   is_sort : (s t : Sort) (part : Part Value) → s ≡ t → IsSorted p D i s part → IsSorted p D i t part
   is_sort s t part e h = subst (λ u. IsSorted p D i u part) e h
 
-  level : AreGood p D i calls → (y : layer.Expr-F E K) (scope : List Sort) (s : Sort) → sorted y scope ≡ Some s
+  level : AreGood p D i calls → (y : layer.Expr-F (With IsSound) (With IsSoundCase)) (scope : List Sort) (s : Sort)
+      → sorted y scope ≡ Some s
       → AreMet p i (placed y scope) → (frame : Frame) (env : List Value) → Have p.types.ctors scope env
       → IsSorted p D i s (meant y frame env)
   level good (layer.Int n) scope s h met frame env have =
@@ -171,7 +157,7 @@ module _ (p : Program) (D : Type 0) (i : ℕ) (calls : CallMeaning) where
       (λ t e. a.1 scope t e (met_left _ _ (met_left _ _ met)) frame env have)
       (λ t e. b.1 scope t e (met_right _ _ (met_left _ _ met)) frame env have) s h
   level good (layer.Construct c args) scope s h met frame env have =
-      let k = tree_sort_is (slice_get p.types.ctors c.0) (sorts_in scope (map Sorted (exprs args))) s h in
+      let k = tree_sort_is (slice_get p.types.ctors c.0) (sorts_in scope (map Sorted (elements args))) s h in
       fine_then (all_fine args k.0.fields scope k.2 met frame env have [] [] refl)
       (λ vs are. is_sort (sort.Tree k.0.of) s (Ok (Tree c vs)) k.3
       (fine_value (tree_has_sort p.types.ctors c k.0 vs k.1 are)))
@@ -186,8 +172,8 @@ module _ (p : Program) (D : Type 0) (i : ℕ) (calls : CallMeaning) where
       (λ b'. fine_either b' (a.1 scope s both.0 (met_right _ _ (met_left _ _ met)) frame env have)
       (b.1 scope s both.1 (met_right _ _ met) frame env have))
   level good (layer.Match e ys check) scope s h met frame env have =
-      let arms = map SortedArm (cases ys) in
-      let placed_cases = with_case_sites (cases ys) in
+      let arms = map SortedArm (elements ys) in
+      let placed_cases = with_case_sites p.types p.functions (elements ys) in
       let t = sort_then (Sorted e.0 scope) (λ t. arms_sort p.types p.functions arms t scope) s h in
       let after : AreMet p i (matching t.0 (unguarded placed_cases) check ∷ sites_of_cases placed_cases t.0 scope) =
       subst (λ o. AreMet p i (at_sort o
@@ -209,8 +195,8 @@ module _ (p : Program) (D : Type 0) (i : ℕ) (calls : CallMeaning) where
       judged p D i (c.1 scope sort.Bool t.0 (met_left _ _ met) frame env have)
       (λ b. fine_either b (rest.1 scope s t.1 (met_tail after) frame env have) (fine_stop (met_head after).own))
   level good (layer.Call g args pre down) scope s h met frame env have =
-      let f = call_sort_is (slice_get p.functions g.0) (sorts_in scope (map Sorted (exprs args))) s h in
-      let own = met_right (sites_of_all (with_sites (exprs args)) scope) _ met in
+      let f = call_sort_is (slice_get p.functions g.0) (sorts_in scope (map Sorted (elements args))) s h in
+      let own = met_right (sites_of_all (with_sites p.types p.functions (elements args)) scope) _ met in
       fine_then (all_fine args (param_sorts f.0.params) scope f.2 (met_left _ _ met) frame env have [] [] refl)
       (λ vs are. is_sort f.0.result s (calls frame g pre down vs) f.3
       (good.part frame g pre down vs f.0 f.1 are (met_head own) (met_head (met_tail own))))
@@ -218,7 +204,7 @@ module _ (p : Program) (D : Type 0) (i : ℕ) (calls : CallMeaning) where
   -- ---- one case
 
   -- without a guard
-  plain_fine : (pattern : Pattern) (b : E) (ss : Option (List Sort)) (bs : Option (List Value)) (v : Value)
+  plain_fine : (pattern : Pattern) (b : With IsSound) (ss : Option (List Sort)) (bs : Option (List Value)) (v : Value)
       → fit pattern v ≡ bs → ((ts : List Sort) (vs : List Value) → ss ≡ Some ts → bs ≡ Some vs
       → Have p.types.ctors ts vs)
       → (scope : List Sort) (u : Sort) → arm_with (record { pattern = pattern; guard = None; body = Sorted b.0 }) scope
@@ -236,7 +222,8 @@ module _ (p : Program) (D : Type 0) (i : ℕ) (calls : CallMeaning) where
       (fine ts vs refl refl))) (λ no. cc)
 
   -- with a guard
-  guarded_fine : (pattern : Pattern) (g b : E) (ss : Option (List Sort)) (bs : Option (List Value)) (v : Value)
+  guarded_fine : (pattern : Pattern) (g b : With IsSound) (ss : Option (List Sort)) (bs : Option (List Value))
+      (v : Value)
       → ((ts : List Sort) (vs : List Value) → ss ≡ Some ts → bs ≡ Some vs → Have p.types.ctors ts vs)
       → (scope : List Sort) (u : Sort) → arm_with (record
       { pattern = pattern; guard = Some (Sorted g.0); body = Sorted b.0 }) scope ss ≡ Some u
@@ -255,12 +242,10 @@ module _ (p : Program) (D : Type 0) (i : ℕ) (calls : CallMeaning) where
       (λ t _. taken_fine p D i u (IsMissed (Some g.0) pattern v) t (Meant b.0 frame (env ++ vs))
       (b.1 (scope ++ ts) u are.1 (met_right _ _ met) frame (env ++ vs) bound) (λ no. refl))
 
-  abbrev case_under : layer.Case-F E K → layer.Case-F Expr Case
-  case_under y = map-Case E K Expr Case (λ z. z.0) (λ z. z.0) y
-
   -- a case by its parts
-  by_parts : (pattern : Pattern) (guard : Option E) (b : E) (s u : Sort) (scope : List Sort) → let z =
-      case_under (record { pattern = pattern; guard = guard; body = b }) in
+  by_parts : (pattern : Pattern) (guard : Option (With IsSound)) (b : With IsSound) (s u : Sort) (scope : List Sort)
+      → let z =
+      case_under IsSoundCase (record { pattern = pattern; guard = guard; body = b }) in
       sorts.arm_sort p.types p.functions (sorts.arm_step (map-Case Expr Case Sorting sorts.Arm Sorted SortedArm z)) s
       scope ≡ Some u
       → AreMet p i (case_sites p.types p.functions (map-Case Expr Case (Expr × Sites) (Case × CaseSites)
@@ -275,9 +260,9 @@ module _ (p : Program) (D : Type 0) (i : ℕ) (calls : CallMeaning) where
       guarded_fine pattern g b (bound_sorts p.types.ctors pattern s) (fit pattern v) v
       (λ ts vs e f. pattern_fine p.types.ctors pattern s ts e v has vs f) scope u h met frame env have
 
-  at_case : (y : layer.Case-F E K) → IsSoundCase (roll-Case (case_under y))
+  at_case : (y : layer.Case-F (With IsSound) (With IsSoundCase)) → IsSoundCase (roll-Case (case_under IsSoundCase y))
   at_case y s u scope h met frame env have v has =
-      let z = case_under y in
+      let z = case_under IsSoundCase y in
       let sort_is = fold-roll-Case Sorting sorts.Arm (sort_step p.types p.functions) sorts.arm_step z in
       let sites_are = para-roll-Case Sites CaseSites (site_step p.types p.functions) (case_sites p.types p.functions)
       z in
@@ -290,7 +275,7 @@ module _ (p : Program) (D : Type 0) (i : ℕ) (calls : CallMeaning) where
 
   -- ---- the induction
 
-  at_level : AreGood p D i calls → (y : layer.Expr-F E K) → IsSound (roll-Expr (under y))
+  at_level : AreGood p D i calls → (y : layer.Expr-F (With IsSound) (With IsSoundCase)) → IsSound (roll-Expr (under y))
   at_level good y scope s h met frame env have =
       let z = under y in
       let sort_is = fold-roll-Expr Sorting sorts.Arm (sort_step p.types p.functions) sorts.arm_step z in
@@ -303,6 +288,4 @@ module _ (p : Program) (D : Type 0) (i : ℕ) (calls : CallMeaning) where
 
   -- the meaning of a sorted expression is fine, where its sites are met and calls are good
   pub expr_sound : AreGood p D i calls → (e : Expr) → IsSound e
-  expr_sound good = ind-Expr IsSound IsSoundCase
-      (λ x y is. subst (λ z. IsSound (roll-Expr z)) is (at_level good y))
-      (λ x y is. subst (λ z. IsSoundCase (roll-Case z)) is (at_case y))
+  expr_sound good = each_expr IsSound IsSoundCase (at_level good) at_case

@@ -1,5 +1,6 @@
 -- What an operator makes of values of its operands' sorts is fine.
-use Rattle.std.proofs.Common.{◌≡◌, ℕ, Bool, true, false, List, Option, Some, None, is_some, Ok, refl, sym, subst}
+use Rattle.std.proofs.Common.{◌≡◌, ℕ, Bool, true, false, List, Option, Some, is_some, Ok, refl, sym, subst}
+use Rattle.std.proofs.Common.{◌⊎◌, ⊎_elim}
 use Rattle.std.specs.Prelude.{not, pos}
 use Rattle.std.specs.Ordering.{int_eq}
 use Rattle.std.specs.Int.{w32}
@@ -20,7 +21,7 @@ use Rattle.pp_prog.specs.declared.value.Value.TheFolds.{map-Value}
 use Rattle.pp_prog.specs.declared.value.Value.TheOpen as value
 use Rattle.pp_prog.specs.declared.value.Value.TheVariants.{Int, Bool as Truth}
 use Rattle.pp_prog.specs.declared.value.Value.TheViews.{out-Value}
-use Rattle.pp_prog.specs.ExprSorts.{a_bool, an_int, alike, binary_sort, bits_sort, equality_sort, unary_sort}
+use Rattle.pp_prog.specs.ExprSorts.{binary_sort, unary_sort}
 use Rattle.pp_prog.specs.Listing.{operator_site}
 use Rattle.pp_prog.specs.Sorts.{has_sort, has_step, is_int}
 use Rattle.pp_eval.specs.Equality.{equal}
@@ -32,7 +33,9 @@ use Rattle.pp_prog.proofs.ValueSorts.{Has, int_has, level_has, tree_is, truth_ha
 use Rattle.pp_sound.proofs.Parts.{IsAny, IsFine, IsOwn, IsSorted, MayStop, fine_either, fine_failed, fine_then}
 use Rattle.pp_sound.proofs.Parts.{fine_value}
 use Rattle.pp_sound.proofs.Sites.{IsMet}
-use Rattle.pp_prog.proofs.PartSorts.{alike_are, bool_then, int_then, sort_then}
+use Rattle.pp_prog.proofs.PartSorts.{Operated, bits_parts, bool_then, equality_parts, int_then, logic_parts}
+use Rattle.pp_prog.proofs.PartSorts.{order_parts}
+use Rattle.pp_prog.proofs.PartSorts.{shift_parts, sum_parts}
 use Rattle.pp_sound.proofs.Words.{add_int, sub_int, mul_int, neg_int, div_int, rem_int, shl_int, shr_int, ushr_int}
 use Rattle.pp_sound.proofs.Words.{and_int, or_int, xor_int, not_int}
 use lib.IntN.{ℤ}
@@ -116,48 +119,45 @@ module _ (p : Program) (D : Type 0) (i : ℕ) where
   abbrev both_on : BinaryOp → Option CheckId → Part Value → Part Value → Part Value
   both_on op check m n = and_then m (λ x. and_then n (λ y. on_layers op check (out-Value x) (out-Value y)))
 
-  numbers_fine : (op : BinaryOp) (check : Option CheckId) (o q : Option Sort) (r : Sort) (m n : Part Value) → IsAt o m
-      → IsAt q n → ((a b : ℤ) → is_int a ≡ true → is_int b ≡ true → IsSorted p D i r (on_numbers op check a b))
-      → IsAt (an_int o (an_int q (Some r))) (both_on op check m n)
-  numbers_fine op check o q r m n km kn f s h =
-      let d = int_then o (an_int q (Some r)) s h in
-      let e = int_then q (Some r) s d.1 in
-      at_sort r (both_on op check m n) (fine_then (km sort.Int d.0) (λ x hx. fine_then (kn sort.Int e.0) (λ y hy.
+  numbers_fine : (op : BinaryOp) (check : Option CheckId) (o q : Option Sort) (r s : Sort) (m n : Part Value)
+      → Operated o q sort.Int r s → IsAt o m → IsAt q n
+      → ((a b : ℤ) → is_int a ≡ true → is_int b ≡ true → IsSorted p D i r (on_numbers op check a b))
+      → IsSorted p D i s (both_on op check m n)
+  numbers_fine op check o q r s m n are km kn f =
+      subst (λ u. IsSorted p D i u (both_on op check m n)) are.2
+      (fine_then (km sort.Int are.0) (λ x hx. fine_then (kn sort.Int are.1) (λ y hy.
       let a = number_is p.types.ctors x hx in
       let b = number_is p.types.ctors y hy in
       subst (λ l. IsSorted p D i r (on_layers op check l (out-Value y))) (sym a.1)
-      (subst (λ l. IsSorted p D i r (on_layers op check (value.Int a.0) l)) (sym b.1) (f a.0 b.0 a.2 b.2))))) s e.1
+      (subst (λ l. IsSorted p D i r (on_layers op check (value.Int a.0) l)) (sym b.1) (f a.0 b.0 a.2 b.2)))))
 
-  truths_fine : (op : BinaryOp) (check : Option CheckId) (o q : Option Sort) (m n : Part Value) → IsAt o m → IsAt q n
+  truths_fine : (op : BinaryOp) (check : Option CheckId) (o q : Option Sort) (s : Sort) (m n : Part Value)
+      → Operated o q sort.Bool sort.Bool s → IsAt o m → IsAt q n
       → ((a b : Bool) → IsSorted p D i sort.Bool (on_truths op a b))
-      → IsAt (a_bool o (a_bool q (Some sort.Bool))) (both_on op check m n)
-  truths_fine op check o q m n km kn f s h =
-      let d = bool_then o (a_bool q (Some sort.Bool)) s h in
-      let e = bool_then q (Some sort.Bool) s d.1 in
-      at_sort sort.Bool (both_on op check m n) (fine_then (km sort.Bool d.0)
-      (λ x hx. fine_then (kn sort.Bool e.0) (λ y hy.
+      → IsSorted p D i s (both_on op check m n)
+  truths_fine op check o q s m n are km kn f =
+      subst (λ u. IsSorted p D i u (both_on op check m n)) are.2
+      (fine_then (km sort.Bool are.0) (λ x hx. fine_then (kn sort.Bool are.1) (λ y hy.
       let a = truth_is p.types.ctors x hx in
       let b = truth_is p.types.ctors y hy in
       subst (λ l. IsSorted p D i sort.Bool (on_layers op check l (out-Value y))) (sym a.1)
-      (subst (λ l. IsSorted p D i sort.Bool (on_layers op check (value.Bool a.0) l)) (sym b.1) (f a.0 b.0))))) s e.1
+      (subst (λ l. IsSorted p D i sort.Bool (on_layers op check (value.Bool a.0) l)) (sym b.1) (f a.0 b.0)))))
 
-  bits_fine : (op : BinaryOp) (check : Option CheckId) (o q : Option Sort) (m n : Part Value) → IsAt o m → IsAt q n
+  bits_fine : (op : BinaryOp) (check : Option CheckId) (o q : Option Sort) (s : Sort) (m n : Part Value)
+      → Operated o q sort.Int sort.Int s ⊎ Operated o q sort.Bool sort.Bool s → IsAt o m → IsAt q n
       → ((a b : ℤ) → is_int a ≡ true → is_int b ≡ true → IsSorted p D i sort.Int (on_numbers op check a b))
       → ((a b : Bool) → IsSorted p D i sort.Bool (on_truths op a b))
-      → IsAt (bits_sort o q) (both_on op check m n)
-  bits_fine op check (Some sort.Int) q m n km kn f g s h = numbers_fine op check (Some sort.Int) q sort.Int m n km kn f
-      s h
-  bits_fine op check (Some sort.Bool) q m n km kn f g s h = truths_fine op check (Some sort.Bool) q m n km kn g s h
-  bits_fine op check (Some (sort.Tree d)) q m n km kn f g s h = cc
-  bits_fine op check None q m n km kn f g s h = cc
+      → IsSorted p D i s (both_on op check m n)
+  bits_fine op check o q s m n are km kn f g =
+      ⊎_elim (λ k. numbers_fine op check o q sort.Int s m n k km kn f)
+      (λ k. truths_fine op check o q s m n k km kn g) are
 
-  equality_fine : (test : Value → Value → Bool) (o q : Option Sort) (m n : Part Value) → IsAt o m → IsAt q n
-      → IsAt (equality_sort o q) (and_then m (λ x. and_then n (λ y. Ok (Truth (test x y)))))
-  equality_fine test o q m n km kn s h =
-      let d = sort_then (alike o q) (λ t. Some sort.Bool) s h in
-      let e = alike_are o q d.0 d.1 in
-      at_sort sort.Bool _ (fine_then (km d.0 e.0) (λ x hx. fine_then (kn d.0 e.1) (λ y hy. a_truth_value (test x y)))) s
-      d.2
+  equality_fine : (test : Value → Value → Bool) (o q : Option Sort) (a s : Sort) (m n : Part Value)
+      → Operated o q a sort.Bool s → IsAt o m → IsAt q n
+      → IsSorted p D i s (and_then m (λ x. and_then n (λ y. Ok (Truth (test x y)))))
+  equality_fine test o q a s m n are km kn =
+      subst (λ u. IsSorted p D i u (and_then m (λ x. and_then n (λ y. Ok (Truth (test x y)))))) are.2
+      (fine_then (km a are.0) (λ x hx. fine_then (kn a are.1) (λ y hy. a_truth_value (test x y))))
 
   divided_fine : (check : Option CheckId) (b n : ℤ) → is_some check ≡ true → IsOwn p i check → is_int n ≡ true
       → IsSorted p D i sort.Int (divided check b n)
@@ -167,51 +167,61 @@ module _ (p : Program) (D : Type 0) (i : ℕ) where
   -- ---- each operator
 
   -- the right side is evaluated on one of the two truth values
-  skipped_fine : (go : Bool → Part Value) (o q : Option Sort) (m n : Part Value) → IsAt o m → IsAt q n
+  skipped_fine : (go : Bool → Part Value) (o q : Option Sort) (s : Sort) (m n : Part Value)
+      → Operated o q sort.Bool sort.Bool s → IsAt o m → IsAt q n
       → (IsSorted p D i sort.Bool n → (t : Bool) → IsSorted p D i sort.Bool (go t))
-      → IsAt (a_bool o (a_bool q (Some sort.Bool))) (and_then m (λ x. and_then (truth x) go))
-  skipped_fine go o q m n km kn f s h =
-      let d = bool_then o (a_bool q (Some sort.Bool)) s h in
-      let e = bool_then q (Some sort.Bool) s d.1 in
-      at_sort sort.Bool _ (judged (km sort.Bool d.0) (f (kn sort.Bool e.0))) s e.1
+      → IsSorted p D i s (and_then m (λ x. and_then (truth x) go))
+  skipped_fine go o q s m n are km kn f =
+      subst (λ u. IsSorted p D i u (and_then m (λ x. and_then (truth x) go))) are.2
+      (judged (km sort.Bool are.0) (f (kn sort.Bool are.1)))
 
   pub binary_fine : (op : BinaryOp) (check : Option CheckId) → IsMet p i (operator_site op check)
       → (a b : Meaning) (frame : Frame) (env : List Value) (o q : Option Sort) → IsAt o (a frame env)
       → IsAt q (b frame env)
       → IsAt (binary_sort op o q) (binary op a b check frame env)
-  binary_fine Add check met a b frame env o q ka kb = numbers_fine Add check o q sort.Int _ _ ka kb
-      (λ c d k l. an_int_value _ (add_int c d))
-  binary_fine Sub check met a b frame env o q ka kb = numbers_fine Sub check o q sort.Int _ _ ka kb
-      (λ c d k l. an_int_value _ (sub_int c d))
-  binary_fine Mul check met a b frame env o q ka kb = numbers_fine Mul check o q sort.Int _ _ ka kb
-      (λ c d k l. an_int_value _ (mul_int c d))
-  binary_fine Div check met a b frame env o q ka kb = numbers_fine Div check o q sort.Int _ _ ka kb
+  binary_fine Add check met a b frame env o q ka kb s h =
+      numbers_fine Add check o q sort.Int s _ _ (sum_parts o q s h) ka kb (λ c d k l. an_int_value _ (add_int c d))
+  binary_fine Sub check met a b frame env o q ka kb s h =
+      numbers_fine Sub check o q sort.Int s _ _ (sum_parts o q s h) ka kb (λ c d k l. an_int_value _ (sub_int c d))
+  binary_fine Mul check met a b frame env o q ka kb s h =
+      numbers_fine Mul check o q sort.Int s _ _ (sum_parts o q s h) ka kb (λ c d k l. an_int_value _ (mul_int c d))
+  binary_fine Div check met a b frame env o q ka kb s h =
+      numbers_fine Div check o q sort.Int s _ _ (sum_parts o q s h) ka kb
       (λ c d k l. divided_fine check d _ met.carries met.own (div_int c d))
-  binary_fine Rem check met a b frame env o q ka kb = numbers_fine Rem check o q sort.Int _ _ ka kb
+  binary_fine Rem check met a b frame env o q ka kb s h =
+      numbers_fine Rem check o q sort.Int s _ _ (sum_parts o q s h) ka kb
       (λ c d k l. divided_fine check d _ met.carries met.own (rem_int c d k))
-  binary_fine Equal check met a b frame env o q ka kb = equality_fine equal o q _ _ ka kb
-  binary_fine Differ check met a b frame env o q ka kb = equality_fine (λ x y. not (equal x y)) o q _ _ ka kb
-  binary_fine Less check met a b frame env o q ka kb = numbers_fine Less check o q sort.Bool _ _ ka kb
-      (λ c d k l. a_truth_value _)
-  binary_fine AtMost check met a b frame env o q ka kb = numbers_fine AtMost check o q sort.Bool _ _ ka kb
-      (λ c d k l. a_truth_value _)
-  binary_fine More check met a b frame env o q ka kb = numbers_fine More check o q sort.Bool _ _ ka kb
-      (λ c d k l. a_truth_value _)
-  binary_fine AtLeast check met a b frame env o q ka kb = numbers_fine AtLeast check o q sort.Bool _ _ ka kb
-      (λ c d k l. a_truth_value _)
-  binary_fine AndAlso check met a b frame env o q ka kb = skipped_fine (λ t. either t (b frame env) (Ok (Truth false)))
-      o q _ _ ka kb (λ n t. fine_either t n (a_truth_value false))
-  binary_fine OrElse check met a b frame env o q ka kb = skipped_fine (λ t. either t (Ok (Truth true)) (b frame env)) o
-      q _ _ ka kb (λ n t. fine_either t (a_truth_value true) n)
-  binary_fine And check met a b frame env o q ka kb = bits_fine And check o q _ _ ka kb
-      (λ c d k l. an_int_value _ (and_int c d k)) (λ c d. a_truth_value _)
-  binary_fine Or check met a b frame env o q ka kb = bits_fine Or check o q _ _ ka kb
-      (λ c d k l. an_int_value _ (or_int c d k l)) (λ c d. a_truth_value _)
-  binary_fine Xor check met a b frame env o q ka kb = bits_fine Xor check o q _ _ ka kb
-      (λ c d k l. an_int_value _ (xor_int c d k l)) (λ c d. a_truth_value _)
-  binary_fine Shl check met a b frame env o q ka kb = numbers_fine Shl check o q sort.Int _ _ ka kb
-      (λ c d k l. an_int_value _ (shl_int c d))
-  binary_fine Shr check met a b frame env o q ka kb = numbers_fine Shr check o q sort.Int _ _ ka kb
-      (λ c d k l. an_int_value _ (shr_int c d k))
-  binary_fine Ushr check met a b frame env o q ka kb = numbers_fine Ushr check o q sort.Int _ _ ka kb
+  binary_fine Equal check met a b frame env o q ka kb s h =
+      let e = equality_parts o q s h in equality_fine equal o q e.0 s _ _ e.1 ka kb
+  binary_fine Differ check met a b frame env o q ka kb s h =
+      let e = equality_parts o q s h in equality_fine (λ x y. not (equal x y)) o q e.0 s _ _ e.1 ka kb
+  binary_fine Less check met a b frame env o q ka kb s h =
+      numbers_fine Less check o q sort.Bool s _ _ (order_parts o q s h) ka kb (λ c d k l. a_truth_value _)
+  binary_fine AtMost check met a b frame env o q ka kb s h =
+      numbers_fine AtMost check o q sort.Bool s _ _ (order_parts o q s h) ka kb (λ c d k l. a_truth_value _)
+  binary_fine More check met a b frame env o q ka kb s h =
+      numbers_fine More check o q sort.Bool s _ _ (order_parts o q s h) ka kb (λ c d k l. a_truth_value _)
+  binary_fine AtLeast check met a b frame env o q ka kb s h =
+      numbers_fine AtLeast check o q sort.Bool s _ _ (order_parts o q s h) ka kb (λ c d k l. a_truth_value _)
+  binary_fine AndAlso check met a b frame env o q ka kb s h =
+      skipped_fine (λ t. either t (b frame env) (Ok (Truth false))) o q s _ _ (logic_parts o q s h) ka kb
+      (λ n t. fine_either t n (a_truth_value false))
+  binary_fine OrElse check met a b frame env o q ka kb s h =
+      skipped_fine (λ t. either t (Ok (Truth true)) (b frame env)) o q s _ _ (logic_parts o q s h) ka kb
+      (λ n t. fine_either t (a_truth_value true) n)
+  binary_fine And check met a b frame env o q ka kb s h =
+      bits_fine And check o q s _ _ (bits_parts o q s h) ka kb (λ c d k l. an_int_value _ (and_int c d k))
+      (λ c d. a_truth_value _)
+  binary_fine Or check met a b frame env o q ka kb s h =
+      bits_fine Or check o q s _ _ (bits_parts o q s h) ka kb (λ c d k l. an_int_value _ (or_int c d k l))
+      (λ c d. a_truth_value _)
+  binary_fine Xor check met a b frame env o q ka kb s h =
+      bits_fine Xor check o q s _ _ (bits_parts o q s h) ka kb (λ c d k l. an_int_value _ (xor_int c d k l))
+      (λ c d. a_truth_value _)
+  binary_fine Shl check met a b frame env o q ka kb s h =
+      numbers_fine Shl check o q sort.Int s _ _ (shift_parts o q s h) ka kb (λ c d k l. an_int_value _ (shl_int c d))
+  binary_fine Shr check met a b frame env o q ka kb s h =
+      numbers_fine Shr check o q sort.Int s _ _ (shift_parts o q s h) ka kb (λ c d k l. an_int_value _ (shr_int c d k))
+  binary_fine Ushr check met a b frame env o q ka kb s h =
+      numbers_fine Ushr check o q sort.Int s _ _ (shift_parts o q s h) ka kb
       (λ c d k l. an_int_value _ (ushr_int c d k))

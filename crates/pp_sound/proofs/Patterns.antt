@@ -3,8 +3,10 @@ use Rattle.std.proofs.Common.{◌≡◌, Bool, true, List, [], ◌∷◌, ◌++�
 use Rattle.std.proofs.Common.{sym, ap, ◌∙◌, subst}
 use Rattle.std.specs.Prelude.{nat_eq}
 use Rattle.std.proofs.lemmas.Bool.{and_parts, eqb-true}
+use Rattle.pp_list.proofs.With.{With, elements}
+use Rattle.pp_prog.proofs.Induction.{each_pattern, pattern_under}
 use Rattle.pp_prog.specs.declared.expr.Pattern.{Pattern}
-use Rattle.pp_prog.specs.declared.expr.Pattern.TheFolds.{fold-roll-Pattern, ind-Pattern, map-Pattern}
+use Rattle.pp_prog.specs.declared.expr.Pattern.TheFolds.{fold-roll-Pattern, map-Pattern}
 use Rattle.pp_prog.specs.declared.expr.Pattern.TheOpen as pattern
 use Rattle.pp_prog.specs.declared.expr.Pattern.TheViews.{roll-Pattern}
 use Rattle.pp_prog.specs.declared.id.CtorId.{CtorId}
@@ -31,34 +33,32 @@ module _ (ctors : List Ctor) where
   abbrev FineAt : Pattern → Type 0
   FineAt p = Fine (fit p) (bound_sorts ctors p)
 
-  abbrev P : Type 0
-  P = (p : Pattern) × FineAt p
-
   none_bound : (ss : List Sort) (vs : List Value) → [] ≡ ss → [] ≡ vs → Have ctors ss vs
   none_bound ss vs e f = subst (λ l. Have ctors l vs) e (subst (Have ctors []) f refl)
 
-  fields_fine : (ys : List P) (ts ss : List Sort) → bind_fields (map (bound_sorts ctors) (map (λ z. z.0) ys)) ts ≡ Some
+  fields_fine : (ys : List (With FineAt)) (ts ss : List Sort)
+      → bind_fields (map (bound_sorts ctors) (elements ys)) ts ≡ Some
       ss → (ws vs : List Value) → Have ctors ts ws
-      → fit_fields (map fit (map (λ z. z.0) ys)) ws ≡ Some vs → Have ctors ss vs
+      → fit_fields (map fit (elements ys)) ws ≡ Some vs → Have ctors ss vs
   fields_fine [] [] ss b [] vs h f = none_bound ss vs (cc) (cc)
   fields_fine [] [] ss b (w ∷ ws) vs h f = cc
   fields_fine [] (t ∷ ts) ss b ws vs h f = cc
   fields_fine (y ∷ ys) [] ss b ws vs h f = cc
   fields_fine (y ∷ ys) (t ∷ ts) ss b [] vs h f = cc
   fields_fine (y ∷ ys) (t ∷ ts) ss b (w ∷ ws) vs h f =
-      let rest = bind_fields (map (bound_sorts ctors) (map (λ (z : P). z.0) ys)) ts in
+      let rest = bind_fields (map (bound_sorts ctors) (elements ys)) ts in
       let m = bind_then (bound_sorts ctors y.0 t) (λ here. then_bind rest (λ more. Some (here ++ more))) ss b in
       let n = bind_then rest (λ more. Some (m.0 ++ more)) ss m.2 in
-      let q = both_are (fit y.0 w) (fit_fields (map fit (map (λ (z : P). z.0) ys)) ws) vs f in
+      let q = both_are (fit y.0 w) (fit_fields (map fit (elements ys)) ws) vs f in
       let k = and_parts (has_sort ctors w t) _ h in
       let sorts : m.0 ++ n.0 ≡ ss = cc (n.2) in
       subst (λ l. Have ctors l vs) sorts (subst (Have ctors (m.0 ++ n.0)) q.4
       (have_more ctors m.0 n.0 q.0 q.1 (y.1 t m.0 m.1 w k.0 q.0 q.2) (fields_fine ys ts n.0 n.1 ws q.1 k.1 q.3)))
 
-  tree_fine : (c : CtorId) (ys : List P) (s : Sort) (ss : List Sort)
-      → bind_tree (slice_get ctors c.0) (map (bound_sorts ctors) (map (λ z. z.0) ys)) s ≡ Some ss
+  tree_fine : (c : CtorId) (ys : List (With FineAt)) (s : Sort) (ss : List Sort)
+      → bind_tree (slice_get ctors c.0) (map (bound_sorts ctors) (elements ys)) s ≡ Some ss
       → (o : value.Value-F Value) → has_step ctors (map-Value Value (Sort → Bool) (has_sort ctors) o) s ≡ true
-      → (vs : List Value) → fit_tree c (map fit (map (λ z. z.0) ys)) o ≡ Some vs → Have ctors ss vs
+      → (vs : List Value) → fit_tree c (map fit (elements ys)) o ≡ Some vs → Have ctors ss vs
   tree_fine c ys s ss b (value.Int n) h vs f = cc
   tree_fine c ys s ss b (value.Bool n) h vs f = cc
   tree_fine c ys s ss b (value.Tree d fields) h vs f =
@@ -66,12 +66,12 @@ module _ (ctors : List Ctor) where
       let k = tree_is (slice_get ctors d.0) (map (has_sort ctors) fields) s h in
       let known : slice_get ctors c.0 ≡ Some k.0 = ap (slice_get ctors) (eqb-true c.0 d.0 m.0) ∙ k.1 in
       let bound = if_some (same_sort (sort.Tree k.0.of) s) _ ss
-      (sym (ap (λ o. bind_tree o (map (bound_sorts ctors) (map (λ (z : P). z.0) ys)) s) known) ∙ b) in
+      (sym (ap (λ o. bind_tree o (map (bound_sorts ctors) (elements ys)) s) known) ∙ b) in
       fields_fine ys k.0.fields ss bound.1 fields vs k.3 m.1
 
-  level : (y : pattern.Pattern-F P) → Fine (fit_step (map-Pattern Pattern Fitting fit
-      (map-Pattern P Pattern (λ z. z.0) y))) (bind_step ctors
-      (map-Pattern Pattern Binding (bound_sorts ctors) (map-Pattern P Pattern (λ z. z.0) y)))
+  level : (y : pattern.Pattern-F (With FineAt)) → Fine (fit_step (map-Pattern Pattern Fitting fit
+      (pattern_under y))) (bind_step ctors
+      (map-Pattern Pattern Binding (bound_sorts ctors) (pattern_under y)))
   level pattern.Any s ss b v h vs f = none_bound ss vs (cc) (cc)
   level (pattern.Bind q) s ss b v h vs f =
       let m = bind_then (bound_sorts ctors q.0 s) (λ more. Some (s ∷ more)) ss b in
@@ -83,9 +83,9 @@ module _ (ctors : List Ctor) where
   level (pattern.Bool a) s ss b v h vs f = none_bound ss vs (none_binds _ ss b).1 (truth_binds a (out-Value v) vs f)
   level (pattern.Ctor c ys) s ss b v h vs f = tree_fine c ys s ss b (out-Value v) (level_has ctors v s h) vs f
 
-  at_level : (y : pattern.Pattern-F P) → FineAt (roll-Pattern (map-Pattern P Pattern (λ z. z.0) y))
+  at_level : (y : pattern.Pattern-F (With FineAt)) → FineAt (roll-Pattern (pattern_under y))
   at_level y =
-      let z = map-Pattern P Pattern (λ w. w.0) y in
+      let z = pattern_under y in
       let one = fold-roll-Pattern Fitting fit_step z in
       let two = fold-roll-Pattern Binding (bind_step ctors) z in
       subst (λ f. Fine f (bound_sorts ctors (roll-Pattern z))) (sym one)
@@ -93,4 +93,4 @@ module _ (ctors : List Ctor) where
 
   -- what a pattern binds at a value of its sort has the sorts that it says
   pub pattern_fine : (p : Pattern) → FineAt p
-  pattern_fine = ind-Pattern FineAt (λ x y is. subst (λ z. FineAt (roll-Pattern z)) is (at_level y))
+  pattern_fine = each_pattern FineAt at_level

@@ -1,11 +1,13 @@
 -- The steps of expressions, of calls and of a run look at earlier ones alone.
-use Rattle.std.proofs.Common.{◌≡◌, ℕ, zero, suc, ◌+◌, ◌<◌, ◌≤◌, false, List, [], ◌∷◌, ◌++◌, length, map, Option, Some}
+use Rattle.std.proofs.Common.{ℕ, zero, suc, ◌+◌, ◌<◌, ◌≤◌, false, List, [], ◌∷◌, ◌++◌, length, map, Option, Some}
 use Rattle.std.proofs.Common.{None, sym, subst, arith}
 use Rattle.std.specs.Prelude.{slice_get}
+use Rattle.pp_list.proofs.With.{With, elements}
+use Rattle.pp_prog.proofs.Induction.{case_under, each_expr, under}
 use Rattle.pp_tree.specs.declared.operator.BinaryOp.TheVariants.{Equal}
 use Rattle.pp_prog.specs.declared.expr.Case.{Case}
 use Rattle.pp_prog.specs.declared.expr.Expr.{Expr}
-use Rattle.pp_prog.specs.declared.expr.Expr.TheFolds.{fold-roll-Case, fold-roll-Expr, ind-Expr, map-Case, map-Expr}
+use Rattle.pp_prog.specs.declared.expr.Expr.TheFolds.{fold-roll-Case, fold-roll-Expr, map-Case, map-Expr}
 use Rattle.pp_prog.specs.declared.expr.Expr.TheOpen as layer
 use Rattle.pp_prog.specs.declared.expr.Expr.TheViews.{roll-Case, roll-Expr}
 use Rattle.pp_prog.specs.declared.expr.Function.{Function}
@@ -36,24 +38,15 @@ module _ (base : ℕ) (asked : Option CheckId) (site : Site) (its : SiteStays ba
   abbrev Q : Case → Type 0
   Q k = ArmStays base (arm asked site k)
 
-  abbrev E : Type 0
-  E = (e : Expr) × P e
-
-  abbrev K : Type 0
-  K = (k : Case) × Q k
-
-  all_stay : (ys : List E) → AllStay base (map (compile asked site) (map (λ z. z.0) ys))
+  all_stay : (ys : List (With P)) → AllStay base (map (compile asked site) (elements ys))
   all_stay [] = tt
   all_stay (y ∷ ys) = (y.1, all_stay ys)
 
-  arms_stay : (ys : List K) → AllArms base (map (arm asked site) (map (λ z. z.0) ys))
+  arms_stay : (ys : List (With Q)) → AllArms base (map (arm asked site) (elements ys))
   arms_stay [] = tt
   arms_stay (y ∷ ys) = (y.1, arms_stay ys)
 
-  abbrev under : layer.Expr-F E K → layer.Expr-F Expr Case
-  under y = map-Expr E K Expr Case (λ z. z.0) (λ z. z.0) y
-
-  level : (y : layer.Expr-F E K)
+  level : (y : layer.Expr-F (With P) (With Q))
       → Stays base (compile_step asked site
       (map-Expr Expr Case Compiling Arm (compile asked site) (arm asked site) (under y)))
   level (layer.Int n) k env reach e r = one_within (steps.Int n) k reach tt r
@@ -65,40 +58,39 @@ module _ (base : ℕ) (asked : Option CheckId) (site : Site) (its : SiteStays ba
   level (layer.Binary op a b check) k env reach e r =
       binary_stays base asked op check (compile asked site a.0) (compile asked site b.0) a.1 b.1 k env reach e r
   level (layer.Construct c args) k env reach e r =
-      construct_stays base (map (compile asked site) (map (λ z. z.0) args)) (all_stay args) c k env reach e r
+      construct_stays base (map (compile asked site) (elements args)) (all_stay args) c k env reach e r
   level (layer.Field x i) k env reach e r =
       map_stays base (compile asked site x.0) (λ a. steps.Field a i) x.1 (λ n a h. h) k env reach e r
   level (layer.If t a b) k env reach e r = if_stays base (compile asked site t.0) (compile asked site a.0)
       (compile asked site b.0) t.1 a.1 b.1 k env reach e r
   level (layer.Match x ys check) k env reach e r = match_stays base asked (compile asked site x.0) x.1
-      (map (arm asked site) (map (λ z. z.0) ys)) (arms_stay ys) check k env reach e r
+      (map (arm asked site) (elements ys)) (arms_stay ys) check k env reach e r
   level (layer.Val a b) k env reach e r =
       val_stays base (compile asked site a.0) (compile asked site b.0) a.1 b.1 k env reach e r
   level (layer.Assert check t rest) k env reach e r = assert_stays base asked (Some check) (compile asked site t.0)
       (compile asked site rest.0) t.1 rest.1 k env reach e r
   level (layer.Call g args pre down) k env reach e r = call_stays base
-      (map (compile asked site) (map (λ z. z.0) args)) (all_stay args) site its g pre down k env reach e r
+      (map (compile asked site) (elements args)) (all_stay args) site its g pre down k env reach e r
 
-  at_level : (y : layer.Expr-F E K) → P (roll-Expr (under y))
+  at_level : (y : layer.Expr-F (With P) (With Q)) → P (roll-Expr (under y))
   at_level y = subst (λ (m : Compiling). Stays base m)
       (sym (fold-roll-Expr Compiling Arm (compile_step asked site) arm_step (under y))) (level y)
 
-  at_parts : (p : Pattern) (o : Option E) (b : E) → let y : layer.Case-F E K =
+  at_parts : (p : Pattern) (o : Option (With P)) (b : With P) → let y : layer.Case-F (With P) (With Q) =
       record { pattern = p; guard = o; body = b } in
-      let z = map-Case E K Expr Case (λ w. w.0) (λ w. w.0) y in
+      let z = case_under Q y in
       ArmStays base (arm_step (map-Case Expr Case Compiling Arm (compile asked site) (arm asked site) z))
   at_parts p None b = record { guard = tt; body = b.1 }
   at_parts p (Some e) b = record { guard = e.1; body = b.1 }
 
-  at_case : (y : layer.Case-F E K) → Q (roll-Case (map-Case E K Expr Case (λ z. z.0) (λ z. z.0) y))
+  at_case : (y : layer.Case-F (With P) (With Q)) → Q (roll-Case (case_under Q y))
   at_case y =
-      let z = map-Case E K Expr Case (λ w. w.0) (λ w. w.0) y in
+      let z = case_under Q y in
       subst (λ (k : Arm). ArmStays base k) (sym (fold-roll-Case Compiling Arm (compile_step asked site) arm_step z))
       (at_parts y.pattern y.guard y.body)
 
   pub expr_stays : (e : Expr) → Stays base (compile asked site e)
-  expr_stays = ind-Expr P Q (λ x y is. subst (λ z. P (roll-Expr z)) is (at_level y))
-      (λ x y is. subst (λ z. Q (roll-Case z)) is (at_case y))
+  expr_stays = each_expr P Q at_level at_case
 
   list_stays : (es : List Expr) → AllStay base (map (compile asked site) es)
   list_stays [] = tt

@@ -2,10 +2,12 @@
 use Rattle.std.proofs.Common.{◌≡◌, ℕ, zero, suc, ◌+◌, ◌<◌, ◌≤◌, Bool, true, false, List, [], ◌∷◌, ◌++◌, length, map}
 use Rattle.std.proofs.Common.{Option, Some, None, sym, ap, ◌∙◌, subst, arith, length-append}
 use Rattle.std.specs.Prelude.{pos, slice_index_or}
+use Rattle.pp_list.proofs.With.{With, elements}
+use Rattle.pp_prog.proofs.Induction.{each_pattern, pattern_under}
 use Rattle.pp_tree.specs.declared.operator.BinaryOp.{BinaryOp}
 use Rattle.pp_tree.specs.declared.operator.BinaryOp.TheVariants.{AndAlso, OrElse, Div, Rem, Equal}
 use Rattle.pp_prog.specs.declared.expr.Pattern.{Pattern}
-use Rattle.pp_prog.specs.declared.expr.Pattern.TheFolds.{fold-roll-Pattern, ind-Pattern, map-Pattern}
+use Rattle.pp_prog.specs.declared.expr.Pattern.TheFolds.{fold-roll-Pattern, map-Pattern}
 use Rattle.pp_prog.specs.declared.expr.Pattern.TheOpen as pattern
 use Rattle.pp_prog.specs.declared.expr.Pattern.TheViews.{roll-Pattern}
 use Rattle.pp_prog.specs.declared.id.CheckId.{CheckId}
@@ -253,11 +255,8 @@ module _ (base : ℕ) where
       end_two : (k : ℕ) → suc k < k + 2
       end_two k = omega arith
 
-  abbrev P : Type 0
-  P = (p : Pattern) × FitsWithin p
-
-  abbrev inner_of : List P → List Matching
-  inner_of ps = map fitting (map (λ y. y.0) ps)
+  abbrev inner_of : List (With FitsWithin) → List Matching
+  inner_of ps = map fitting (elements ps)
 
   assoc : (a b c : ℕ) → suc a + b + c ≡ a + suc (b + c)
   assoc a b c = omega arith
@@ -265,7 +264,8 @@ module _ (base : ℕ) where
   le_sum : (a b c : ℕ) → suc a + b ≤ a + suc (b + c)
   le_sum a b c = omega arith
 
-  fields_within : (c : CtorId) (ps : List P) (j k t : ℕ) → t < k → IsFittingWithin k (fit_fields c j (inner_of ps) k t)
+  fields_within : (c : CtorId) (ps : List (With FitsWithin)) (j k t : ℕ) → t < k
+      → IsFittingWithin k (fit_fields c j (inner_of ps) k t)
   fields_within c [] j k t h = record { reads = tt; tests = tt; bound = tt }
   fields_within c (p ∷ ps) j k t h =
       let x = fitting p.0 (suc k) k in
@@ -286,11 +286,8 @@ module _ (base : ℕ) where
             (below_later n (n + length y.steps) x.bound le hx.bound) hy.bound);
       }
 
-  abbrev under : pattern.Pattern-F P → pattern.Pattern-F Pattern
-  under y = map-Pattern P Pattern (λ z. z.0) y
-
-  pattern_level : (y : pattern.Pattern-F P) (k t : ℕ) → t < k
-      → IsFittingWithin k (fitting_step (map-Pattern Pattern Matching fitting (under y)) k t)
+  pattern_level : (y : pattern.Pattern-F (With FitsWithin)) (k t : ℕ) → t < k
+      → IsFittingWithin k (fitting_step (map-Pattern Pattern Matching fitting (pattern_under y)) k t)
   pattern_level pattern.Any k t h = record { reads = tt; tests = tt; bound = tt }
   pattern_level (pattern.Bind inner) k t h =
       let w = inner.1 k t h in
@@ -313,12 +310,12 @@ module _ (base : ℕ) where
       first : (a b : ℕ) → a < a + suc b
       first a b = omega arith
 
-  pattern_at : (y : pattern.Pattern-F P) → FitsWithin (roll-Pattern (under y))
+  pattern_at : (y : pattern.Pattern-F (With FitsWithin)) → FitsWithin (roll-Pattern (pattern_under y))
   pattern_at y = subst (λ (f : Matching). (k t : ℕ) → t < k → IsFittingWithin k (f k t))
-      (sym (fold-roll-Pattern Matching fitting_step (under y))) (pattern_level y)
+      (sym (fold-roll-Pattern Matching fitting_step (pattern_under y))) (pattern_level y)
 
   pub pattern_within : (p : Pattern) → FitsWithin p
-  pattern_within = ind-Pattern FitsWithin (λ x y is. subst (λ z. FitsWithin (roll-Pattern z)) is (pattern_at y))
+  pattern_within = each_pattern FitsWithin pattern_at
 
   -- ---- matches
 

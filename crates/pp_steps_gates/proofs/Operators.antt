@@ -13,9 +13,7 @@ use Rattle.pp_prog.specs.declared.id.CheckId.{CheckId}
 use Rattle.pp_prog.specs.declared.sort.Sort.{Sort}
 use Rattle.pp_prog.specs.declared.sort.Sort.TheVariants as sort
 use Rattle.pp_prog.specs.declared.types.TypeTable.{TypeTable}
-use Rattle.pp_prog.specs.ExprSorts.{Sorting, a_bool, alike, binary_sort, class_sort}
-use Rattle.pp_prog.specs.ExprSorts.{truth_sort}
-use Rattle.pp_prog.specs.Results.{operator_result}
+use Rattle.pp_prog.specs.ExprSorts.{Sorting, binary_sort, class_sort, gives}
 use Rattle.pp_prog.specs.Sizes.{bits, by_sort}
 use Rattle.pp_prog.proofs.Results.{binary_is}
 use Rattle.pp_estimate.specs.declared.shape.Shape.{Shape}
@@ -24,7 +22,7 @@ use Rattle.pp_estimate.specs.Visits.{Visiting, binary_extra, class_extra, node, 
 use Rattle.pp_estimate_laws.proofs.Growth.{cost_of_both}
 use Rattle.pp_estimate_laws.proofs.Numbers.{le_same, le_then, plus_grows, times_grow}
 use Rattle.pp_estimate_laws.proofs.Sizes.{bits_grow}
-use Rattle.pp_prog.proofs.PartSorts.{alike_are, binary_parts, bool_then, sort_then}
+use Rattle.pp_prog.proofs.PartSorts.{binary_parts, equality_parts, logic_parts}
 use Rattle.pp_steps.specs.declared.step.Step.TheVariants as steps
 use Rattle.pp_steps.specs.Compile.{Compiling, binary, one, quotient, skipping, unless, when}
 use Rattle.pp_steps.specs.Gates.{Heights, binary_gates, class_gates, equality_gates}
@@ -56,7 +54,7 @@ bits_within (sort.Tree d) n = omega arith
 
 -- the result's sort is that of the operands' sorts
 pub result_is : (op : BinaryOp) (o q : Option Sort) (r a s : Sort) → o ≡ Some a → r ≡ a → binary_sort op o q ≡ Some s
-    → operator_result op r ≡ s
+    → gives op r ≡ s
 result_is op o q r a s oa ra h = binary_is op o q r s (λ t e. ra ∙ same_Some a t (sym oa ∙ e)) h
 
 module _ (types : TypeTable) where
@@ -101,7 +99,7 @@ module _ (types : TypeTable) (σ : Sorts) (η : Heights) (old : List Shape) wher
   -- the visit of an operator on two values
   abbrev visited : BinaryOp → Visiting → Visiting → Visiting
   visited op v w o env =
-      visit (shape (operator_result op (v o env).shape.sort) 0)
+      visit (shape (gives op (v o env).shape.sort) 0)
       ((v o env).events ++ (w o env).events ++ node (binary_extra types op (v o env).shape (w o env).shape))
 
   -- the result of the step of an operator on numbers of these sorts
@@ -160,10 +158,8 @@ module _ (types : TypeTable) (σ : Sorts) (η : Heights) (old : List Shape) wher
     nonzero_fits : (y k : ℕ) → σ k ≡ sort.Int → IsSorted types σ (steps.Binary Equal y k) (σ (suc k))
         → equality_gates types (min (η y) (η k)) (σ y) ≡ 64
     nonzero_fits y k int made =
-        let t = sort_then (alike (Some (σ y)) (Some (σ k))) (λ z. Some sort.Bool) (σ (suc k)) made in
-        let both = alike_are (Some (σ y)) (Some (σ k)) t.0 t.1 in
-        ap (equality_gates types (min (η y) (η k)))
-        (same_Some (σ y) t.0 both.0 ∙ same_Some t.0 (σ k) (sym both.1) ∙ int)
+        let both = (equality_parts (Some (σ y)) (Some (σ k)) (σ (suc k)) made).1 in
+        ap (equality_gates types (min (η y) (η k))) (same_Some (σ y) (σ k) (both.0 ∙ sym both.1) ∙ int)
 
     quotient_covers : (asked check : Option CheckId) → C (λ k env reach. bind k (a k env reach) (λ n x alive.
         bind n (b n env alive) (λ m y going. quotient asked op check m going x y))) (visited op v w)
@@ -234,14 +230,9 @@ module _ (types : TypeTable) (σ : Sorts) (η : Heights) (old : List Shape) wher
         record { out = hz.out; alive = hz.alive; few = omega arith }
 
     module _ (a b : Compiling) (v w : Visiting) (t u : Sorting) (ha : C a v t) (hb : C b w u) where
-      both_true : (o q : Option Sort) (s : Sort) → truth_sort o q ≡ Some s
-          → (o ≡ Some sort.Bool) × (q ≡ Some sort.Bool) × (sort.Bool ≡ s)
-      both_true o q s h =
-          let x = bool_then o (a_bool q (Some sort.Bool)) s h in
-          let y = bool_then q (Some sort.Bool) s x.1 in (x.0, y.0, same_Some sort.Bool s y.1)
-
       module _ (k : ℕ) (env : List ℕ) (reach : ℕ) (shapes : List Shape) (scope : List Sort) (s : Sort)
-          (are : Are types σ η env shapes scope) (r : Bit reach) (h : truth_sort (t scope) (u scope) ≡ Some s) where
+          (are : Are types σ η env shapes scope) (r : Bit reach)
+          (h : class_sort class.Logic (t scope) (u scope) ≡ Some s) where
         abbrev x : Piece ℕ
         x = a k env reach
 
@@ -250,13 +241,13 @@ module _ (types : TypeTable) (σ : Sorts) (η : Heights) (old : List Shape) wher
 
         -- what goes on after the left side, with a step that tells whether the right side is reached
         skip_covers : (op : BinaryOp) → binary_extra types op (v old shapes).shape (w old shapes).shape ≡ 0
-            → operator_result op (v old shapes).shape.sort ≡ sort.Bool → (f : Piece ℕ)
+            → gives op (v old shapes).shape.sort ≡ sort.Bool → (f : Piece ℕ)
             → (hx : IsCovered types σ η k x sort.Bool (v old shapes)) → IsFew types σ η Bit n f 1
             → IsMade types σ η (after n f) (skipping b (after n f) env f.out x.out x.alive).steps
             → IsCovered types σ η k (joined x (joined f (skipping b (after n f) env f.out x.out x.alive))) s
             (visited op v w old shapes)
         skip_covers op none result f hx hf m =
-            let q = both_true (t scope) (u scope) s h in
+            let q = logic_parts (t scope) (u scope) s h in
             let p = v old shapes in
             let e = w old shapes in
             let z = skipping b (after n f) env f.out x.out x.alive in
@@ -274,9 +265,9 @@ module _ (types : TypeTable) (σ : Sorts) (η : Heights) (old : List Shape) wher
             (joined_few types σ η (H sort.Bool 0) n f z 1 (2 * cost e.events) hf.few hz))) (omega arith)
 
       and_covers : (asked check : Option CheckId) → C (binary asked AndAlso a b check) (visited AndAlso v w)
-          (λ scope. truth_sort (t scope) (u scope))
+          (λ scope. class_sort class.Logic (t scope) (u scope))
       and_covers asked check k env reach shapes scope s are r h m =
-          let q = both_true (t scope) (u scope) s h in
+          let q = logic_parts (t scope) (u scope) s h in
           let c = a k env reach in
           let i = after k c in
           let f = when i c.alive c.out in
@@ -287,9 +278,9 @@ module _ (types : TypeTable) (σ : Sorts) (η : Heights) (old : List Shape) wher
           (when_few types σ η i c.alive c.out (made_left types σ η i f z mf)) (made_right types σ η i f z mf)
 
       or_covers : (asked check : Option CheckId) → C (binary asked OrElse a b check) (visited OrElse v w)
-          (λ scope. truth_sort (t scope) (u scope))
+          (λ scope. class_sort class.Logic (t scope) (u scope))
       or_covers asked check k env reach shapes scope s are r h m =
-          let q = both_true (t scope) (u scope) s h in
+          let q = logic_parts (t scope) (u scope) s h in
           let c = a k env reach in
           let i = after k c in
           let f = unless i c.alive c.out in

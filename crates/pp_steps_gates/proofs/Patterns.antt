@@ -4,8 +4,11 @@ use Rattle.std.proofs.Common.{map, length, Option, Some, None, refl, sym, ap, �
 use Rattle.std.proofs.lemmas.Option.{same_Some}
 use Rattle.std.proofs.Math.Nat.{add-zero, zero-add}
 use Rattle.std.specs.Prelude.{slice_get}
+use Rattle.pp_list.proofs.With.{With, elements}
+use Rattle.pp_prog.proofs.Induction.{each_pattern, pattern_under}
+use Rattle.pp_list.specs.Joined.{joined}
 use Rattle.pp_prog.specs.declared.expr.Pattern.{Pattern}
-use Rattle.pp_prog.specs.declared.expr.Pattern.TheFolds.{fold-roll-Pattern, ind-Pattern, map-Pattern}
+use Rattle.pp_prog.specs.declared.expr.Pattern.TheFolds.{fold-roll-Pattern, map-Pattern}
 use Rattle.pp_prog.specs.declared.expr.Pattern.TheOpen as pattern
 use Rattle.pp_prog.specs.declared.expr.Pattern.TheViews.{roll-Pattern}
 use Rattle.pp_prog.specs.declared.id.CtorId.{CtorId}
@@ -13,9 +16,8 @@ use Rattle.pp_prog.specs.declared.sort.Sort.{Sort}
 use Rattle.pp_prog.specs.declared.sort.Sort.TheVariants as sort
 use Rattle.pp_prog.specs.declared.types.Ctor.{Ctor}
 use Rattle.pp_prog.specs.declared.types.TypeTable.{TypeTable}
-use Rattle.pp_prog.specs.Calls.{joined}
 use Rattle.pp_prog.specs.PatternSorts as sorts
-use Rattle.pp_prog.specs.PatternSorts.{bind_fields, bind_tree, binds_none, bound_sorts, then_bind}
+use Rattle.pp_prog.specs.PatternSorts.{bind_fields, bound_sorts, then_bind}
 use Rattle.pp_prog.specs.Results.{fields_of_ctor, tree_result}
 use Rattle.pp_prog.specs.Sizes.{height_at}
 use Rattle.pp_sound.proofs.Binding.{bind_then, none_binds, tree_binds}
@@ -45,32 +47,27 @@ module _ (types : TypeTable) (σ : Sorts) (η : Heights) where
       → IsMade types σ η k (fitting p k t).steps
       → IsMatched k (fitting p k t) (bound types.ctors p h) l (pattern_events types.ctors p)
 
-  abbrev P : Type 0
-  P = (p : Pattern) × Matches p
-
-  abbrev patterns : List P → List Pattern
-  patterns ps = map (λ y. y.0) ps
-
-  fields_match : (c : CtorId) (k : Ctor) → slice_get types.ctors c.0 ≡ Some k → (ps : List P) (j : ℕ) (ss : List Sort)
+  fields_match : (c : CtorId) (k : Ctor) → slice_get types.ctors c.0 ≡ Some k
+      → (ps : List (With Matches)) (j : ℕ) (ss : List Sort)
       → ((i : ℕ) → slice_get k.fields (j + i) ≡ slice_get ss i) → (n t : ℕ) (h : Shape) → η t ≤ h.height
-      → (l : List Sort) → bind_fields (map (bound_sorts types.ctors) (patterns ps)) ss ≡ Some l
-      → IsMade types σ η n (fit_fields c j (map fitting (patterns ps)) n t).steps
-      → IsMatched n (fit_fields c j (map fitting (patterns ps)) n t)
-      (bind_each h (map (bound types.ctors) (patterns ps)) ss) l
-      (joined (map (pattern_events types.ctors) (patterns ps)))
+      → (l : List Sort) → bind_fields (map (bound_sorts types.ctors) (elements ps)) ss ≡ Some l
+      → IsMade types σ η n (fit_fields c j (map fitting (elements ps)) n t).steps
+      → IsMatched n (fit_fields c j (map fitting (elements ps)) n t)
+      (bind_each h (map (bound types.ctors) (elements ps)) ss) l
+      (joined (map (pattern_events types.ctors) (elements ps)))
   fields_match c k is [] j [] at n t h low l e m =
       let same : [] ≡ l = same_Some [] l e in
       record { bound = subst (λ z. Are types σ η [] [] z) same tt; few = omega arith }
   fields_match c k is [] j (s ∷ ss) at n t h low l e m = let no : None ≡ Some l = e in cc
   fields_match c k is (p ∷ ps) j [] at n t h low l e m = let no : None ≡ Some l = e in cc
   fields_match c k is (p ∷ ps) j (s ∷ ss) at n t h low l e m =
-      let inner = map (bound_sorts types.ctors) (patterns ps) in
+      let inner = map (bound_sorts types.ctors) (elements ps) in
       let here = bind_then (bound_sorts types.ctors p.0 s)
       (λ a. then_bind (bind_fields inner ss) (λ more. Some (a ++ more))) l e in
       let rest = bind_then (bind_fields inner ss) (λ more. Some (here.0 ++ more)) l here.2 in
       let x = fitting p.0 (suc n) n in
       let i = suc n + length x.steps in
-      let y = fit_fields c (suc j) (map fitting (patterns ps)) i t in
+      let y = fit_fields c (suc j) (map fitting (elements ps)) i t in
       let made : Selects types σ c j t (σ n) = m.0.0 in
       let same : made.ctor ≡ k = same_Some made.ctor k (sym made.stands ∙ is) in
       let found : slice_get k.fields j ≡ Some (σ n) =
@@ -91,25 +88,24 @@ module _ (types : TypeTable) (σ : Sorts) (η : Heights) where
       let few_y = hy.few in
       let gates_are = gates_of_both types σ η (suc n) x.steps y.steps in
       let tests_are = length-append x.tests y.tests in
-      let rest_events = joined (map (pattern_events types.ctors) (patterns ps)) in
+      let rest_events = joined (map (pattern_events types.ctors) (elements ps)) in
       let cost_is = cost_of_both (pattern_events types.ctors p.0) rest_events in
       record {
         bound = subst (λ z. Are types σ η (x.bound ++ y.bound)
-            (bound types.ctors p.0 w ++ bind_each h (map (bound types.ctors) (patterns ps)) ss) z)
+            (bound types.ctors p.0 w ++ bind_each h (map (bound types.ctors) (elements ps)) ss) z)
             (same_Some (here.0 ++ rest.0) l rest.2)
             (are_join types σ η x.bound (bound types.ctors p.0 w) here.0 y.bound _ rest.0 hx.bound hy.bound);
         few = omega arith;
       }
 
-  abbrev under : pattern.Pattern-F P → pattern.Pattern-F Pattern
-  under y = map-Pattern P Pattern (λ z. z.0) y
-
-  pattern_level : (y : pattern.Pattern-F P) (k t : ℕ) (h : Shape) (s : Sort) (l : List Sort) → IsOf types σ η t h s
-      → sorts.bind_step types.ctors (map-Pattern Pattern sorts.Binding (bound_sorts types.ctors) (under y)) s ≡ Some l
-      → let f = fitting_step (map-Pattern Pattern Matching fitting (under y)) k t in
+  pattern_level : (y : pattern.Pattern-F (With Matches)) (k t : ℕ) (h : Shape) (s : Sort) (l : List Sort)
+      → IsOf types σ η t h s
+      → sorts.bind_step types.ctors (map-Pattern Pattern sorts.Binding (bound_sorts types.ctors) (pattern_under y)) s ≡
+      Some l
+      → let f = fitting_step (map-Pattern Pattern Matching fitting (pattern_under y)) k t in
       IsMade types σ η k f.steps
-      → IsMatched k f (bind_step types.ctors (map-Pattern Pattern Binding (bound types.ctors) (under y)) h) l
-      (pattern_step types.ctors (map-Pattern Pattern (List Event) (pattern_events types.ctors) (under y)))
+      → IsMatched k f (bind_step types.ctors (map-Pattern Pattern Binding (bound types.ctors) (pattern_under y)) h) l
+      (pattern_step types.ctors (map-Pattern Pattern (List Event) (pattern_events types.ctors) (pattern_under y)))
   pattern_level pattern.Any k t h s l of e m =
       let same : [] ≡ l = same_Some [] l e in
       record { bound = subst (λ z. Are types σ η [] [] z) same tt; few = omega arith }
@@ -135,24 +131,24 @@ module _ (types : TypeTable) (σ : Sorts) (η : Heights) where
       let gates_are = ap (equality_gates types (min (η k) (η t))) bit in
       record { bound = subst (λ z. Are types σ η [] [] z) same tt; few = omega arith }
   pattern_level (pattern.Ctor c ps) k t h s l of e m =
-      let q = tree_binds (slice_get types.ctors c.0) (map (bound_sorts types.ctors) (patterns ps)) s l e in
-      let x = fit_fields c 0 (map fitting (patterns ps)) (suc k) t in
+      let q = tree_binds (slice_get types.ctors c.0) (map (bound_sorts types.ctors) (elements ps)) s l e in
+      let x = fit_fields c 0 (map fitting (elements ps)) (suc k) t in
       let hx = fields_match c q.0 q.1 ps 0 q.0.fields (λ i. ap (slice_get q.0.fields) (zero-add i)) (suc k) t h
       of.has.height l q.3 m.1 in
       let few = hx.few in
-      let events = joined (map (pattern_events types.ctors) (patterns ps)) in
+      let events = joined (map (pattern_events types.ctors) (elements ps)) in
       let r = tree_result (slice_get types.ctors c.0) in
       let one_is = cost_of_both (node 0 ++ look_at r) events in
       let two_is = cost_of_both (node 0) (look_at r) in
       record {
         bound = subst (λ (z : Option Ctor). Are types σ η x.bound
-            (bind_each h (map (bound types.ctors) (patterns ps)) (fields_of_ctor z)) l) (sym q.1) hx.bound;
+            (bind_each h (map (bound types.ctors) (elements ps)) (fields_of_ctor z)) l) (sym q.1) hx.bound;
         few = omega arith;
       }
 
-  at_pattern : (y : pattern.Pattern-F P) → Matches (roll-Pattern (under y))
+  at_pattern : (y : pattern.Pattern-F (With Matches)) → Matches (roll-Pattern (pattern_under y))
   at_pattern y k t h s l of e m =
-      let z = under y in
+      let z = pattern_under y in
       let one = fold-roll-Pattern Matching fitting_step z in
       let two = fold-roll-Pattern Binding (bind_step types.ctors) z in
       let three = fold-roll-Pattern (List Event) (pattern_step types.ctors) z in
@@ -167,4 +163,4 @@ module _ (types : TypeTable) (σ : Sorts) (η : Heights) where
       (subst (λ (f : Matching). IsMade types σ η k (f k t).steps) one m))))
 
   pub pattern_matches : (p : Pattern) → Matches p
-  pattern_matches = ind-Pattern Matches (λ x y is. subst (λ z. Matches (roll-Pattern z)) is (at_pattern y))
+  pattern_matches = each_pattern Matches at_pattern

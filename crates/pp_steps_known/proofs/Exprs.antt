@@ -1,8 +1,10 @@
 -- What an expression reaches is known, where what its calls reach is.
 use Rattle.std.proofs.Common.{ℕ, List, [], ◌∷◌, map, Option, Some, None, sym, subst}
+use Rattle.pp_list.proofs.With.{With, elements}
+use Rattle.pp_prog.proofs.Induction.{case_under, each_expr, under}
 use Rattle.pp_prog.specs.declared.expr.Case.{Case}
 use Rattle.pp_prog.specs.declared.expr.Expr.{Expr}
-use Rattle.pp_prog.specs.declared.expr.Expr.TheFolds.{fold-roll-Case, fold-roll-Expr, ind-Expr, map-Case, map-Expr}
+use Rattle.pp_prog.specs.declared.expr.Expr.TheFolds.{fold-roll-Case, fold-roll-Expr, map-Case, map-Expr}
 use Rattle.pp_prog.specs.declared.expr.Expr.TheOpen as layer
 use Rattle.pp_prog.specs.declared.expr.Expr.TheViews.{roll-Case, roll-Expr}
 use Rattle.pp_prog.specs.declared.expr.Pattern.{Pattern}
@@ -23,24 +25,15 @@ module _ (ctors : List Ctor) (missing : Missing) (ρ : Values) (K : ℕ → Type
   abbrev Q : Case → Type 0
   Q k = ArmKnows ctors missing ρ K C (arm asked site k)
 
-  abbrev E : Type 0
-  E = (e : Expr) × P e
-
-  abbrev A : Type 0
-  A = (k : Case) × Q k
-
-  all_know : (ys : List E) → AllKnow ctors missing ρ K C (map (compile asked site) (map (λ z. z.0) ys))
+  all_know : (ys : List (With P)) → AllKnow ctors missing ρ K C (map (compile asked site) (elements ys))
   all_know [] = tt
   all_know (y ∷ ys) = (y.1, all_know ys)
 
-  arms_know : (ys : List A) → AllArmsKnow ctors missing ρ K C (map (arm asked site) (map (λ z. z.0) ys))
+  arms_know : (ys : List (With Q)) → AllArmsKnow ctors missing ρ K C (map (arm asked site) (elements ys))
   arms_know [] = tt
   arms_know (y ∷ ys) = (y.1, arms_know ys)
 
-  abbrev under : layer.Expr-F E A → layer.Expr-F Expr Case
-  under y = map-Expr E A Expr Case (λ z. z.0) (λ z. z.0) y
-
-  level : (y : layer.Expr-F E A)
+  level : (y : layer.Expr-F (With P) (With Q))
       → Knows ctors missing ρ K C (compile_step asked site
       (map-Expr Expr Case Compiling Arm (compile asked site) (arm asked site) (under y)))
   level (layer.Int n) = literal_knows ctors missing ρ K C (steps.Int n) (λ k h. h)
@@ -51,14 +44,14 @@ module _ (ctors : List Ctor) (missing : Missing) (ρ : Values) (K : ℕ → Type
   level (layer.Binary op a b check) =
       binary_knows ctors missing ρ K C asked op check (compile asked site a.0) (compile asked site b.0) a.1 b.1
   level (layer.Construct c args) =
-      construct_knows ctors missing ρ K C (map (compile asked site) (map (λ z. z.0) args)) (all_know args) c
+      construct_knows ctors missing ρ K C (map (compile asked site) (elements args)) (all_know args) c
   level (layer.Field x i) =
       map_knows ctors missing ρ K C (compile asked site x.0) (λ a. steps.Field a i) x.1 (λ n a h. h)
   level (layer.If t a b) =
       if_knows ctors missing ρ K C (compile asked site t.0) (compile asked site a.0) (compile asked site b.0)
       t.1 a.1 b.1
   level (layer.Match x ys check) =
-      match_knows ctors missing ρ K C asked (compile asked site x.0) x.1 (map (arm asked site) (map (λ z. z.0) ys))
+      match_knows ctors missing ρ K C asked (compile asked site x.0) x.1 (map (arm asked site) (elements ys))
       (arms_know ys) check
   level (layer.Val a b) =
       val_knows ctors missing ρ K C (compile asked site a.0) (compile asked site b.0) a.1 b.1
@@ -66,30 +59,29 @@ module _ (ctors : List Ctor) (missing : Missing) (ρ : Values) (K : ℕ → Type
       assert_knows ctors missing ρ K C asked (Some check) (compile asked site t.0) (compile asked site rest.0)
       t.1 rest.1
   level (layer.Call g args pre down) =
-      call_knows ctors missing ρ K C (map (compile asked site) (map (λ z. z.0) args)) (all_know args)
+      call_knows ctors missing ρ K C (map (compile asked site) (elements args)) (all_know args)
       site its g pre down
 
-  at_level : (y : layer.Expr-F E A) → P (roll-Expr (under y))
+  at_level : (y : layer.Expr-F (With P) (With Q)) → P (roll-Expr (under y))
   at_level y = subst (λ (m : Compiling). Knows ctors missing ρ K C m)
       (sym (fold-roll-Expr Compiling Arm (compile_step asked site) arm_step (under y))) (level y)
 
-  at_parts : (p : Pattern) (o : Option E) (b : E) → let y : layer.Case-F E A =
+  at_parts : (p : Pattern) (o : Option (With P)) (b : With P) → let y : layer.Case-F (With P) (With Q) =
       record { pattern = p; guard = o; body = b } in
-      let z = map-Case E A Expr Case (λ w. w.0) (λ w. w.0) y in
+      let z = case_under Q y in
       ArmKnows ctors missing ρ K C
       (arm_step (map-Case Expr Case Compiling Arm (compile asked site) (arm asked site) z))
   at_parts p None b = record { guard = tt; body = b.1 }
   at_parts p (Some e) b = record { guard = e.1; body = b.1 }
 
-  at_case : (y : layer.Case-F E A) → Q (roll-Case (map-Case E A Expr Case (λ z. z.0) (λ z. z.0) y))
+  at_case : (y : layer.Case-F (With P) (With Q)) → Q (roll-Case (case_under Q y))
   at_case y =
-      let z = map-Case E A Expr Case (λ w. w.0) (λ w. w.0) y in
+      let z = case_under Q y in
       subst (λ (k : Arm). ArmKnows ctors missing ρ K C k)
       (sym (fold-roll-Case Compiling Arm (compile_step asked site) arm_step z)) (at_parts y.pattern y.guard y.body)
 
   pub expr_knows : (e : Expr) → Knows ctors missing ρ K C (compile asked site e)
-  expr_knows = ind-Expr P Q (λ x y is. subst (λ z. P (roll-Expr z)) is (at_level y))
-      (λ x y is. subst (λ z. Q (roll-Case z)) is (at_case y))
+  expr_knows = each_expr P Q at_level at_case
 
   pub exprs_know : (es : List Expr) → AllKnow ctors missing ρ K C (map (compile asked site) es)
   exprs_know [] = tt

@@ -3,8 +3,10 @@ use Rattle.std.proofs.Common.{◌≡◌, ℕ, suc, ◌+◌, true, List, [], ◌�
 use Rattle.std.specs.Prelude.{All, nat_eq}
 use Rattle.std.proofs.lemmas.Bool.{and_parts, eqb-true}
 use Rattle.std.proofs.lemmas.List.Elements.{All-append, All-cons, All-nil}
+use Rattle.pp_list.proofs.With.{With, elements}
+use Rattle.pp_prog.proofs.Induction.{each_pattern, pattern_under}
 use Rattle.pp_prog.specs.declared.expr.Pattern.{Pattern}
-use Rattle.pp_prog.specs.declared.expr.Pattern.TheFolds.{fold-roll-Pattern, ind-Pattern, map-Pattern}
+use Rattle.pp_prog.specs.declared.expr.Pattern.TheFolds.{fold-roll-Pattern, map-Pattern}
 use Rattle.pp_prog.specs.declared.expr.Pattern.TheOpen as pattern
 use Rattle.pp_prog.specs.declared.expr.Pattern.TheViews.{roll-Pattern}
 use Rattle.pp_prog.specs.declared.id.CtorId.{CtorId}
@@ -76,13 +78,11 @@ module _ (ctors : List Ctor) (missing : Missing) (ρ : Values) (K : ℕ → Type
   equals_known : (s : Step) (k t : ℕ) → Given k (equals s k t).steps → K k → K t → IsFittingKnown ρ K (equals s k t)
   equals_known s k t h here known = record { chain = (h.tells.1.0 here known, λ on. All-nil K) }
 
-  abbrev P : Type 0
-  P = (p : Pattern) × FitsKnown p
+  abbrev inner_of : List (With FitsKnown) → List Matching
+  inner_of ps = map fitting (elements ps)
 
-  abbrev inner_of : List P → List Matching
-  inner_of ps = map fitting (map (λ y. y.0) ps)
-
-  fields_known : (c : CtorId) (ps : List P) (j k t : ℕ) → Given k (fit_fields c j (inner_of ps) k t).steps → K t
+  fields_known : (c : CtorId) (ps : List (With FitsKnown)) (j k t : ℕ)
+      → Given k (fit_fields c j (inner_of ps) k t).steps → K t
       → IsTree c (ρ t) → IsFittingKnown ρ K (fit_fields c j (inner_of ps) k t)
   fields_known c [] j k t h known tree = record { chain = All-nil K }
   fields_known c (p ∷ ps) j k t h known tree =
@@ -94,12 +94,9 @@ module _ (ctors : List Ctor) (missing : Missing) (ρ : Values) (K : ℕ → Type
       let hy = fields_known c ps (suc j) n t (given_right (suc k) x.steps y.steps rest) known tree in
       record { chain = chain_join ρ K x.tests y.tests x.bound y.bound hx.chain hy.chain }
 
-  abbrev under : pattern.Pattern-F P → pattern.Pattern-F Pattern
-  under y = map-Pattern P Pattern (λ z. z.0) y
-
-  level : (y : pattern.Pattern-F P) (k t : ℕ)
-      → Given k (fitting_step (map-Pattern Pattern Matching fitting (under y)) k t).steps → K t
-      → IsFittingKnown ρ K (fitting_step (map-Pattern Pattern Matching fitting (under y)) k t)
+  level : (y : pattern.Pattern-F (With FitsKnown)) (k t : ℕ)
+      → Given k (fitting_step (map-Pattern Pattern Matching fitting (pattern_under y)) k t).steps → K t
+      → IsFittingKnown ρ K (fitting_step (map-Pattern Pattern Matching fitting (pattern_under y)) k t)
   level pattern.Any k t h known = record { chain = All-nil K }
   level (pattern.Bind inner) k t h known =
       let x = fitting inner.0 k t in
@@ -120,12 +117,12 @@ module _ (ctors : List Ctor) (missing : Missing) (ρ : Values) (K : ℕ → Type
         );
       }
 
-  at_level : (y : pattern.Pattern-F P) → FitsKnown (roll-Pattern (under y))
+  at_level : (y : pattern.Pattern-F (With FitsKnown)) → FitsKnown (roll-Pattern (pattern_under y))
   at_level y = subst (λ (f : Matching). (k t : ℕ) → Given k (f k t).steps → K t → IsFittingKnown ρ K (f k t))
-      (sym (fold-roll-Pattern Matching fitting_step (under y))) (level y)
+      (sym (fold-roll-Pattern Matching fitting_step (pattern_under y))) (level y)
 
   pub pattern_known : (p : Pattern) → FitsKnown p
-  pattern_known = ind-Pattern FitsKnown (λ x y is. subst (λ z. FitsKnown (roll-Pattern z)) is (at_level y))
+  pattern_known = each_pattern FitsKnown at_level
 
 -- ---- whether all tests are true
 

@@ -1,10 +1,12 @@
 -- The steps of each expression tell what it comes to.
 use Rattle.std.proofs.Common.{List, [], ◌∷◌, map, Option, Some, None, refl, sym, subst}
+use Rattle.pp_list.proofs.With.{With, elements}
+use Rattle.pp_prog.proofs.Induction.{case_under, each_expr, under}
 use Rattle.pp_tree.specs.declared.operator.BinaryOp.{BinaryOp}
 use Rattle.pp_tree.specs.declared.operator.BinaryOp.TheVariants.{AndAlso, OrElse}
 use Rattle.pp_prog.specs.declared.expr.Case.{Case}
 use Rattle.pp_prog.specs.declared.expr.Expr.{Expr}
-use Rattle.pp_prog.specs.declared.expr.Expr.TheFolds.{fold-roll-Case, fold-roll-Expr, ind-Expr, map-Case, map-Expr}
+use Rattle.pp_prog.specs.declared.expr.Expr.TheFolds.{fold-roll-Case, fold-roll-Expr, map-Case, map-Expr}
 use Rattle.pp_prog.specs.declared.expr.Expr.TheOpen as layer
 use Rattle.pp_prog.specs.declared.expr.Expr.TheViews.{roll-Case, roll-Expr}
 use Rattle.pp_prog.specs.declared.expr.Pattern.{Pattern}
@@ -38,21 +40,15 @@ module _ (ctors : List Ctor) (missing : Missing) (ρ : Values) (asked : Option C
     abbrev Q : Case → Type 0
     Q k = RightArm ctors missing ρ asked frame (code.arm asked site k) (run.arm c k) (run.arm d k)
 
-    abbrev E : Type 0
-    E = (e : Expr) × P e
-
-    abbrev K : Type 0
-    K = (k : Case) × Q k
-
-    all_right : (ys : List E)
-        → AllRight ctors missing ρ asked frame (map (compile asked site) (map (λ z. z.0) ys))
-        (map (meaning c) (map (λ z. z.0) ys)) (map (meaning d) (map (λ z. z.0) ys))
+    all_right : (ys : List (With P))
+        → AllRight ctors missing ρ asked frame (map (compile asked site) (elements ys))
+        (map (meaning c) (elements ys)) (map (meaning d) (elements ys))
     all_right [] = tt
     all_right (y ∷ ys) = (y.1, all_right ys)
 
-    arms_right : (ys : List K)
-        → RightArms ctors missing ρ asked frame (map (code.arm asked site) (map (λ z. z.0) ys))
-        (map (run.arm c) (map (λ z. z.0) ys)) (map (run.arm d) (map (λ z. z.0) ys))
+    arms_right : (ys : List (With Q))
+        → RightArms ctors missing ρ asked frame (map (code.arm asked site) (elements ys))
+        (map (run.arm c) (elements ys)) (map (run.arm d) (elements ys))
     arms_right [] = tt
     arms_right (y ∷ ys) = (y.1, arms_right ys)
 
@@ -66,10 +62,7 @@ module _ (ctors : List Ctor) (missing : Missing) (ρ : Values) (asked : Option C
     binary_right op check a pa fa ra b pb fb rb =
         strict_right ctors missing ρ asked frame op check a pa fa ra b pb fb rb
 
-    abbrev under : layer.Expr-F E K → layer.Expr-F Expr Case
-    under y = map-Expr E K Expr Case (λ z. z.0) (λ z. z.0) y
-
-    level : (y : layer.Expr-F E K)
+    level : (y : layer.Expr-F (With P) (With Q))
         → Right (compile_step asked site
         (map-Expr Expr Case Compiling code.Arm (compile asked site) (code.arm asked site) (under y)))
         (meaning_step c (map-Expr Expr Case Meaning run.Arm (meaning c) (run.arm c) (under y)))
@@ -100,7 +93,7 @@ module _ (ctors : List Ctor) (missing : Missing) (ρ : Values) (asked : Option C
     level (layer.Call g args pre down) =
         call_right ctors missing ρ asked frame _ _ _ (all_right args) site c d more its g pre down
 
-    at_level : (y : layer.Expr-F E K) → P (roll-Expr (under y))
+    at_level : (y : layer.Expr-F (With P) (With Q)) → P (roll-Expr (under y))
     at_level y =
         let z = under y in
         let steps_are = fold-roll-Expr Compiling code.Arm (compile_step asked site) (code.arm_step) z in
@@ -115,9 +108,9 @@ module _ (ctors : List Ctor) (missing : Missing) (ρ : Values) (asked : Option C
         (compile_step asked site (map-Expr Expr Case Compiling code.Arm (compile asked site) (code.arm asked site) z))
         (meaning_step c (map-Expr Expr Case Meaning run.Arm (meaning c) (run.arm c) z)) m) (sym full_is) (level y)))
 
-    at_parts : (p : Pattern) (o : Option E) (b : E) → let y : layer.Case-F E K =
+    at_parts : (p : Pattern) (o : Option (With P)) (b : With P) → let y : layer.Case-F (With P) (With Q) =
         record { pattern = p; guard = o; body = b } in
-        let z = map-Case E K Expr Case (λ w. w.0) (λ w. w.0) y in
+        let z = case_under Q y in
         RightArm ctors missing ρ asked frame
         (code.arm_step (map-Case Expr Case Compiling code.Arm (compile asked site) (code.arm asked site) z))
         (run.arm_step (map-Case Expr Case Meaning run.Arm (meaning c) (run.arm c) z))
@@ -125,9 +118,9 @@ module _ (ctors : List Ctor) (missing : Missing) (ρ : Values) (asked : Option C
     at_parts p None b = record { pattern = refl; full_pattern = refl; guard = tt; body = b.1 }
     at_parts p (Some e) b = record { pattern = refl; full_pattern = refl; guard = e.1; body = b.1 }
 
-    at_case : (y : layer.Case-F E K) → Q (roll-Case (map-Case E K Expr Case (λ z. z.0) (λ z. z.0) y))
+    at_case : (y : layer.Case-F (With P) (With Q)) → Q (roll-Case (case_under Q y))
     at_case y =
-        let z = map-Case E K Expr Case (λ w. w.0) (λ w. w.0) y in
+        let z = case_under Q y in
         let steps_are = fold-roll-Case Compiling code.Arm (compile_step asked site) (code.arm_step) z in
         let part_is = fold-roll-Case Meaning run.Arm (meaning_step c) run.arm_step z in
         let full_is = fold-roll-Case Meaning run.Arm (meaning_step d) run.arm_step z in
@@ -142,5 +135,4 @@ module _ (ctors : List Ctor) (missing : Missing) (ρ : Values) (asked : Option C
     -- the steps of an expression are right, where those of its calls are
     pub expr_right : (e : Expr)
         → IsRight ctors missing ρ asked frame (compile asked site e) (meaning c e) (meaning d e)
-    expr_right = ind-Expr P Q (λ x y is. subst (λ z. P (roll-Expr z)) is (at_level y))
-        (λ x y is. subst (λ z. Q (roll-Case z)) is (at_case y))
+    expr_right = each_expr P Q at_level at_case

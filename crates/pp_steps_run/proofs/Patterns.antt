@@ -4,8 +4,10 @@ use Rattle.std.proofs.Common.{refl, sym, ap, ◌∙◌, subst, arith}
 use Rattle.std.specs.Prelude.{◌&&◌, if◌then◌else◌, nat_eq, slice_get}
 use Rattle.std.specs.Ordering.{int_eq}
 use Rattle.std.proofs.lemmas.Bool.{eq-eqb, eqb-true}
+use Rattle.pp_list.proofs.With.{With, elements}
+use Rattle.pp_prog.proofs.Induction.{each_pattern, pattern_under}
 use Rattle.pp_prog.specs.declared.expr.Pattern.{Pattern}
-use Rattle.pp_prog.specs.declared.expr.Pattern.TheFolds.{fold-roll-Pattern, ind-Pattern, map-Pattern}
+use Rattle.pp_prog.specs.declared.expr.Pattern.TheFolds.{fold-roll-Pattern, map-Pattern}
 use Rattle.pp_prog.specs.declared.expr.Pattern.TheOpen as pattern
 use Rattle.pp_prog.specs.declared.expr.Pattern.TheViews.{roll-Pattern}
 use Rattle.pp_prog.specs.declared.id.CtorId.{CtorId}
@@ -86,17 +88,11 @@ module _ (ctors : List Ctor) (missing : Missing) (ρ : Values) where
   IsTested p = (k t : ℕ) (v : Value) → ρ t ≡ v → Follows k (fitting p k t).steps → IsFitting ρ (fitting p k t)
       (fit p v)
 
-  abbrev P : Type 0
-  P = (p : Pattern) × IsTested p
+  abbrev steps_of : List (With IsTested) → List Matching
+  steps_of ps = map fitting (elements ps)
 
-  abbrev patterns : List P → List Pattern
-  patterns ps = map (λ y. y.0) ps
-
-  abbrev steps_of : List P → List Matching
-  steps_of ps = map fitting (patterns ps)
-
-  abbrev fits_of : List P → List (Value → Option (List Value))
-  fits_of ps = map fit (patterns ps)
+  abbrev fits_of : List (With IsTested) → List (Value → Option (List Value))
+  fits_of ps = map fit (elements ps)
 
   -- a field of a value with the constructor
   field_there : (c d : CtorId) (j : ℕ) (all : List Value) (w : Value) → nat_eq c.0 d.0 ≡ true
@@ -106,7 +102,7 @@ module _ (ctors : List Ctor) (missing : Missing) (ρ : Values) where
       ap (ctor_field_in (missing.field c j) c j) e ∙ rw (same, is) refl
 
   fields_fit : (c d : CtorId) (all : List Value) (t : ℕ) → nat_eq c.0 d.0 ≡ true → out-Value (ρ t) ≡ layer.Tree d all
-      → (ps : List P) (fs : List Value) (j k : ℕ) → length (steps_of ps) ≡ length fs
+      → (ps : List (With IsTested)) (fs : List Value) (j k : ℕ) → length (steps_of ps) ≡ length fs
       → ((i : ℕ) → slice_get all (j + i) ≡ slice_get fs i)
       → Follows k (fit_fields c j (steps_of ps) k t).steps
       → IsFitting ρ (fit_fields c j (steps_of ps) k t) (run.fit_fields (fits_of ps) fs)
@@ -136,7 +132,7 @@ same_length f g [] = refl
 same_length f g (x ∷ xs) = ap suc (same_length f g xs)
 
 module _ (ctors : List Ctor) (missing : Missing) (ρ : Values) where
-  module _ (c : CtorId) (ps : List (P ctors missing ρ)) (k t : ℕ) where
+  module _ (c : CtorId) (ps : List (With (IsTested ctors missing ρ))) (k t : ℕ) where
     abbrev Inner : Fitting
     Inner = fit_fields c 0 (steps_of ctors missing ρ ps) (suc k) t
 
@@ -167,7 +163,7 @@ module _ (ctors : List Ctor) (missing : Missing) (ρ : Values) where
     by_cases d fields e h true false p q on =
         subst (IsFitting ρ Whole)
         (sym (uneven _ fields
-        (λ z. apart _ _ q (same_length fitting fit (patterns ctors missing ρ ps) ∙ z))))
+        (λ z. apart _ _ q (same_length fitting fit (elements ps) ∙ z))))
         (record { told = here on })
     by_cases d fields e h false b p q on = record { told = here on }
 
@@ -178,13 +174,10 @@ module _ (ctors : List Ctor) (missing : Missing) (ρ : Values) where
     tree_fits (layer.Bool b) e h on = record { told = here on }
     tree_fits (layer.Tree d fields) e h on = by_cases d fields e h _ _ refl refl on
 
-  abbrev under : pattern.Pattern-F (P ctors missing ρ) → pattern.Pattern-F Pattern
-  under y = map-Pattern (P ctors missing ρ) Pattern (λ z. z.0) y
-
-  level : (y : pattern.Pattern-F (P ctors missing ρ)) (k t : ℕ) (v : Value) → ρ t ≡ v
-      → Follows ctors missing ρ k (fitting_step (map-Pattern Pattern Matching fitting (under y)) k t).steps
-      → IsFitting ρ (fitting_step (map-Pattern Pattern Matching fitting (under y)) k t)
-      (fit_step (map-Pattern Pattern run.Fitting fit (under y)) v)
+  level : (y : pattern.Pattern-F (With (IsTested ctors missing ρ))) (k t : ℕ) (v : Value) → ρ t ≡ v
+      → Follows ctors missing ρ k (fitting_step (map-Pattern Pattern Matching fitting (pattern_under y)) k t).steps
+      → IsFitting ρ (fitting_step (map-Pattern Pattern Matching fitting (pattern_under y)) k t)
+      (fit_step (map-Pattern Pattern run.Fitting fit (pattern_under y)) v)
   level pattern.Any k t v e h = record { told = (tt, tt) }
   level (pattern.Bind inner) k t v e h = bind_first ρ (fitting inner.0 k t) t v (fit inner.0 v) e (inner.1 k t v e h)
   level (pattern.Int n) k t v e h = int_fits ρ (suc k) _ n (out-Value v)
@@ -195,17 +188,18 @@ module _ (ctors : List Ctor) (missing : Missing) (ρ : Values) where
       subst (λ u. IsFitting ρ (Whole c ps k t) (fit_tree c (fits_of ctors missing ρ ps) (out-Value u))) e
       (tree_fits c ps k t (out-Value (ρ t)) refl h.1 (ap bit h.0 ∙ bit_truth _))
 
-  at_level : (y : pattern.Pattern-F (P ctors missing ρ)) → IsTested ctors missing ρ (roll-Pattern (under y))
+  at_level : (y : pattern.Pattern-F (With (IsTested ctors missing ρ)))
+      → IsTested ctors missing ρ (roll-Pattern (pattern_under y))
   at_level y =
-      let one = fold-roll-Pattern Matching fitting_step (under y) in
-      let two = fold-roll-Pattern run.Fitting fit_step (under y) in
+      let one = fold-roll-Pattern Matching fitting_step (pattern_under y) in
+      let two = fold-roll-Pattern run.Fitting fit_step (pattern_under y) in
       subst (λ (f : Matching). (k t : ℕ) (v : Value) → ρ t ≡ v → Follows ctors missing ρ k (f k t).steps
-      → IsFitting ρ (f k t) (fit (roll-Pattern (under y)) v)) (sym one)
+      → IsFitting ρ (f k t) (fit (roll-Pattern (pattern_under y)) v)) (sym one)
       (subst (λ (f : run.Fitting). (k t : ℕ) (v : Value) → ρ t ≡ v → Follows ctors missing ρ k
-      (fitting_step (map-Pattern Pattern Matching fitting (under y)) k t).steps
-      → IsFitting ρ (fitting_step (map-Pattern Pattern Matching fitting (under y)) k t) (f v)) (sym two) (level y))
+      (fitting_step (map-Pattern Pattern Matching fitting (pattern_under y)) k t).steps
+      → IsFitting ρ (fitting_step (map-Pattern Pattern Matching fitting (pattern_under y)) k t) (f v)) (sym two)
+      (level y))
 
   -- the steps of a pattern tell how it fits
   pub pattern_tested : (p : Pattern) → IsTested ctors missing ρ p
-  pattern_tested = ind-Pattern (IsTested ctors missing ρ)
-      (λ x y is. subst (λ z. IsTested ctors missing ρ (roll-Pattern z)) is (at_level y))
+  pattern_tested = each_pattern (IsTested ctors missing ρ) at_level

@@ -1,10 +1,14 @@
 -- The steps of an expression of a sort are well sorted where those of its calls are.
 use Rattle.std.proofs.Common.{◌≡◌, ℕ, List, [], ◌∷◌, ◌++◌, map, Option, Some, None, slice_get, refl, sym, ap, ◌∙◌}
 use Rattle.std.proofs.Common.{subst}
+use Rattle.pp_list.proofs.With.{With, elements}
+use Rattle.pp_prog.proofs.Induction.{case_under, each_expr, under}
+use Rattle.pp_prog.specs.ExprSorts.{case_sorts}
+use Rattle.pp_prog.specs.Listing.{sites_in_case, with_case_sites, with_sites}
 use Rattle.pp_prog.specs.declared.expr.Case.{Case}
 use Rattle.pp_prog.specs.declared.expr.Expr.{Expr}
-use Rattle.pp_prog.specs.declared.expr.Expr.TheFolds.{fold-Case, fold-roll-Case, fold-roll-Expr, ind-Expr, map-Case}
-use Rattle.pp_prog.specs.declared.expr.Expr.TheFolds.{map-Expr, para-Case, para-roll-Case, para-roll-Expr}
+use Rattle.pp_prog.specs.declared.expr.Expr.TheFolds.{fold-roll-Case, fold-roll-Expr, map-Case}
+use Rattle.pp_prog.specs.declared.expr.Expr.TheFolds.{map-Expr, para-roll-Case, para-roll-Expr}
 use Rattle.pp_prog.specs.declared.expr.Expr.TheOpen as layer
 use Rattle.pp_prog.specs.declared.expr.Expr.TheViews.{roll-Case, roll-Expr}
 use Rattle.pp_prog.specs.declared.expr.Function.{Function}
@@ -54,10 +58,10 @@ module _ (p : Program) (σ : Sorts) (i : ℕ) (asked : Option CheckId) (site : S
 
   -- and those of a case
   abbrev SortedArm : Case → sorts.Arm
-  SortedArm = fold-Case Sorting sorts.Arm (sort_step p.types p.functions) sorts.arm_step
+  SortedArm = case_sorts p.types p.functions
 
   abbrev PlacedArm : Case → CaseSites
-  PlacedArm = para-Case Sites CaseSites (site_step p.types p.functions) (case_sites p.types p.functions)
+  PlacedArm = sites_in_case p.types p.functions
 
   abbrev StepsArm : Case → Arm
   StepsArm = arm asked site
@@ -74,52 +78,35 @@ module _ (p : Program) (σ : Sorts) (i : ℕ) (asked : Option CheckId) (site : S
       (s u : Sort) (scope : List Sort) → sorts.arm_sort p.types p.functions (SortedArm c) s scope ≡ Some u
       → AreMet p i (PlacedArm c s scope) → ArmCompiles p.types σ scope s u (StepsArm c)
 
-  abbrev E : Type 0
-  E = (e : Expr) × P e
-
-  abbrev K : Type 0
-  K = (c : Case) × Q c
-
-  abbrev exprs : List E → List Expr
-  exprs ys = map (λ y. y.0) ys
-
-  abbrev cases : List K → List Case
-  cases ys = map (λ y. y.0) ys
-
-  abbrev with_sites : List Expr → List (Expr × Sites)
-  with_sites es = map (λ e. (e, Placed e)) es
-
-  abbrev with_case_sites : List Case → List (Case × CaseSites)
-  with_case_sites cs = map (λ c. (c, PlacedArm c)) cs
-
   -- ---- lists
 
-  all_compile : (ys : List E) (scope ts : List Sort) → sorts_in scope (map Sorted (exprs ys)) ≡ map Some ts
-      → AreMet p i (sites_of_all (with_sites (exprs ys)) scope)
-      → AllCompile p.types σ scope (map Steps (exprs ys)) ts
+  all_compile : (ys : List (With P)) (scope ts : List Sort) → sorts_in scope (map Sorted (elements ys)) ≡ map Some ts
+      → AreMet p i (sites_of_all (with_sites p.types p.functions (elements ys)) scope)
+      → AllCompile p.types σ scope (map Steps (elements ys)) ts
   all_compile [] scope [] h met = tt
   all_compile [] scope (t ∷ ts) h met = cc
   all_compile (y ∷ ys) scope [] h met = cc
   all_compile (y ∷ ys) scope (t ∷ ts) h met =
       let here : Sorted y.0 scope ≡ Some t = cc in
-      let rest : sorts_in scope (map Sorted (exprs ys)) ≡ map Some ts = cc in
+      let rest : sorts_in scope (map Sorted (elements ys)) ≡ map Some ts = cc in
       (y.1 scope t here (met_left _ _ met), all_compile ys scope ts rest (met_right _ _ met))
 
-  all_arms : (ys : List K) (s u : Sort) (scope : List Sort) → EachArm p s u scope (map SortedArm (cases ys))
-      → AreMet p i (sites_of_cases (with_case_sites (cases ys)) s scope)
-      → AllArms p.types σ scope s u (map StepsArm (cases ys))
+  all_arms : (ys : List (With Q)) (s u : Sort) (scope : List Sort) → EachArm p s u scope (map SortedArm (elements ys))
+      → AreMet p i (sites_of_cases (with_case_sites p.types p.functions (elements ys)) s scope)
+      → AllArms p.types σ scope s u (map StepsArm (elements ys))
   all_arms [] s u scope each met = tt
   all_arms (y ∷ ys) s u scope each met =
       (y.1 s u scope each.0 (met_left _ _ met), all_arms ys s u scope each.1 (met_right _ _ met))
 
-  matching_compiles : (ys : List K) (s u : Sort) (scope : List Sort) (m : Compiling) (check : Option CheckId)
-      → arms_sort p.types p.functions (map SortedArm (cases ys)) s scope ≡ Some u
-      → AreMet p i (sites_of_cases (with_case_sites (cases ys)) s scope) → Compiles p.types σ scope s m
-      → Compiles p.types σ scope u (compile_step asked site (layer.Match m (map StepsArm (cases ys)) check))
+  matching_compiles : (ys : List (With Q)) (s u : Sort) (scope : List Sort) (m : Compiling) (check : Option CheckId)
+      → arms_sort p.types p.functions (map SortedArm (elements ys)) s scope ≡ Some u
+      → AreMet p i (sites_of_cases (with_case_sites p.types p.functions (elements ys)) s scope)
+      → Compiles p.types σ scope s m
+      → Compiles p.types σ scope u (compile_step asked site (layer.Match m (map StepsArm (elements ys)) check))
   matching_compiles [] s u scope m check h met hm = cc
   matching_compiles (y ∷ ys) s u scope m check h met hm =
-      let arms = all_arms (y ∷ ys) s u scope (each_arm p s u scope (map SortedArm (cases (y ∷ ys))) h) met in
-      match_compiles p.types σ asked check scope s u m (StepsArm y.0) (map StepsArm (cases ys)) hm arms
+      let arms = all_arms (y ∷ ys) s u scope (each_arm p s u scope (map SortedArm (elements (y ∷ ys))) h) met in
+      match_compiles p.types σ asked check scope s u m (StepsArm y.0) (map StepsArm (elements ys)) hm arms
 
   call_compiles : (ms : List Compiling) (scope : List Sort) (g : FunctionId) (pre down : Option CheckId) (f : Function)
       → slice_get p.functions g.0 ≡ Some f → AllCompile p.types σ scope ms (param_sorts f.params)
@@ -132,25 +119,22 @@ module _ (p : Program) (σ : Sorts) (i : ℕ) (asked : Option CheckId) (site : S
 
   -- ---- one level of an expression
 
-  abbrev under : layer.Expr-F E K → layer.Expr-F Expr Case
-  under y = map-Expr E K Expr Case (λ z. z.0) (λ z. z.0) y
-
-  abbrev sorted : layer.Expr-F E K → Sorting
+  abbrev sorted : layer.Expr-F (With P) (With Q) → Sorting
   sorted y = sort_step p.types p.functions (map-Expr Expr Case Sorting sorts.Arm Sorted SortedArm (under y))
 
-  abbrev placed : layer.Expr-F E K → Sites
+  abbrev placed : layer.Expr-F (With P) (With Q) → Sites
   placed y =
       site_step p.types p.functions (map-Expr Expr Case (Expr × Sites) (Case × CaseSites) (λ e. (e, Placed e))
       (λ c. (c, PlacedArm c)) (under y))
 
-  abbrev stepped : layer.Expr-F E K → Compiling
+  abbrev stepped : layer.Expr-F (With P) (With Q) → Compiling
   stepped y = compile_step asked site (map-Expr Expr Case Compiling Arm Steps StepsArm (under y))
 
   is_sort : (scope : List Sort) (s t : Sort) (m : Compiling) → s ≡ t → Compiles p.types σ scope s m
       → Compiles p.types σ scope t m
   is_sort scope s t m e h = subst (λ u. Compiles p.types σ scope u m) e h
 
-  level : (y : layer.Expr-F E K) (scope : List Sort) (s : Sort) → sorted y scope ≡ Some s
+  level : (y : layer.Expr-F (With P) (With Q)) (scope : List Sort) (s : Sort) → sorted y scope ≡ Some s
       → AreMet p i (placed y scope) → Compiles p.types σ scope s (stepped y)
   level (layer.Int n) scope s h met =
       let q = sort_there (is_int n) sort.Int s h in
@@ -169,9 +153,9 @@ module _ (p : Program) (σ : Sorts) (i : ℕ) (asked : Option CheckId) (site : S
       (λ t g. a.1 scope t g (met_left _ _ (met_left _ _ met)))
       (λ t g. b.1 scope t g (met_right _ _ (met_left _ _ met))) h
   level (layer.Construct c args) scope s h met =
-      let k = tree_sort_is (slice_get p.types.ctors c.0) (sorts_in scope (map Sorted (exprs args))) s h in
+      let k = tree_sort_is (slice_get p.types.ctors c.0) (sorts_in scope (map Sorted (elements args))) s h in
       is_sort scope (sort.Tree k.0.of) s _ k.3
-      (construct_compiles p.types σ (map Steps (exprs args)) scope c k.0 k.1
+      (construct_compiles p.types σ (map Steps (elements args)) scope c k.0 k.1
       (all_compile args scope k.0.fields k.2 met))
   level (layer.Field a n) scope s h met =
       let d = tree_then (Sorted a.0 scope) (λ d. field_sort p.types p.functions d n) s h in
@@ -184,8 +168,8 @@ module _ (p : Program) (σ : Sorts) (i : ℕ) (asked : Option CheckId) (site : S
       (c.1 scope sort.Bool t.0 (met_left _ _ (met_left _ _ met)))
       (a.1 scope s both.0 (met_right _ _ (met_left _ _ met))) (b.1 scope s both.1 (met_right _ _ met))
   level (layer.Match a ys check) scope s h met =
-      let placed_cases = with_case_sites (cases ys) in
-      let arms = map SortedArm (cases ys) in
+      let placed_cases = with_case_sites p.types p.functions (elements ys) in
+      let arms = map SortedArm (elements ys) in
       let t = sort_then (Sorted a.0 scope) (λ t. arms_sort p.types p.functions arms t scope) s h in
       let after : AreMet p i (matching t.0 (unguarded placed_cases) check ∷ sites_of_cases placed_cases t.0 scope) =
       subst (λ o. AreMet p i (at_sort o (λ t. matching t (unguarded placed_cases) check
@@ -203,18 +187,15 @@ module _ (p : Program) (σ : Sorts) (i : ℕ) (asked : Option CheckId) (site : S
       assert_compiles p.types σ asked (Some check) (Steps c.0) (Steps rest.0) scope s
       (c.1 scope sort.Bool t.0 (met_left _ _ met)) (rest.1 scope s t.1 (met_tail after))
   level (layer.Call g args pre down) scope s h met =
-      let f = call_sort_is (slice_get p.functions g.0) (sorts_in scope (map Sorted (exprs args))) s h in
-      let own = met_right (sites_of_all (with_sites (exprs args)) scope) _ met in
+      let f = call_sort_is (slice_get p.functions g.0) (sorts_in scope (map Sorted (elements args))) s h in
+      let own = met_right (sites_of_all (with_sites p.types p.functions (elements args)) scope) _ met in
       is_sort scope f.0.result s _ f.3
-      (call_compiles (map Steps (exprs args)) scope g pre down f.0 f.1
+      (call_compiles (map Steps (elements args)) scope g pre down f.0 f.1
       (all_compile args scope (param_sorts f.0.params) f.2 (met_left _ _ met)) (met_head (met_tail own)))
 
   -- ---- one case
 
-  abbrev case_under : layer.Case-F E K → layer.Case-F Expr Case
-  case_under y = map-Case E K Expr Case (λ z. z.0) (λ z. z.0) y
-
-  plain_case : (pattern : Pattern) (b : E) (s u : Sort) (scope : List Sort) (o : Option (List Sort))
+  plain_case : (pattern : Pattern) (b : With P) (s u : Sort) (scope : List Sort) (o : Option (List Sort))
       → bound_sorts p.types.ctors pattern s ≡ o
       → arm_with (record { pattern = pattern; guard = None; body = Sorted b.0 }) scope o ≡ Some u
       → AreMet p i (with_bound o (λ bound. guard_sites None (scope ++ bound) ++ Placed b.0 (scope ++ bound)))
@@ -223,7 +204,7 @@ module _ (p : Program) (σ : Sorts) (i : ℕ) (asked : Option CheckId) (site : S
   plain_case pattern b s u scope (Some bound) is h met =
       record { bound = bound; binds = is; guard = tt; body = b.1 (scope ++ bound) u h met }
 
-  guarded_case : (pattern : Pattern) (g b : E) (s u : Sort) (scope : List Sort) (o : Option (List Sort))
+  guarded_case : (pattern : Pattern) (g b : With P) (s u : Sort) (scope : List Sort) (o : Option (List Sort))
       → bound_sorts p.types.ctors pattern s ≡ o
       → arm_with (record { pattern = pattern; guard = Some (Sorted g.0); body = Sorted b.0 }) scope o ≡ Some u
       → AreMet p i (with_bound o (λ bound. guard_sites (Some (g.0, Placed g.0)) (scope ++ bound)
@@ -239,8 +220,8 @@ module _ (p : Program) (σ : Sorts) (i : ℕ) (asked : Option CheckId) (site : S
         body = b.1 (scope ++ bound) u are.1 (met_right _ _ met);
       }
 
-  by_parts : (pattern : Pattern) (guard : Option E) (b : E) (s u : Sort) (scope : List Sort)
-      → let z = case_under (record { pattern = pattern; guard = guard; body = b }) in
+  by_parts : (pattern : Pattern) (guard : Option (With P)) (b : With P) (s u : Sort) (scope : List Sort)
+      → let z = case_under Q (record { pattern = pattern; guard = guard; body = b }) in
       sorts.arm_sort p.types p.functions (sorts.arm_step (map-Case Expr Case Sorting sorts.Arm Sorted SortedArm z)) s
       scope ≡ Some u
       → AreMet p i (case_sites p.types p.functions (map-Case Expr Case (Expr × Sites) (Case × CaseSites)
@@ -251,9 +232,9 @@ module _ (p : Program) (σ : Sorts) (i : ℕ) (asked : Option CheckId) (site : S
   by_parts pattern (Some g) b s u scope h met =
       guarded_case pattern g b s u scope (bound_sorts p.types.ctors pattern s) refl h met
 
-  at_case : (y : layer.Case-F E K) → Q (roll-Case (case_under y))
+  at_case : (y : layer.Case-F (With P) (With Q)) → Q (roll-Case (case_under Q y))
   at_case y s u scope h met =
-      let z = case_under y in
+      let z = case_under Q y in
       let sort_is = fold-roll-Case Sorting sorts.Arm (sort_step p.types p.functions) sorts.arm_step z in
       let sites_are = para-roll-Case Sites CaseSites (site_step p.types p.functions)
       (case_sites p.types p.functions) z in
@@ -265,7 +246,7 @@ module _ (p : Program) (σ : Sorts) (i : ℕ) (asked : Option CheckId) (site : S
 
   -- ---- the induction
 
-  at_level : (y : layer.Expr-F E K) → P (roll-Expr (under y))
+  at_level : (y : layer.Expr-F (With P) (With Q)) → P (roll-Expr (under y))
   at_level y scope s h met =
       let z = under y in
       let sort_is = fold-roll-Expr Sorting sorts.Arm (sort_step p.types p.functions) sorts.arm_step z in
@@ -279,5 +260,4 @@ module _ (p : Program) (σ : Sorts) (i : ℕ) (asked : Option CheckId) (site : S
   -- the steps of an expression
   pub expr_compiles : (e : Expr) (scope : List Sort) (s : Sort) → sort_of p.types p.functions e scope ≡ Some s
       → AreMet p i (sites p.types p.functions e scope) → Compiles p.types σ scope s (compile asked site e)
-  expr_compiles = ind-Expr P Q (λ x y is. subst (λ z. P (roll-Expr z)) is (at_level y))
-      (λ x y is. subst (λ z. Q (roll-Case z)) is (at_case y))
+  expr_compiles = each_expr P Q at_level at_case

@@ -1,6 +1,8 @@
 -- The steps of operators are well sorted where those of the operands are.
-use Rattle.std.proofs.Common.{◌≡◌, ℕ, suc, ◌+◌, List, [], ◌∷◌, Option, Some, refl, sym, ap, ◌∙◌, subst, arith}
+use Rattle.std.proofs.Common.{◌≡◌, ℕ, suc, List, [], ◌∷◌, Option, Some, refl, sym, ap, ◌∙◌, subst}
 use Rattle.std.specs.Prelude.{pos}
+use Rattle.std.proofs.lemmas.Option.{same_Some}
+use Rattle.pp_operators.specs.declared.class.OperatorClass.TheVariants as class
 use Rattle.pp_tree.specs.declared.operator.BinaryOp.{BinaryOp}
 use Rattle.pp_tree.specs.declared.operator.BinaryOp.TheVariants.{Equal, AndAlso, OrElse, Div, Rem}
 use Rattle.pp_tree.specs.declared.operator.UnaryOp.{UnaryOp}
@@ -8,8 +10,8 @@ use Rattle.pp_prog.specs.declared.id.CheckId.{CheckId}
 use Rattle.pp_prog.specs.declared.sort.Sort.{Sort}
 use Rattle.pp_prog.specs.declared.sort.Sort.TheVariants as sort
 use Rattle.pp_prog.specs.declared.types.TypeTable.{TypeTable}
-use Rattle.pp_prog.specs.ExprSorts.{a_bool, an_int, binary_sort, truth_sort, unary_sort}
-use Rattle.pp_prog.proofs.PartSorts.{binary_parts, bool_then, int_then, unary_part}
+use Rattle.pp_prog.specs.ExprSorts.{binary_sort, class_sort, unary_sort}
+use Rattle.pp_prog.proofs.PartSorts.{binary_parts, logic_parts, sum_parts, unary_part}
 use Rattle.pp_steps.proofs.Counting.{plus_zero}
 use Rattle.pp_steps.specs.declared.step.Step.TheVariants as steps
 use Rattle.pp_steps.specs.Compile.{Compiling, binary, one, operating, quotient, skipping, unless, when}
@@ -20,16 +22,9 @@ use Rattle.pp_steps_sorted.proofs.Pieces.{AreOf, IsOf, MaybeOf, WellSorted, choi
 use Rattle.pp_steps_sorted.proofs.Pieces.{none_sorted, one_sorted, plain_sorted, unless_sorted, when_sorted}
 use Rattle.pp_steps_sorted.proofs.Steps.{binary_makes, equal_makes, unary_makes}
 
-right_int : (a b s : Sort) → an_int (Some a) (an_int (Some b) (Some sort.Int)) ≡ Some s → b ≡ sort.Int
-right_int a b s h =
-    let x = int_then (Some a) (an_int (Some b) (Some sort.Int)) s h in
-    let y = (int_then (Some b) (Some sort.Int) s x.1).0 in cc
-
-truths : (t u s : Sort) → truth_sort (Some t) (Some u) ≡ Some s
-    → (t ≡ sort.Bool) × (u ≡ sort.Bool) × (sort.Bool ≡ s)
-truths t u s h =
-    let x = bool_then (Some t) (a_bool (Some u) (Some sort.Bool)) s h in
-    let y = bool_then (Some u) (Some sort.Bool) s x.1 in (cc (x.0), cc (y.0), cc (y.1))
+-- `/` and `%` have an Int on the right
+right_int : (a b s : Sort) → class_sort class.Quotient (Some a) (Some b) ≡ Some s → b ≡ sort.Int
+right_int a b s h = same_Some b sort.Int (sum_parts (Some a) (Some b) s h).1
 
 same_operated : (op : BinaryOp) (a b t u : Sort) → a ≡ t → b ≡ u
     → operated_sort op (Some a) (Some b) ≡ operated_sort op (Some t) (Some u)
@@ -90,19 +85,23 @@ module _ (types : TypeTable) (σ : Sorts) where
           (scope : List Sort) (t u s : Sort) → Compiles types σ scope t a → Compiles types σ scope u b
           → binary_sort op (Some t) (Some u) ≡ Some s → Compiles types σ scope s (binary asked op a b check)
       on_sorts asked AndAlso check a b scope t u s ha hb h k env reach e r =
-          let q = truths t u s h in
+          let q = logic_parts (Some t) (Some u) s h in
           subst (λ v. WellSorted types σ (IsOf types σ v) k (binary asked AndAlso a b check k env reach)) q.2
           (joined_sorted types σ k (a k env reach) _ (ha k env reach e r)
-          (λ x. joined_sorted types σ _ (when _ _ _) _ (when_sorted types σ _ _ _ x.alive (x.out ∙ q.0))
-          (λ w. skipping_sorted b scope (subst (λ v. Compiles types σ scope v b) q.1 hb) _ env _ _ _ e w.out
-          (x.out ∙ q.0) x.alive)))
+          (λ x. joined_sorted types σ _ (when _ _ _) _
+          (when_sorted types σ _ _ _ x.alive (x.out ∙ same_Some t sort.Bool q.0))
+          (λ w. skipping_sorted b scope (subst (λ v. Compiles types σ scope v b) (same_Some u sort.Bool q.1) hb) _ env _
+          _ _ e w.out
+          (x.out ∙ same_Some t sort.Bool q.0) x.alive)))
       on_sorts asked OrElse check a b scope t u s ha hb h k env reach e r =
-          let q = truths t u s h in
+          let q = logic_parts (Some t) (Some u) s h in
           subst (λ v. WellSorted types σ (IsOf types σ v) k (binary asked OrElse a b check k env reach)) q.2
           (joined_sorted types σ k (a k env reach) _ (ha k env reach e r)
-          (λ x. joined_sorted types σ _ (unless _ _ _) _ (unless_sorted types σ _ _ _ x.alive (x.out ∙ q.0))
-          (λ w. skipping_sorted b scope (subst (λ v. Compiles types σ scope v b) q.1 hb) _ env _ _ _ e w.out
-          (x.out ∙ q.0) x.alive)))
+          (λ x. joined_sorted types σ _ (unless _ _ _) _
+          (unless_sorted types σ _ _ _ x.alive (x.out ∙ same_Some t sort.Bool q.0))
+          (λ w. skipping_sorted b scope (subst (λ v. Compiles types σ scope v b) (same_Some u sort.Bool q.1) hb) _ env _
+          _ _ e w.out
+          (x.out ∙ same_Some t sort.Bool q.0) x.alive)))
       on_sorts asked op check a b scope t u s ha hb h k env reach e r =
           joined_sorted types σ k (a k env reach) _ (ha k env reach e r)
           (λ x. joined_sorted types σ _ (b _ env _) _ (hb _ env _ e x.alive)

@@ -3,8 +3,10 @@ use Rattle.std.proofs.Common.{◌≡◌, ℕ, suc, ◌+◌, List, [], ◌∷◌,
 use Rattle.std.proofs.Common.{slice_get, refl, sym, ap, ◌∙◌, subst, arith}
 use Rattle.std.proofs.lemmas.Bool.{and_parts}
 use Rattle.std.specs.Prelude.{◌&&◌}
+use Rattle.pp_list.proofs.With.{With, elements}
+use Rattle.pp_prog.proofs.Induction.{each_pattern, pattern_under}
 use Rattle.pp_prog.specs.declared.expr.Pattern.{Pattern}
-use Rattle.pp_prog.specs.declared.expr.Pattern.TheFolds.{fold-roll-Pattern, ind-Pattern, map-Pattern}
+use Rattle.pp_prog.specs.declared.expr.Pattern.TheFolds.{fold-roll-Pattern, map-Pattern}
 use Rattle.pp_prog.specs.declared.expr.Pattern.TheOpen as pattern
 use Rattle.pp_prog.specs.declared.expr.Pattern.TheViews.{roll-Pattern}
 use Rattle.pp_prog.specs.declared.id.CtorId.{CtorId}
@@ -44,17 +46,11 @@ module _ (types : TypeTable) (σ : Sorts) where
   abbrev FitsAt : Pattern → Type 0
   FitsAt p = Fits (fitting p) (bound_sorts types.ctors p)
 
-  abbrev P : Type 0
-  P = (p : Pattern) × FitsAt p
+  abbrev matchings : List (With FitsAt) → List Matching
+  matchings ys = map fitting (elements ys)
 
-  abbrev patterns : List P → List Pattern
-  patterns ys = map (λ y. y.0) ys
-
-  abbrev matchings : List P → List Matching
-  matchings ys = map fitting (patterns ys)
-
-  abbrev bindings : List P → List Binding
-  bindings ys = map (bound_sorts types.ctors) (patterns ys)
+  abbrev bindings : List (With FitsAt) → List Binding
+  bindings ys = map (bound_sorts types.ctors) (elements ys)
 
   equals_fits : (s : Step) (r : Sort) (k t : ℕ) → Makes types σ r k s → σ t ≡ r
       → AllAssigned types σ k (equals s k t).steps → IsFitSorted k (equals s k t) []
@@ -63,8 +59,8 @@ module _ (types : TypeTable) (σ : Sorts) where
       let test = equal_makes types σ k t (suc k) (it.1 ∙ sym e) all.1.0 in
       record { sorted = (it.0, (test.0, tt)); tests = (test.1, tt); bound = refl }
 
-  -- a list of patterns binds at a list of sorts that is as long
-  binds_length : (ys : List P) (ts ss : List Sort) → bind_fields (bindings ys) ts ≡ Some ss
+  -- a list of elements binds at a list of sorts that is as long
+  binds_length : (ys : List (With FitsAt)) (ts ss : List Sort) → bind_fields (bindings ys) ts ≡ Some ss
       → length (matchings ys) ≡ length ts
   binds_length [] [] ss h = refl
   binds_length [] (t ∷ ts) ss h = cc
@@ -76,7 +72,7 @@ module _ (types : TypeTable) (σ : Sorts) where
       ap suc (binds_length ys ts n.0 n.1)
 
   module _ (c : CtorId) (ctor : Ctor) (is : slice_get types.ctors c.0 ≡ Some ctor) where
-    fields_fit : (ys : List P) (ts ss : List Sort) → bind_fields (bindings ys) ts ≡ Some ss → (j k t : ℕ)
+    fields_fit : (ys : List (With FitsAt)) (ts ss : List Sort) → bind_fields (bindings ys) ts ≡ Some ss → (j k t : ℕ)
         → σ t ≡ sort.Tree ctor.of
         → ((i : ℕ) (r : Sort) → slice_get ts i ≡ Some r → slice_get ctor.fields (j + i) ≡ Some r)
         → AllAssigned types σ k (fit_fields c j (matchings ys) k t).steps
@@ -105,12 +101,9 @@ module _ (types : TypeTable) (σ : Sorts) where
           bound = of_join types σ m.0 n.0 x.bound z.bound a.bound b.bound ∙ all_bound;
         }
 
-  abbrev under : pattern.Pattern-F P → pattern.Pattern-F Pattern
-  under y = map-Pattern P Pattern (λ z. z.0) y
-
-  level : (y : pattern.Pattern-F P)
-      → Fits (fitting_step (map-Pattern Pattern Matching fitting (under y)))
-      (bind_step types.ctors (map-Pattern Pattern Binding (bound_sorts types.ctors) (under y)))
+  level : (y : pattern.Pattern-F (With FitsAt))
+      → Fits (fitting_step (map-Pattern Pattern Matching fitting (pattern_under y)))
+      (bind_step types.ctors (map-Pattern Pattern Binding (bound_sorts types.ctors) (pattern_under y)))
   level pattern.Any k t s ss e h all = record { sorted = tt; tests = tt; bound = cc }
   level (pattern.Bind inner) k t s ss e h all =
       let m = bind_then (bound_sorts types.ctors inner.0 s) (λ more. Some (s ∷ more)) ss h in
@@ -146,9 +139,9 @@ module _ (types : TypeTable) (σ : Sorts) where
         bound = a.bound;
       }
 
-  at_level : (y : pattern.Pattern-F P) → FitsAt (roll-Pattern (under y))
+  at_level : (y : pattern.Pattern-F (With FitsAt)) → FitsAt (roll-Pattern (pattern_under y))
   at_level y =
-      let z = under y in
+      let z = pattern_under y in
       let one = fold-roll-Pattern Matching fitting_step z in
       let two = fold-roll-Pattern Binding (bind_step types.ctors) z in
       subst (λ m. Fits m (bound_sorts types.ctors (roll-Pattern z))) (sym one)
@@ -156,4 +149,4 @@ module _ (types : TypeTable) (σ : Sorts) where
 
   -- the steps of a pattern
   pub pattern_fits : (p : Pattern) → FitsAt p
-  pattern_fits = ind-Pattern FitsAt (λ x y is. subst (λ z. FitsAt (roll-Pattern z)) is (at_level y))
+  pattern_fits = each_pattern FitsAt at_level

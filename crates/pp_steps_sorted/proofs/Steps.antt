@@ -9,7 +9,7 @@ use Rattle.pp_prog.specs.declared.sort.Sort.{Sort}
 use Rattle.pp_prog.specs.declared.sort.Sort.TheVariants as sort
 use Rattle.pp_prog.specs.declared.types.Ctor.{Ctor}
 use Rattle.pp_prog.specs.declared.types.TypeTable.{TypeTable}
-use Rattle.pp_prog.specs.ExprSorts.{a_tree, field_of_ctor, field_sort, sort_if, then_sort, unary_sort}
+use Rattle.pp_prog.specs.ExprSorts.{a_tree, field_of_ctor, field_sort, sort_if, unary_sort}
 use Rattle.pp_prog.proofs.ValueSorts.{its_sort}
 use Rattle.pp_steps.specs.declared.step.Step.TheVariants as steps
 use Rattle.pp_steps.specs.Sorted.{Sorts, operated_sort}
@@ -18,8 +18,7 @@ use Rattle.pp_steps_sorted.proofs.Pieces.{AreOf, Makes}
 
 equal_sort : (s t : Sort) → s ≡ t → operated_sort Equal (Some s) (Some t) ≡ Some sort.Bool
 equal_sort s t e =
-    ap (λ u. operated_sort Equal (Some u) (Some t)) e
-    ∙ ap (λ b. then_sort (sort_if b t) (λ u. Some sort.Bool)) (its_sort t)
+    ap (λ u. operated_sort Equal (Some u) (Some t)) e ∙ ap (λ b. sort_if b sort.Bool) (its_sort t)
 
 module _ (types : TypeTable) (σ : Sorts) where
   -- the sort that a step has, where there is one

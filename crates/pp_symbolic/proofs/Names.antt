@@ -7,14 +7,14 @@ use Rattle.std.proofs.lemmas.Bool.{cases_lt}
 use Rattle.std.proofs.lemmas.List.{map-append, take_more}
 use Rattle.std.proofs.lemmas.List.Sums.{sum_by-le}
 use Rattle.std.proofs.lemmas.Option.{same_Some}
+use Rattle.pp_list.specs.Joined.{joined}
 use Rattle.pp_prog.specs.declared.sort.Sort.{Sort}
 use Rattle.pp_prog.specs.declared.sort.Sort.TheVariants as sort
 use Rattle.pp_prog.specs.declared.types.Ctor.{Ctor}
 use Rattle.pp_prog.specs.declared.types.TypeTable.{TypeTable}
-use Rattle.pp_prog.specs.Calls.{joined}
 use Rattle.pp_prog.specs.Sizes.{by_sort, flat}
 use Rattle.pp_prog.specs.Values.{greatest}
-use Rattle.pp_prog.proofs.Called.{joined_push}
+use Rattle.pp_list.proofs.Joined.{joined_push}
 use Rattle.pp_prog.proofs.Values.{greatest_push}
 use Rattle.pp_steps.specs.declared.step.Step.{Step}
 use Rattle.pp_steps.specs.declared.step.Step.TheVariants as steps

@@ -41,11 +41,11 @@ some_name : (xs after : List ℕ) → goes_on_with starts_name xs ≡ true → 1
 some_name [] after e = cc
 some_name (c ∷ cs) after e = omega arith
 
-some_operator : (o : Operator) → 1 ≤ length (operator_text o)
+pub some_operator : (o : Operator) → 1 ≤ length (operator_text o)
 some_operator Plus = lit≤ tt
 some_operator _ = lit≤ tt
 
-some_mark : (b : Bracket) → 1 ≤ length (mark_text b)
+pub some_mark : (b : Bracket) → 1 ≤ length (mark_text b)
 some_mark OpenRound = lit≤ tt
 some_mark _ = lit≤ tt
 

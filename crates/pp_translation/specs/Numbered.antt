@@ -3,8 +3,8 @@
 -- Source: own.
 use Rattle.std.specs.Prelude.{◌≡◌, ◌↔◌, ℕ, ℤ, nat_eq, Bool, true, false, not, ◌&&◌, List, [], ◌∷◌, ◌++◌, map, Option}
 use Rattle.std.specs.Prelude.{Some, None, length, slice_get, IsTrue}
+use Rattle.pp_list.specs.Joined.{joined}
 use Rattle.pp_translation.specs.Numbers.{ctor_number, function_number, sort_at}
-use Rattle.pp_instances.specs.Same.{joined}
 use Rattle.pp_instances.specs.declared.member.Member.{Member}
 use Rattle.pp_prog.specs.Valid.{Covers}
 use Rattle.pp_prog.specs.declared.check.CheckKind.{CheckKind}

@@ -1,9 +1,9 @@
 -- The places of the checks of a program: of a call's checks the called name, of a division the operator, of a match, an
 -- assertion and a postcondition the word. Source: own.
 use Rattle.std.specs.Prelude.{ℕ, Bool, true, false, List, [], ◌∷◌, ◌++◌, map, Option, Some, None, slice_get}
+use Rattle.pp_list.specs.Joined.{joined, or_none}
 use Rattle.pp_instances.specs.declared.member.Instance.{Instance}
 use Rattle.pp_translation.specs.Functions.{place_at}
-use Rattle.pp_prog.specs.Calls.{joined, or_none}
 use Rattle.pp_prog.specs.Listing.{Site, plain, carried, function_sites}
 use Rattle.pp_prog.specs.declared.check.CheckKind.{CheckKind}
 use Rattle.pp_prog.specs.declared.expr.Function.{Function}

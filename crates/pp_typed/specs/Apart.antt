@@ -1,9 +1,10 @@
 -- Which typed units have their sites apart: in one function no two calls, no two divisions, no two matches and no two
 -- assertions stand at one offset. Source: own.
 use Rattle.std.specs.Prelude.{◌≡◌, ℕ, Bool, true, false, List, [], ◌∷◌, ◌++◌, map, Option, Some, None, All, slice_get}
+use Rattle.pp_list.specs.Joined.{joined, or_none}
 use Rattle.pp_operators.specs.Classes.{is_division}
 use Rattle.pp_tree.specs.declared.operator.BinaryOp.{BinaryOp}
-use Rattle.pp_typed.specs.Stand.{Offset, joined, or_none}
+use Rattle.pp_typed.specs.Stand.{Offset}
 use Rattle.pp_typed.specs.declared.expr.TypedExpr.{TypedExpr}
 use Rattle.pp_typed.specs.declared.expr.TypedKind.TheFolds.{fold-TypedExpr}
 use Rattle.pp_typed.specs.declared.expr.TypedKind.TheOpen as layer

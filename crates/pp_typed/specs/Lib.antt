@@ -1,5 +1,7 @@
 pub mod Put
+pub mod Parts
 pub mod Value
+pub mod Equal
 pub mod Operators
 pub mod InRange
 pub mod Sorted

@@ -93,7 +93,7 @@ module _ (typed : Typed) where
         sorted_unary : {scope : List GenericSort} {e a : TypedExpr} (op : UnaryOp) → e.kind ≡ kind.Unary op a
             → IsSorted scope a → a.of ≡ unary_sort op → e.of ≡ unary_sort op → IsSorted scope e
         sorted_binary : {scope : List GenericSort} {e a b : TypedExpr} (op : BinaryOp) → e.kind ≡ kind.Binary op a b
-            → IsSorted scope a → IsSorted scope b → b.of ≡ a.of → Operates op a.of e.of → IsSorted scope e
+            → IsSorted scope a → IsSorted scope b → Operates op a.of b.of e.of → IsSorted scope e
         sorted_if : {scope : List GenericSort} {e c a b : TypedExpr} → e.kind ≡ kind.If c a b
             → IsSorted scope c → c.of ≡ sort.Bool → IsSorted scope a → a.of ≡ e.of → IsSorted scope b → b.of ≡ e.of
             → IsSorted scope e

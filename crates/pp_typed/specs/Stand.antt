@@ -1,7 +1,8 @@
 -- Which typed units stand in texts: each offset is one at which a character of the text of its source begins, or that
 -- text's end. Patterns have offsets that nothing reads later. Source: own.
-use Rattle.std.specs.Prelude.{◌≡◌, ◌≤◌, ℕ, ◌-◌, List, [], ◌∷◌, ◌++◌, Option, None, Some, All, slice_get}
+use Rattle.std.specs.Prelude.{◌≡◌, ◌≤◌, ℕ, ◌-◌, List, ◌∷◌, Option, None, Some, All, slice_get}
 use Rattle.std.specs.Str.{IsCharBoundary}
+use Rattle.pp_typed.specs.Parts.{case_parts, kind_parts}
 use Rattle.pp_typed.specs.declared.expr.TypedExpr.{TypedExpr}
 use Rattle.pp_typed.specs.declared.expr.TypedKind.TheFolds.{fold-TypedExpr}
 use Rattle.pp_typed.specs.declared.expr.TypedKind.TheOpen as layer
@@ -13,37 +14,12 @@ use Rattle.pp_typed.specs.declared.typed.TypedPost.{TypedPost}
 abbrev pub Offset : Type 0
 Offset = ℕ × ℕ
 
-abbrev pub joined : {A : Type 0} → List (List A) → List A
-joined [] = []
-joined (xs ∷ rest) = xs ++ joined rest
-
-abbrev pub or_none : {A : Type 0} → Option (List A) → List A
-or_none None = []
-or_none (Some xs) = xs
-
-abbrev pub kind_offsets : layer.TypedKind-F (List Offset) (List Offset) (List Offset) → List Offset
-kind_offsets (layer.Int n) = []
-kind_offsets (layer.Bool b) = []
-kind_offsets (layer.Local i) = []
-kind_offsets (layer.Call f sorts args) = joined args
-kind_offsets (layer.Construct c sorts args) = joined args
-kind_offsets (layer.Field e j) = e
-kind_offsets (layer.Unary op a) = a
-kind_offsets (layer.Binary op a b) = a ++ b
-kind_offsets (layer.If c a b) = c ++ a ++ b
-kind_offsets (layer.Match e cases) = e ++ joined cases
-kind_offsets (layer.Val bound rest) = bound ++ rest
-kind_offsets (layer.Assert c rest) = c ++ rest
-
-abbrev pub case_offsets : layer.TypedCase-F (List Offset) (List Offset) (List Offset) → List Offset
-case_offsets c = or_none c.guard ++ c.body
-
 abbrev pub expr_offsets : layer.TypedExpr-F (List Offset) (List Offset) (List Offset) → List Offset
 expr_offsets e = (e.source, e.at) ∷ e.kind
 
 -- the offsets of an expression and of its parts
 abbrev pub offsets : TypedExpr → List Offset
-offsets = fold-TypedExpr (List Offset) (List Offset) (List Offset) kind_offsets case_offsets expr_offsets
+offsets = fold-TypedExpr (List Offset) (List Offset) (List Offset) kind_parts case_parts expr_offsets
 
 -- the source, which is numbered from 1, has a text, and the offset is one of it
 pub record Stands (texts : List (List ℕ)) (o : Offset) : Type 0 where

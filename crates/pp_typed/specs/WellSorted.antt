@@ -1,6 +1,6 @@
 -- Which typed units are well sorted: each number is in range, each expression and each pattern has the sort that it
 -- carries, each root has a value, and names tell roots and functions apart. Source: own.
-use Rattle.std.specs.Prelude.{◌≡◌, ◌≢◌, ◌<◌, ◌≤◌, ℕ, List, [], ◌∷◌, ◌++◌, Option, Some, None, All, Contains, length}
+use Rattle.std.specs.Prelude.{◌≡◌, ◌≢◌, ◌≤◌, ℕ, List, [], ◌∷◌, ◌++◌, Option, Some, None, All, Contains, length}
 use Rattle.std.specs.Prelude.{slice_get}
 use Rattle.pp_typed.specs.InRange.{IsInRange, AreInRange}
 use Rattle.pp_typed.specs.Sorted.{IsSorted, ctors_of, param_sorts}

@@ -58,8 +58,7 @@ module _ (typed : Typed) (params : ℕ) where
   pub record IsBinary (scope : List GenericSort) (of : GenericSort) (op : BinaryOp) (a b : TypedExpr) : Type 0 where
     pub left : IsSorted typed params scope a
     pub right : IsSorted typed params scope b
-    pub same : b.of ≡ a.of
-    pub operates : Operates op a.of of
+    pub operates : Operates op a.of b.of of
 
   pub record IsIf (scope : List GenericSort) (of : GenericSort) (c a b : TypedExpr) : Type 0 where
     pub test : IsSorted typed params scope c
@@ -146,11 +145,10 @@ module _ (typed : Typed) (params : ℕ) where
       })
   form {scope} {e} (sorted_unary {a = a} op k sorted is result) = shown scope e k (kind.outs-Unary op a)
       (sorted, is, result)
-  form {scope} {e} (sorted_binary {a = a} {b = b} op k left right same operates) = shown scope e k
+  form {scope} {e} (sorted_binary {a = a} {b = b} op k left right operates) = shown scope e k
       (kind.outs-Binary op a b) (record {
         left = left;
         right = right;
-        same = same;
         operates = operates;
       })
   form {scope} {e} (sorted_if {c = c} {a = a} {b = b} k test is_bool left left_is right right_is) = shown scope e k

@@ -25,7 +25,7 @@ use Rattle.pp_types_laws.proofs.Callees.{IsFunctionAs}
 use Rattle.pp_types_laws.proofs.Exact.{exact_is, suited}
 use Rattle.pp_types_laws.proofs.Patterns.{HasFields, sorts_append, sorts_in, typed_of}
 use Rattle.pp_types_laws.proofs.Ranges.{exact_in_range}
-use Rattle.pp_types_laws.proofs.Sorted.{env, Ranges, one_more, well}
+use Rattle.pp_types_laws.proofs.Sorted.{env, Ranges, ranges_with, well}
 use Rattle.pp_types_laws.specs.Literals.{DefInts, ListInts, PostInts}
 use Rattle.pp_types_laws.specs.Ranges.{open_expectable}
 
@@ -91,7 +91,7 @@ module _ (declared : Declared) (defs : List TypedDef)
     post_well no_post ok h ints = tt
     post_well {sc} {s} (a_post {t = u} p free written claim is) ok h ints =
         let w = well declared defs params function source functions ctors claim
-        (one_more declared defs params function source functions ctors sc p.name s ok h) (open_expectable refl) ints in
+        (ranges_with declared defs params function source functions ctors sc p.name s ok h) (open_expectable refl) ints in
         (subst (λ l. IsSorted t m l u) (sorts_append sc p.name s) w.is_sorted, is)
 
   -- what the parameters of a function are

@@ -5,7 +5,7 @@ use Rattle.pp_generic.specs.declared.expected.Expected.{Expected}
 use Rattle.pp_generic.specs.declared.expected.Expected.TheFolds.{fold-roll-Expected}
 use Rattle.pp_generic.specs.declared.expected.Expected.TheOpen as expected_layer
 use Rattle.pp_generic.specs.declared.expected.Expected.TheVariants as expected
-use Rattle.pp_generic.specs.Equal.{pass_all}
+use Rattle.pp_typed.specs.Equal.{pass_all}
 use Rattle.pp_generic.specs.Expected.{exact, fits, fits_layer, fits_root, fits_step}
 use Rattle.pp_rules.specs.declared.callee.Callee.{Callee}
 use Rattle.pp_rules.specs.Scope.{Env, Scope}
@@ -122,7 +122,7 @@ module _ (env : Env) where
     suited (an_application at w c is applied) = suits_applied applied
     suited (a_field at w r c j args s base is only place has suits) = suits
     suited (a_prefix at op operand is suits) = suits
-    suited (an_operation at op a admitted b is suits) = suits
+    suited (an_operation at op a admitted b taken suits) = suits
     suited (a_choice at c is a b same) = suited a
     suited (a_match at s e cases) = suits_cases cases
     suited (a_val at w new wants a b) = suited b

@@ -8,7 +8,6 @@ pub mod Kept
 pub mod Layers
 pub mod Names
 pub mod Narrow
-pub mod Operators
 pub mod Patterns
 pub mod Placed
 pub mod Ranges

@@ -82,7 +82,7 @@ module _ (most : ℕ) (within : most ≤ 4 * 65536) where
           node at _ (kind.Unary op operand) (is_narrow operand)
           (unary_is kind_narrow case_narrow expr_narrow op operand)
           (narrow a few)
-      narrow (an_operation {t = l} {u = r} at op a admitted b is suits) few =
+      narrow (an_operation {t = l} {u = r} at op a admitted b taken suits) few =
           node at _ (kind.Binary op l r) (is_narrow l && is_narrow r)
           (binary_is kind_narrow case_narrow expr_narrow op l r)
           (both (narrow a few.0) (narrow b few.1))

@@ -2,6 +2,8 @@
 use Rattle.std.proofs.Common.{◌≡◌, ◌∙◌, ℕ, ◌+◌, List, [], ◌∷◌, ◌++◌, All, Option, Some, None, map, option_map, sym, ap}
 use Rattle.std.proofs.Common.{subst}
 use Rattle.std.proofs.lemmas.List.Elements.{All-nil, All-cons, All-append}
+use Rattle.pp_typed.specs.Parts.{case_parts, kind_parts}
+use Rattle.pp_list.specs.Joined.{joined, or_none}
 use Rattle.pp_declared.proofs.Steps.{all_first, all_rest}
 use Rattle.pp_declared.specs.Listed.{DeclIn, DefIn, decl_in, decls_from, defs_of}
 use Rattle.pp_generic.specs.Expected.{Found}
@@ -19,7 +21,7 @@ use Rattle.pp_rules.specs.Typing.{an_operation, a_choice, a_match, a_val, an_ass
 use Rattle.pp_rules.specs.Typing.{no_arg, one_arg, TypesCases, no_case, one_case, one_guarded}
 use Rattle.pp_tree.specs.Offsets.{AllOffsets, CaseOffsets, DeclOffsets, DeclsOffsets, ListOffsets, Offsets, PostOffsets}
 use Rattle.pp_tree.specs.Plain.{Tree, Trees, TypeTrees, CaseTrees, DeclTree, root, ctor, other, def, PostTree, UnitTree}
-use Rattle.pp_typed.specs.Stand.{Offset, case_offsets, expr_offsets, joined, kind_offsets, offsets, or_none}
+use Rattle.pp_typed.specs.Stand.{Offset, expr_offsets, offsets}
 use Rattle.pp_typed.specs.Stand as stand
 use Rattle.pp_typed.specs.declared.declared.Declared.{Declared}
 use Rattle.pp_typed.specs.declared.declared.Signature.{Signature}
@@ -38,10 +40,10 @@ use Rattle.pp_types_laws.specs.Offsets.{DefHas, ExprHas, OffsetsFrom, PostHas, T
 use Rattle.pp_types_laws.specs.Typing.{HasTyping, TypesDefs, no_defs, more_defs}
 
 abbrev below : TypedKind → List Offset
-below = of_kind kind_offsets case_offsets expr_offsets
+below = of_kind kind_parts case_parts expr_offsets
 
 abbrev in_case : TypedCase → List Offset
-in_case = of_case kind_offsets case_offsets expr_offsets
+in_case = of_case kind_parts case_parts expr_offsets
 
 module _ (P : Offset → Type 0) where
   joined_all : (us : List TypedExpr) → All (ExprHas P) us → All P (joined (map offsets us))
@@ -58,57 +60,57 @@ module _ (P : Offset → Type 0) where
     node : (at : ℕ) (of : GenericSort) (k : TypedKind) (parts : List Offset) → below k ≡ parts → At at → All P parts
         → All P (offsets (typed env at of k))
     node at of k parts is p h =
-        subst (All P) (sym (expr_is kind_offsets case_offsets expr_offsets (typed env at of k)
+        subst (All P) (sym (expr_is kind_parts case_parts expr_offsets (typed env at of k)
         ∙ ap (λ l. (env.source, at) ∷ l) is))
         (All-cons P (env.source, at) parts p h)
 
     application_has : (t : Target) (ss : List GenericSort) (us : List TypedExpr)
         → below (application t ss us) ≡ joined (map offsets us)
-    application_has (Function i) ss us = call_is kind_offsets case_offsets expr_offsets i ss us
-    application_has (Ctor i) ss us = construct_is kind_offsets case_offsets expr_offsets i ss us
+    application_has (Function i) ss us = call_is kind_parts case_parts expr_offsets i ss us
+    application_has (Ctor i) ss us = construct_is kind_parts case_parts expr_offsets i ss us
 
     case_has : (p : TypedPattern) (g : Option TypedExpr) (b : TypedExpr)
         → in_case (arm env p g b) ≡ or_none (option_map offsets g) ++ offsets b
-    case_has p g b = case_is kind_offsets case_offsets expr_offsets p g b
+    case_has p g b = case_is kind_parts case_parts expr_offsets p g b
 
     mutual
       placed : {sc : Scope} {k : ℕ} {x : Expected} {e : Tree} {u : TypedExpr} → Types env sc k x e u → Offsets At e
           → ExprHas P u
-      placed (an_int at n suits) o = node at _ (kind.Int n) [] (int_is kind_offsets case_offsets expr_offsets n) o
+      placed (an_int at n suits) o = node at _ (kind.Int n) [] (int_is kind_parts case_parts expr_offsets n) o
           (All-nil P)
-      placed (a_bool at b suits) o = node at _ (kind.Bool b) [] (bool_is kind_offsets case_offsets expr_offsets b) o
+      placed (a_bool at b suits) o = node at _ (kind.Bool b) [] (bool_is kind_parts case_parts expr_offsets b) o
           (All-nil P)
       placed (a_local at w i l place there suits) o =
-          node at l.1 (kind.Local i) [] (local_is kind_offsets case_offsets expr_offsets i) o (All-nil P)
+          node at l.1 (kind.Local i) [] (local_is kind_parts case_parts expr_offsets i) o (All-nil P)
       placed (a_name at w c none is applied) o = placed_applied applied o tt
       placed (an_application at w c is applied) o = placed_applied applied o.0 o.2
       placed (a_field {t = base} at w r c j args s b is only place has suits) o =
-          node at _ (kind.Field base j) (offsets base) (field_is kind_offsets case_offsets expr_offsets base j) o.0
+          node at _ (kind.Field base j) (offsets base) (field_is kind_parts case_parts expr_offsets base j) o.0
           (placed b o.1)
       placed (a_prefix {t = operand} at op a is suits) o =
           node at _ (kind.Unary op operand) (offsets operand)
-          (unary_is kind_offsets case_offsets expr_offsets op operand) o.0
+          (unary_is kind_parts case_parts expr_offsets op operand) o.0
           (placed a o.1)
-      placed (an_operation {t = l} {u = r} at op a admitted b is suits) o =
+      placed (an_operation {t = l} {u = r} at op a admitted b taken suits) o =
           node at _ (kind.Binary op l r) (offsets l ++ offsets r)
-          (binary_is kind_offsets case_offsets expr_offsets op l r) o.0
+          (binary_is kind_parts case_parts expr_offsets op l r) o.0
           (All-append P (offsets l) (offsets r) (placed a o.1) (placed b o.2))
       placed (a_choice {t = t} {u = u} {v = v} at c is a b same) o =
           node at _ (kind.If t u v) (offsets t ++ offsets u ++ offsets v)
-          (if_is kind_offsets case_offsets expr_offsets t u v) o.0
+          (if_is kind_parts case_parts expr_offsets t u v) o.0
           (All-append P (offsets t ++ offsets u) (offsets v) (All-append P (offsets t) (offsets u) (placed c o.1)
           (placed a o.2))
           (placed b o.3))
       placed (a_match {t = t} {c = c} {arms = arms} at s e cases) o =
           node at s (kind.Match t (c ∷ arms)) (offsets t ++ joined (map in_case (c ∷ arms)))
-          (match_is kind_offsets case_offsets expr_offsets t (c ∷ arms)) o.0
+          (match_is kind_parts case_parts expr_offsets t (c ∷ arms)) o.0
           (All-append P (offsets t) (joined (map in_case (c ∷ arms))) (placed e o.1) (placed_cases cases o.2))
       placed (a_val {u = u} {v = v} at w new wants a b) o =
-          node at _ (kind.Val u v) (offsets u ++ offsets v) (val_is kind_offsets case_offsets expr_offsets u v) o.0
+          node at _ (kind.Val u v) (offsets u ++ offsets v) (val_is kind_parts case_parts expr_offsets u v) o.0
           (All-append P (offsets u) (offsets v) (placed a o.2) (placed b o.3))
       placed (an_assert {t = t} {u = u} at c is e) o =
           node at _ (kind.Assert t u) (offsets t ++ offsets u)
-          (assert_is kind_offsets case_offsets expr_offsets t u) o.0
+          (assert_is kind_parts case_parts expr_offsets t u) o.0
           (All-append P (offsets t) (offsets u) (placed c o.1) (placed e o.2))
 
       placed_applied : {sc : Scope} {at : ℕ} {x : Expected} {ts : TypeTrees} {c : Callee} {es : Trees} {u : TypedExpr}

@@ -3,6 +3,7 @@ use Rattle.std.proofs.Common.{◌≡◌, ◌∙◌, ℕ, List, [], ◌∷◌, �
 use Rattle.std.proofs.Common.{Bool, true, false}
 use Rattle.std.proofs.lemmas.List.{append-nil}
 use Rattle.std.proofs.lemmas.List.Elements.{All-nil, All-cons, All-append}
+use Rattle.pp_list.specs.Joined.{joined}
 use Rattle.pp_declared.proofs.Steps.{all_first, all_rest}
 use Rattle.pp_declared.specs.Listed.{DefIn}
 use Rattle.pp_generic.specs.Expected.{Found}
@@ -25,7 +26,6 @@ use Rattle.pp_tree.specs.Plain.{Trees, no_trees, more_trees, TypeTrees, CaseTree
 use Rattle.pp_tree.specs.Plain.{DefTree, PostTree, UnitTree}
 use Rattle.pp_typed.specs.Apart.{AreApart, Below, InSource, IsApart, Mark, a_call, a_match, an_assertion, case_marks}
 use Rattle.pp_typed.specs.Apart.{def_marks, division_mark, expr_marks, kind_marks, marks, operator_mark, post_marks}
-use Rattle.pp_typed.specs.Stand.{joined}
 use Rattle.pp_typed.specs.declared.declared.Declared.{Declared}
 use Rattle.pp_typed.specs.declared.declared.Signature.{Signature}
 use Rattle.pp_typed.specs.declared.expr.TypedCase.{TypedCase}
@@ -96,7 +96,7 @@ module _ (env : Env) where
     part (a_prefix {t = operand} at op a is suits) =
         node at _ (kind.Unary op operand) (λ here. marks operand) _
         (unary_is kind_marks case_marks expr_marks op operand) (part a)
-    part (an_operation {t = l} {u = r} at op a admitted b is suits) =
+    part (an_operation {t = l} {u = r} at op a admitted b taken suits) =
         node at _ (kind.Binary op l r) (λ here. marks l ++ marks r ++ operator_mark op here) _
         (binary_is kind_marks case_marks expr_marks op l r) (joins (joins (part a) (part b)) (whole
         (operator_mark op (source, at))))

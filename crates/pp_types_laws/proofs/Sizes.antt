@@ -73,7 +73,7 @@ module _ (env : Env) where
     sized (a_prefix {t = operand} at op a is suits) =
         node at _ (kind.Unary op operand) (nodes operand) (unary_is kind_nodes case_nodes expr_nodes op operand)
         ∙ ap (λ n. n + 1) (sized a)
-    sized (an_operation {t = l} {u = r} at op a admitted b is suits) =
+    sized (an_operation {t = l} {u = r} at op a admitted b taken suits) =
         node at _ (kind.Binary op l r) (nodes l + nodes r) (binary_is kind_nodes case_nodes expr_nodes op l r)
         ∙ ap (λ n. n + 1) (plus (sized a) (sized b))
     sized (a_choice {t = t} {u = u} {v = v} at c is a b same) =

@@ -10,24 +10,21 @@ use Rattle.pp_generic.proofs.Putting.{put_root}
 use Rattle.pp_names.specs.Places.{Word}
 use Rattle.pp_rules.specs.declared.callee.Callee.{Callee}
 use Rattle.pp_rules.specs.Elab.{arm, typed}
-use Rattle.pp_operators.specs.Classes.{is_equality, class_of}
-use Rattle.pp_rules.specs.Operators.{class_gives, gives, right_expected}
+use Rattle.pp_operators.specs.Classes.{is_equality}
+use Rattle.pp_rules.specs.Operators.{right_expected}
 use Rattle.pp_rules.specs.Scope.{Env, Scope}
 use Rattle.pp_rules.specs.Shapes.{application, field_of, own_params}
 use Rattle.pp_rules.specs.Typing.{Starts, starts_expected, starts_written, Wants, wants_nothing, wants_written, Types}
 use Rattle.pp_rules.specs.Typing.{an_int, a_bool, a_local, a_name, an_application, a_field, a_prefix, an_operation}
 use Rattle.pp_rules.specs.Typing.{a_choice, a_match, a_val, an_assert, Applies, applies, TypesArgs, no_arg, one_arg}
 use Rattle.pp_rules.specs.Typing.{TypesCases, no_case, one_case, one_guarded}
-use Rattle.pp_operators.specs.declared.class.OperatorClass.{OperatorClass}
-use Rattle.pp_operators.specs.declared.class.OperatorClass.TheVariants as class
-use Rattle.pp_tree.specs.declared.operator.BinaryOp.{BinaryOp}
 use Rattle.pp_tree.specs.Plain.{Tree, Trees, TypeTree, TypeTrees, CaseTrees}
 use Rattle.pp_typed.specs.InRange.{IsInRange, int_in_range, bool_in_range, AreInRange, none_in_range, more_in_range}
 use Rattle.pp_typed.specs.Put.{put}
 use Rattle.pp_typed.specs.Sorted.{IsSorted, sorted_int, sorted_bool, sorted_local, sorted_call, sorted_construct}
 use Rattle.pp_typed.specs.Sorted.{sorted_field, sorted_unary, sorted_binary, sorted_if, sorted_match, sorted_val}
 use Rattle.pp_typed.specs.Sorted.{sorted_assert, AreSorted, none_sorted, more_sorted, IsSortedGuard, no_guard}
-use Rattle.pp_typed.specs.Sorted.{one_guard, AreSortedCases, no_cases, more_cases, ctors_of, param_sorts}
+use Rattle.pp_typed.specs.Sorted.{one_guard, AreSortedCases, no_cases, more_cases, ctors_of}
 use Rattle.pp_typed.specs.Sorted as sorted
 use Rattle.pp_typed.specs.declared.declared.Declared.{Declared}
 use Rattle.pp_typed.specs.declared.declared.Signature.{Signature}
@@ -42,9 +39,9 @@ use Rattle.pp_typed.specs.declared.typed.Typed.{Typed}
 use Rattle.pp_typed.specs.declared.typed.TypedCtor.{TypedCtor}
 use Rattle.pp_typed.specs.declared.typed.TypedDef.{TypedDef}
 use Rattle.pp_typed.specs.declared.typed.TypedRoot.{TypedRoot}
+use Rattle.pp_typed_forms.proofs.Operators.{gives_in_range}
 use Rattle.pp_types_laws.proofs.Callees.{IsFunctionAs, IsCallee, is_function, is_constructor, applied_is, callee_params}
 use Rattle.pp_types_laws.proofs.Callees.{callee_result, named_is, only_of_root, put_own}
-use Rattle.pp_types_laws.proofs.Operators.{operates, same_unary}
 use Rattle.pp_types_laws.proofs.Patterns.{HasFields, pattern_bound, root_parts, sorts_append, sorts_in, typed_of}
 use Rattle.pp_types_laws.proofs.Ranges.{Extends, IsLearnt, all_of_found, append_in_range, at_in_range, every_extends}
 use Rattle.pp_types_laws.proofs.Ranges.{every_is, every_length, exact_in_range, expect_in_range, known_put}
@@ -115,9 +112,9 @@ module _ (declared : Declared) (defs : List TypedDef) (type_params : List Word) 
   right_in_range true s h = exact_in_range roots m h
   right_in_range false s h = open_expectable refl
 
-  pub one_more : (sc : Scope) (w : Word) (s : GenericSort) → Ranges sc → IsInRange roots m s
+  pub ranges_with : (sc : Scope) (w : Word) (s : GenericSort) → Ranges sc → IsInRange roots m s
       → Ranges (sc ++ (w, s) ∷ [])
-  one_more sc w s ok h =
+  ranges_with sc w s ok h =
       subst (AreInRange roots m) (sym (sorts_append sc w s)) (append_in_range roots m ok
       (more_in_range h none_in_range))
 
@@ -134,19 +131,6 @@ module _ (declared : Declared) (defs : List TypedDef) (type_params : List Word) 
   called (is_constructor i c r there declares) sc at sorts us count range args =
       sorted_construct i c r sorts us refl there declares count range args
       (put_root sorts c.root (own_params r.type_params) ∙ ap (sort.Root c.root) (put_own sorts r.type_params count))
-
-  class_in_range : (c : OperatorClass) (s : GenericSort) → IsInRange roots m s → IsInRange roots m (class_gives c s)
-  class_in_range class.Equality s h = bool_in_range refl
-  class_in_range class.Order s h = bool_in_range refl
-  class_in_range class.Sum s h = h
-  class_in_range class.Product s h = h
-  class_in_range class.Quotient s h = h
-  class_in_range class.Logic s h = h
-  class_in_range class.Bitwise s h = h
-  class_in_range class.Shift s h = h
-
-  gives_in_range : (op : BinaryOp) (s : GenericSort) → IsInRange roots m s → IsInRange roots m (gives op s)
-  gives_in_range op s h = class_in_range (class_of op) s h
 
   -- a case of sorted parts
   a_case : (scope : List GenericSort) (s of : GenericSort) (p : TypedPattern) (g : Option TypedExpr) (u : TypedExpr)
@@ -192,15 +176,15 @@ module _ (declared : Declared) (defs : List TypedDef) (type_params : List Word) 
     well (a_prefix at op operand is suits) ok h ints =
         let a = well operand ok (open_expectable refl) ints in
         record {
-          is_sorted = sorted_unary op refl a.is_sorted (is ∙ same_unary op) (same_unary op);
+          is_sorted = sorted_unary op refl a.is_sorted is refl;
           in_range = subst (IsInRange roots m) is a.in_range;
         }
-    well {sc} (an_operation {t = left} at op a admitted b is suits) ok h ints =
+    well {sc} (an_operation {t = left} at op a admitted b taken suits) ok h ints =
         let l = well a ok (open_expectable refl) ints.0 in
         let r = well b ok (right_in_range (is_equality op) left.of l.in_range) ints.1 in
         record {
-          is_sorted = sorted_binary op refl l.is_sorted r.is_sorted is (operates op left.of admitted);
-          in_range = gives_in_range op left.of l.in_range;
+          is_sorted = sorted_binary op refl l.is_sorted r.is_sorted (taken, refl);
+          in_range = gives_in_range roots m op left.of l.in_range;
         }
     well (a_choice at c is a b same) ok h ints =
         let test = well c ok (open_expectable refl) ints.0 in
@@ -218,7 +202,7 @@ module _ (declared : Declared) (defs : List TypedDef) (type_params : List Word) 
         }
     well {sc} (a_val {u = value} {v = after} at w new wants a b) ok h ints =
         let v = well a ok (wanted wants) ints.0 in
-        let rest = well b (one_more sc w value.of ok v.in_range) h ints.1 in
+        let rest = well b (ranges_with sc w value.of ok v.in_range) h ints.1 in
         record {
           is_sorted = sorted_val refl v.is_sorted
               (subst (λ l. IsSorted t m l after) (sorts_append sc w value.of) rest.is_sorted) refl;

@@ -25,7 +25,7 @@ use Rattle.pp_types_laws.proofs.Declarations.{few_ctors, functions_as, own_roots
 use Rattle.pp_types_laws.proofs.Defs.{def_well}
 use Rattle.pp_types_laws.proofs.Names.{names_differ, names_plain, not_reserved}
 use Rattle.pp_types_laws.proofs.Patterns.{HasFields, typed_of}
-use Rattle.pp_types_laws.specs.Literals.{DefInts, DefsInts, UnitsInts}
+use Rattle.pp_types_laws.specs.Literals.{DefInts, UnitsInts}
 use Rattle.pp_types_laws.specs.Typing.{HasTyping, TypesDefs, no_defs, more_defs}
 
 pub all_at : {X : Type 0} (P : X → Type 0) (xs : List X) (i : ℕ) (x : X) → slice_get xs i ≡ Some x → All P xs → P x

@@ -15,7 +15,7 @@ use crate::checks::{agreed, flaw, name_at, of_sort, typed, val_expected};
 use crate::lookup::applied_by;
 use crate::name::{named, selected};
 use crate::node::{asserted, chosen, negated, operated, valued};
-use crate::operators::{admits, right_expected, unary_sort};
+use crate::operators::{admits, right_expected, takes, unary_sort};
 use crate::patterns::pattern;
 use crate::scope::{clashes, depth};
 use crate::{Context, Local};
@@ -152,8 +152,15 @@ fn binary<'a>(
     let inner = depth(scope.as_slice());
     let wanted = right_expected(alloc, op, &left.get().of)?;
     let right = expr(alloc, context, b, scope, inner, &wanted)?;
-    let name = name_at(context, b);
-    let right = of_sort(alloc, context, Rule::Mismatch, &left.get().of, name, right)?;
+    if !takes(op, &left.get().of, &right.get().of) {
+        return flaw(
+            alloc,
+            context,
+            Rule::Mismatch,
+            name_at(context, b),
+            right.get().at,
+        );
+    }
     operated(alloc, context, at, expected, op, left, right)
 }
 

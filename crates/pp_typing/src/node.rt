@@ -36,7 +36,7 @@ pub(crate) fn negated(
     agreed(alloc, context, expected, context.function, e)
 }
 
-/// An operator on two operands of one sort, which it admits.
+/// An operator on two operands of sorts that it takes.
 pub(crate) fn operated(
     alloc: Global,
     context: &Context,

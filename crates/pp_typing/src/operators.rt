@@ -2,9 +2,12 @@
 
 ghost use Rattle.std.specs.Prelude.{◌≡◌, IfOk};
 ghost use Rattle.pp_operators.specs.Classes.{is_equality};
-ghost use Rattle.pp_rules.specs.Operators.{admits, gives, is_bool, is_int, right_expected, unary_sort};
+ghost use Rattle.pp_rules.specs.Operators.{admits, right_expected};
+ghost use Rattle.pp_typed.specs.Equal.{equal};
+ghost use Rattle.pp_typed.specs.Operators.{gives, is_number, takes, unary_sort};
+ghost use Rattle.pp_typed.specs.declared.sort.GenericSort.TheVariants as generic;
 
-use pp_generic::{Expected, NoMemory, copy, exact};
+use pp_generic::{Expected, NoMemory, are_same, copy, exact};
 use pp_operators::{BinaryOp, OperatorClass, UnaryOp, class_of, is_equality};
 use pp_typed::GenericSort;
 use std::alloc::Global;
@@ -19,50 +22,60 @@ pub(crate) fn unary_sort(op: UnaryOp) -> GenericSort
     }
 }
 
-pub(crate) fn is_int(sort: &GenericSort) -> bool
-    ensures { result ≡ is_int sort.now }
+/// Whether it is a sort of numbers.
+fn is_number(sort: &GenericSort) -> bool
+    ensures { result ≡ is_number sort.now }
 {
     matches!(sort, GenericSort::Int)
 }
 
-pub(crate) fn is_bool(sort: &GenericSort) -> bool
-    ensures { result ≡ is_bool sort.now }
+/// Whether it is the sort of truth values.
+fn is_bool(sort: &GenericSort) -> bool
+    ensures { result ≡ equal generic.Bool sort.now }
 {
     matches!(sort, GenericSort::Bool)
 }
 
-/// Whether both operands may have this sort.
-pub(crate) fn admits(op: BinaryOp, sort: &GenericSort) -> bool
-    ensures { result ≡ admits op sort.now }
+/// Whether the operator takes operands of these sorts.
+pub(crate) fn takes(op: BinaryOp, left: &GenericSort, right: &GenericSort) -> bool
+    ensures { result ≡ takes op left.now right.now }
 {
     match class_of(op) {
         OperatorClass::Sum
         | OperatorClass::Product
         | OperatorClass::Quotient
-        | OperatorClass::Order
-        | OperatorClass::Shift => is_int(sort),
-        OperatorClass::Logic => is_bool(sort),
-        OperatorClass::Bitwise => is_int(sort) || is_bool(sort),
-        OperatorClass::Equality => true,
+        | OperatorClass::Order => is_number(left) && are_same(left, right),
+        OperatorClass::Equality => are_same(left, right),
+        OperatorClass::Logic => is_bool(left) && is_bool(right),
+        OperatorClass::Bitwise => (is_number(left) || is_bool(left)) && are_same(left, right),
+        OperatorClass::Shift => is_number(left) && is_number(right),
     }
 }
 
-/// The sort of the result, where both operands have this sort. The only error is want of memory.
+/// Whether the left operand may have this sort: then the operator takes two of it.
+pub(crate) fn admits(op: BinaryOp, left: &GenericSort) -> bool
+    ensures { result ≡ admits op left.now }
+{
+    takes(op, left, left)
+}
+
+/// The sort of the result, where the left operand has this sort. The only error is want of memory.
 pub(crate) fn gives(
     alloc: Global,
     op: BinaryOp,
-    sort: &GenericSort,
+    left: &GenericSort,
 ) -> Result<GenericSort, NoMemory>
-    ensures { IfOk result (λ s. s ≡ gives op sort.now) }
+    ensures { IfOk result (λ s. s ≡ gives op left.now) }
 {
     match class_of(op) {
-        OperatorClass::Equality | OperatorClass::Order => Ok(GenericSort::Bool),
+        OperatorClass::Equality | OperatorClass::Order | OperatorClass::Logic => {
+            Ok(GenericSort::Bool)
+        }
         OperatorClass::Sum
         | OperatorClass::Product
         | OperatorClass::Quotient
-        | OperatorClass::Logic
         | OperatorClass::Bitwise
-        | OperatorClass::Shift => copy(alloc, sort),
+        | OperatorClass::Shift => copy(alloc, left),
     }
 }
 

@@ -1,12 +1,10 @@
 -- A fault that is computed of a function stands there.
-use Rattle.std.proofs.Common.{◌≡◌, ◌∙◌, ℕ, List, [], ◌∷◌, ◌++◌, Ok, Err, Option, Some, None, Bool, true, false, refl}
-use Rattle.std.proofs.Common.{sym, ap, subst, length}
-use Rattle.std.specs.Prelude.{◌≢◌}
+use Rattle.std.proofs.Common.{◌≡◌, ℕ, List, [], ◌∷◌, ◌++◌, Ok, Err, Option, Some, None, refl}
+use Rattle.std.proofs.Common.{sym, subst, length}
 use Rattle.pp_fault.specs.declared.Fault.{Fault}
 use Rattle.pp_fault.specs.declared.Rule.TheVariants.{Duplicate, Mismatch}
-use Rattle.pp_fault.specs.Part.{Part, and_then}
 use Rattle.pp_generic.specs.declared.expected.Expected.TheVariants.{Open}
-use Rattle.pp_generic.specs.Equal.{equal}
+use Rattle.pp_typed.specs.Equal.{equal}
 use Rattle.pp_generic.specs.Expected.{exact}
 use Rattle.pp_names.specs.Reserved.{is_reserved}
 use Rattle.pp_rules.specs.Bodies.{claimed, def_scope, elab_conditions, elab_def, elab_measure, elab_post, env_of_def}
@@ -14,7 +12,7 @@ use Rattle.pp_rules.specs.Bodies.{post_written, same_written}
 use Rattle.pp_rules.specs.Elab.{condition, elab, name_at}
 use Rattle.pp_rules.specs.Scope.{Env, Scope}
 use Rattle.pp_rules.specs.Written.{written}
-use Rattle.pp_tree.specs.Plain.{Word, TypeTree, type_text, Tree, PostTree, DefTree}
+use Rattle.pp_tree.specs.Plain.{TypeTree, type_text, Tree, PostTree, DefTree}
 use Rattle.pp_typed.specs.declared.declared.Declared.{Declared}
 use Rattle.pp_typed.specs.declared.declared.Signature.{Signature}
 use Rattle.pp_typed.specs.declared.expr.TypedExpr.{TypedExpr}
@@ -26,7 +24,7 @@ use Rattle.pp_typing_laws.specs.BodyFaults.{BreaksConditions, this_condition, la
 use Rattle.pp_typing_laws.specs.BodyFaults.{this_component, later_component, BreaksPost, reserved_result}
 use Rattle.pp_typing_laws.specs.BodyFaults.{in_result_type, other_result_type, in_claim, BreaksDef, in_pre, in_measure}
 use Rattle.pp_typing_laws.specs.BodyFaults.{in_def_body, in_post}
-use Rattle.pp_typing_laws.specs.Faults.{BreaksCondition, flawed}
+use Rattle.pp_typing_laws.specs.Faults.{BreaksCondition}
 
 module _ (env : Env) where
   condition_stands : (c : Tree) (sc : Scope) (f : Fault)

@@ -1,42 +1,34 @@
 -- What has a typing by the rules gets it.
-use Rattle.std.proofs.Common.{◌≡◌, ◌∙◌, ℕ, suc, List, [], ◌∷◌, ◌++◌, Ok, Err, Option, Some, None, Bool, true, false}
-use Rattle.std.proofs.Common.{refl, sym, ap, subst, nat_eq, length, map, eq-eqb, append_assoc}
-use Rattle.std.specs.Prelude.{slice_get}
+use Rattle.std.proofs.Common.{◌≡◌, ◌∙◌, ℕ, suc, List, [], ◌∷◌, ◌++◌, Ok, Option, Some, None}
+use Rattle.std.proofs.Common.{refl, sym, ap, nat_eq, length, eq-eqb, append_assoc}
 use Rattle.std.proofs.lemmas.List.{append-nil}
 use Rattle.pp_fault.specs.declared.Rule.TheVariants.{Mismatch, Arity}
-use Rattle.pp_fault.specs.Part.{Part, and_then}
+use Rattle.pp_fault.specs.Part.{and_then}
 use Rattle.pp_fault.proofs.Parts.{goes}
 use Rattle.pp_generic.specs.declared.expected.Expected.{Expected}
-use Rattle.pp_generic.specs.declared.expected.Expected.TheVariants.{Open}
-use Rattle.pp_generic.specs.Equal.{equal}
-use Rattle.pp_generic.specs.Expected.{Found, exact, expect, every, known}
-use Rattle.pp_generic.specs.Found.{learn, none_found}
-use Rattle.pp_typed.specs.Put.{put}
+use Rattle.pp_typed.specs.Equal.{equal}
+use Rattle.pp_generic.specs.Expected.{Found, exact, known}
+use Rattle.pp_generic.specs.Found.{learn}
+use Rattle.pp_typed.specs.Operators.{takes, unary_sort}
 use Rattle.pp_rules.specs.declared.callee.Callee.{Callee}
-use Rattle.pp_rules.specs.Elab.{Bound, Taken, alike, applied, arm, asserted, body_sort, chosen, condition, count, elab}
-use Rattle.pp_rules.specs.Elab.{elab_args, elab_cases, elab_pattern, field_of_ctor, field_placed, field_typed, finished}
-use Rattle.pp_rules.specs.Elab.{guarded_arm, inferred, is_sort, local_at, matched, name_at, named, negated, no_args}
-use Rattle.pp_rules.specs.Elab.{of_sort, operated, plain_arm, selected, started, taken, typed, val_expected, valued}
-use Rattle.pp_operators.specs.Classes.{is_equality}
-use Rattle.pp_rules.specs.Operators.{admits, right_expected, unary_sort}
-use Rattle.pp_rules.specs.Scope.{Env, Scope, clashes, place}
-use Rattle.pp_rules.specs.Shapes.{application, applied_by, field_place, field_sort, named_by, only_ctor}
-use Rattle.pp_rules.specs.Typing.{Suits, Starts, starts_expected, starts_written, Wants, wants_nothing, wants_written}
-use Rattle.pp_rules.specs.Typing.{TypesPattern, Types, an_int, a_bool, a_local, a_name, an_application, a_field}
+use Rattle.pp_rules.specs.Elab.{alike, applied, arm, asserted, body_sort, chosen, count, elab}
+use Rattle.pp_rules.specs.Elab.{elab_args, elab_cases, field_of_ctor, field_placed, field_typed, finished}
+use Rattle.pp_rules.specs.Elab.{inferred, is_sort, local_at, matched, name_at, named, negated, no_args}
+use Rattle.pp_rules.specs.Elab.{selected, started, taken, typed, val_expected, valued}
+use Rattle.pp_rules.specs.Operators.{admits}
+use Rattle.pp_rules.specs.Scope.{Env, Scope, clashes}
+use Rattle.pp_rules.specs.Typing.{Starts, starts_expected, starts_written, Wants, wants_nothing, wants_written}
+use Rattle.pp_rules.specs.Typing.{Types, an_int, a_bool, a_local, a_name, an_application, a_field}
 use Rattle.pp_rules.specs.Typing.{a_prefix, an_operation, a_choice, a_match, a_val, an_assert, Applies, applies}
 use Rattle.pp_rules.specs.Typing.{TypesArgs, no_arg, one_arg, TypesCases, no_case, one_case, one_guarded}
-use Rattle.pp_rules.specs.Written.{IsWritten, written, written_from}
 use Rattle.pp_sorts.specs.IsSort.{count as count_types}
-use Rattle.pp_tree.specs.Plain.{Word, TypeTree, TypeTrees, no_types, more_types, PatternTree, Tree, int, bool, name}
-use Rattle.pp_tree.specs.Plain.{apply, field, unary, binary, choice, matching, val_in, assert_in, Trees, no_trees}
-use Rattle.pp_tree.specs.Plain.{more_trees, CaseTrees, no_cases, plain_case, guarded_case}
+use Rattle.pp_tree.specs.Plain.{Word, TypeTree, TypeTrees, no_types, Tree}
+use Rattle.pp_tree.specs.Plain.{Trees, no_trees}
+use Rattle.pp_tree.specs.Plain.{CaseTrees}
 use Rattle.pp_typed.specs.declared.expr.TypedCase.{TypedCase}
 use Rattle.pp_typed.specs.declared.expr.TypedExpr.{TypedExpr}
 use Rattle.pp_typed.specs.declared.expr.TypedKind.TheVariants as kind
-use Rattle.pp_typed.specs.declared.pattern.TypedPattern.{TypedPattern}
 use Rattle.pp_typed.specs.declared.sort.GenericSort.{GenericSort}
-use Rattle.pp_typed.specs.declared.sort.GenericSort.TheVariants as sort
-use Rattle.pp_typed.specs.declared.sort.GenericSort.TheViews.{out-GenericSort}
 use Rattle.pp_typing_laws.proofs.Patterns.{shows_root, complete_pattern}
 use Rattle.pp_typing_laws.proofs.Sound.{arm_sort}
 use Rattle.pp_typing_laws.proofs.Steps.{unless_true, fresh_false, agreed_suits, of_sort_is, condition_is}
@@ -55,9 +47,9 @@ module _ (env : Env) where
   wanted wants_nothing = refl
   wanted (wants_written t s h) = goes _ _ _ (complete_written env h)
 
-  takes : (p : GenericSort) (w : Word) (found : Found) (t : TypedExpr)
+  taken_is : (p : GenericSort) (w : Word) (found : Found) (t : TypedExpr)
       → known (learn p (exact t.of) found) p ≡ Some t.of → taken env p w found t ≡ Ok (t, learn p (exact t.of) found)
-  takes p w found t h =
+  taken_is p w found t h =
       unless_true env (is_sort env (known (learn p (exact t.of) found) p) t.of) Mismatch w t.at _
       (is_sort_is env _ t.of h)
 
@@ -117,7 +109,7 @@ module _ (env : Env) where
     complete (an_operation {x = x} {a = a} {b = b} {t = t} {u = u} at op l m r e h) =
         goes _ _ _ (complete l) ∙ unless_true env (admits op t.of) Mismatch (name_at env a) t.at _ m
         ∙ goes _ _ _ (complete r)
-        ∙ goes _ (operated env at x op t) _ (of_sort_is env Mismatch t.of (name_at env b) u e)
+        ∙ unless_true env (takes op t.of u.of) Mismatch (name_at env b) u.at _ e
         ∙ agreed_suits env x env.function _ h
     complete (a_choice {c = c} {b = b} {t = t} {u = u} {v = v} at test is first second e) =
         goes _ _ _ (condition_is env (name_at env c) _ t (complete test) is) ∙ goes _ _ _ (complete first)
@@ -158,7 +150,7 @@ module _ (env : Env) where
         → TypesArgs env sc ps found es ts after → elab_args env done es sc ps found ≡ Ok (done ++ ts, after)
     complete_args {found = found} done no_arg = ap (λ l. Ok (l, found)) (sym (append-nil done))
     complete_args {found = found} {after = after} done (one_arg {e = e} {t = t} {ts = ts} p one is rest) =
-        goes _ _ _ (complete one) ∙ goes _ _ _ (takes p (name_at env e) found t is)
+        goes _ _ _ (complete one) ∙ goes _ _ _ (taken_is p (name_at env e) found t is)
         ∙ complete_args (done ++ t ∷ []) rest
         ∙ ap (λ l. Ok (l, after)) (append_assoc done (t ∷ []) ts)
 

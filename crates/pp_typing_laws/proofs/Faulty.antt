@@ -1,21 +1,20 @@
 -- What it tells that a step of the computation gives a fault.
-use Rattle.std.proofs.Common.{◌≡◌, ◌∙◌, ℕ, List, Ok, Err, Option, Some, None, Bool, true, false, refl, sym, ap, nat_eq}
+use Rattle.std.proofs.Common.{◌≡◌, ℕ, Ok, Err, Bool, true, false, refl, sym, ap, nat_eq}
 use Rattle.std.proofs.Common.{eq-eqb}
 use Rattle.std.specs.Prelude.{◌≢◌, if◌then◌else◌}
 use Rattle.pp_fault.specs.declared.Fault.{Fault}
 use Rattle.pp_fault.specs.declared.Rule.{Rule}
-use Rattle.pp_fault.specs.declared.Rule.TheVariants.{Mismatch, NotABoolean}
+use Rattle.pp_fault.specs.declared.Rule.TheVariants.{Mismatch}
 use Rattle.pp_fault.specs.Part.{Part, and_then}
 use Rattle.pp_fault.proofs.Parts.{same_err}
 use Rattle.pp_generic.specs.declared.expected.Expected.{Expected}
-use Rattle.pp_generic.specs.Equal.{equal}
+use Rattle.pp_typed.specs.Equal.{equal}
 use Rattle.pp_generic.specs.Expected.{fits}
-use Rattle.pp_rules.specs.Elab.{agreed, condition, flaw, of_sort, unless}
+use Rattle.pp_rules.specs.Elab.{agreed, flaw, of_sort, unless}
 use Rattle.pp_rules.specs.Scope.{Env}
 use Rattle.pp_tree.specs.Plain.{Word}
 use Rattle.pp_typed.specs.declared.expr.TypedExpr.{TypedExpr}
 use Rattle.pp_typed.specs.declared.sort.GenericSort.{GenericSort}
-use Rattle.pp_typed.specs.declared.sort.GenericSort.TheVariants as sort
 use Rattle.pp_typing_laws.proofs.Steps.{equal_of}
 use Rattle.pp_typing_laws.specs.Faults.{flawed, Misfits}
 

@@ -1,29 +1,26 @@
 -- A function is given a typing exactly where the rules give it that one.
-use Rattle.std.proofs.Common.{◌≡◌, ◌∙◌, ℕ, List, [], ◌∷◌, ◌++◌, Ok, Option, Some, None, Bool, true, false, refl, sym}
+use Rattle.std.proofs.Common.{◌≡◌, ◌∙◌, ℕ, List, [], ◌∷◌, ◌++◌, Ok, Option, Some, None, refl, sym}
 use Rattle.std.proofs.Common.{ap, subst, length, append_assoc}
 use Rattle.std.proofs.lemmas.List.{append-nil}
 use Rattle.pp_fault.specs.declared.Rule.TheVariants.{Mismatch}
-use Rattle.pp_fault.specs.Part.{Part, and_then}
 use Rattle.pp_fault.proofs.Parts.{goes, same_ok}
 use Rattle.pp_generic.proofs.Equal.{equal_same}
 use Rattle.pp_generic.specs.declared.expected.Expected.TheVariants.{Open}
-use Rattle.pp_generic.specs.Equal.{equal}
+use Rattle.pp_typed.specs.Equal.{equal}
 use Rattle.pp_generic.specs.Expected.{exact}
 use Rattle.pp_names.specs.Reserved.{is_reserved}
 use Rattle.pp_rules.specs.Bodies.{TypesConditions, no_condition, one_condition, TypesDef, a_def, TypesMeasure}
 use Rattle.pp_rules.specs.Bodies.{no_component, one_component, TypesPost, no_post, a_post, WritesResult, writes_nothing}
 use Rattle.pp_rules.specs.Bodies.{writes_it, claimed, def_scope, elab_conditions, elab_def, elab_measure, elab_post}
-use Rattle.pp_rules.specs.Bodies.{env_of_def, post_written, same_written, typed_def}
+use Rattle.pp_rules.specs.Bodies.{env_of_def, post_written, same_written}
 use Rattle.pp_rules.specs.Elab.{condition, elab, name_at}
 use Rattle.pp_rules.specs.Scope.{Env, Scope}
-use Rattle.pp_rules.specs.Typing.{Types}
 use Rattle.pp_rules.specs.Written.{written}
 use Rattle.pp_tree.specs.Plain.{TypeTree, type_text, Tree, PostTree, DefTree}
 use Rattle.pp_typed.specs.declared.declared.Declared.{Declared}
 use Rattle.pp_typed.specs.declared.declared.Signature.{Signature}
 use Rattle.pp_typed.specs.declared.expr.TypedExpr.{TypedExpr}
 use Rattle.pp_typed.specs.declared.sort.GenericSort.{GenericSort}
-use Rattle.pp_typed.specs.declared.sort.GenericSort.TheVariants as sort
 use Rattle.pp_typed.specs.declared.typed.TypedDef.{TypedDef}
 use Rattle.pp_typed.specs.declared.typed.TypedPost.{TypedPost}
 use Rattle.pp_typing_laws.proofs.Complete.{complete}

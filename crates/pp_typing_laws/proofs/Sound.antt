@@ -1,46 +1,46 @@
 -- What gets a typing has it by the rules.
-use Rattle.std.proofs.Common.{◌≡◌, ◌∙◌, ℕ, suc, List, [], ◌∷◌, ◌++◌, Ok, Err, Option, Some, None, Bool, true, false}
-use Rattle.std.proofs.Common.{refl, sym, ap, subst, nat_eq, length, map, append_assoc}
+use Rattle.std.proofs.Common.{◌≡◌, ◌∙◌, ℕ, suc, List, [], ◌∷◌, ◌++◌, Ok, Option, Some, None}
+use Rattle.std.proofs.Common.{refl, sym, ap, subst, nat_eq, length, append_assoc}
 use Rattle.std.specs.Prelude.{slice_get}
 use Rattle.std.proofs.lemmas.Bool.{eqb-true}
 use Rattle.std.proofs.lemmas.List.{append-nil}
 use Rattle.pp_fault.specs.declared.Rule.TheVariants.{Mismatch, Arity}
-use Rattle.pp_fault.specs.Part.{Part, and_then}
+use Rattle.pp_fault.specs.Part.{Part}
 use Rattle.pp_fault.proofs.Parts.{same_ok}
 use Rattle.pp_generic.proofs.Equal.{equal_same}
 use Rattle.pp_generic.specs.declared.expected.Expected.{Expected}
 use Rattle.pp_generic.specs.declared.expected.Expected.TheVariants.{Open}
-use Rattle.pp_generic.specs.Equal.{equal}
+use Rattle.pp_typed.specs.Equal.{equal}
 use Rattle.pp_generic.specs.Expected.{Found, exact, expect, every, known}
-use Rattle.pp_generic.specs.Found.{learn, none_found}
+use Rattle.pp_generic.specs.Found.{learn}
+use Rattle.pp_typed.specs.Operators.{takes, unary_sort}
 use Rattle.pp_typed.specs.Put.{put}
 use Rattle.pp_rules.specs.declared.callee.Callee.{Callee}
-use Rattle.pp_rules.specs.Elab.{Bound, Taken, alike, applied, arm, asserted, body_sort, chosen, condition, count, elab}
+use Rattle.pp_rules.specs.Elab.{Taken, alike, applied, arm, asserted, body_sort, chosen, condition, count, elab}
 use Rattle.pp_rules.specs.Elab.{elab_args, elab_cases, elab_pattern, field_of_ctor, field_placed, field_typed, finished}
-use Rattle.pp_rules.specs.Elab.{fitted, guarded_arm, inferred, is_sort, local_at, matched, name_at, named, negated}
-use Rattle.pp_rules.specs.Elab.{no_args, of_sort, operated, plain_arm, selected, started, taken, typed, val_expected}
+use Rattle.pp_rules.specs.Elab.{guarded_arm, inferred, is_sort, local_at, matched, name_at, named, negated}
+use Rattle.pp_rules.specs.Elab.{no_args, of_sort, plain_arm, selected, started, taken, typed, val_expected}
 use Rattle.pp_rules.specs.Elab.{valued}
 use Rattle.pp_operators.specs.Classes.{is_equality}
-use Rattle.pp_rules.specs.Operators.{admits, gives, right_expected, unary_sort}
+use Rattle.pp_rules.specs.Operators.{admits, right_expected}
 use Rattle.pp_rules.specs.Scope.{Env, Scope, clashes, place}
 use Rattle.pp_rules.specs.Shapes.{application, applied_by, field_place, field_sort, named_by, only_ctor}
 use Rattle.pp_rules.specs.Typing.{Suits, Starts, starts_expected, starts_written, Wants, wants_nothing, wants_written}
-use Rattle.pp_rules.specs.Typing.{TypesPattern, Types, an_int, a_bool, a_local, a_name, an_application, a_field}
+use Rattle.pp_rules.specs.Typing.{Types, an_int, a_bool, a_local, a_name, an_application, a_field}
 use Rattle.pp_rules.specs.Typing.{a_prefix, an_operation, a_choice, a_match, a_val, an_assert, Applies, applies}
 use Rattle.pp_rules.specs.Typing.{TypesArgs, no_arg, one_arg, TypesCases, no_case, one_case, one_guarded}
-use Rattle.pp_rules.specs.Written.{IsWritten, AreWritten, written, written_from}
+use Rattle.pp_rules.specs.Written.{written, written_from}
 use Rattle.pp_sorts.specs.IsSort.{count as count_types}
-use Rattle.pp_tree.specs.Plain.{Word, TypeTree, TypeTrees, no_types, more_types, PatternTree, Tree, int, bool, name}
+use Rattle.pp_tree.specs.Plain.{Word, TypeTree, TypeTrees, no_types, more_types, Tree, int, bool, name}
 use Rattle.pp_tree.specs.Plain.{apply, field, unary, binary, choice, matching, val_in, assert_in, Trees, no_trees}
 use Rattle.pp_tree.specs.Plain.{more_trees, CaseTrees, no_cases, plain_case, guarded_case}
 use Rattle.pp_typed.specs.declared.expr.TypedCase.{TypedCase}
 use Rattle.pp_typed.specs.declared.expr.TypedExpr.{TypedExpr}
 use Rattle.pp_typed.specs.declared.expr.TypedKind.TheVariants as kind
-use Rattle.pp_typed.specs.declared.expr.TypedKind.TheViews.{out-TypedCase, out-roll-TypedCase}
+use Rattle.pp_typed.specs.declared.expr.TypedKind.TheViews.{out-roll-TypedCase}
 use Rattle.pp_typed.specs.declared.pattern.TypedPattern.{TypedPattern}
 use Rattle.pp_typed.specs.declared.sort.GenericSort.{GenericSort}
 use Rattle.pp_typed.specs.declared.sort.GenericSort.TheOpen as layer
-use Rattle.pp_typed.specs.declared.sort.GenericSort.TheVariants as sort
 use Rattle.pp_typed.specs.declared.sort.GenericSort.TheViews.{out-GenericSort}
 use Rattle.pp_typing_laws.proofs.Patterns.{root_of, sound_pattern}
 use Rattle.pp_typing_laws.proofs.Steps.{then_ok, unless_ok, fresh_ok, agreed_ok, of_sort_ok, condition_ok}
@@ -223,13 +223,11 @@ module _ (env : Env) where
         let t = then_ok (elab env a sc (length sc) Open) _ e h in
         let m = unless_ok env (admits op t.0.of) Mismatch (name_at env a) t.0.at _ e t.2 in
         let u = then_ok (elab env b sc (length sc) (right_expected (is_equality op) t.0.of)) _ e m.1 in
-        let v = then_ok (of_sort env Mismatch t.0.of (name_at env b) u.0) (operated env at x op t.0) e u.2 in
-        let q = of_sort_ok env Mismatch t.0.of (name_at env b) u.0 v.0 v.1 in
-        let r = agreed_ok env x env.function _ e v.2 in
+        let q = unless_ok env (takes op t.0.of u.0.of) Mismatch (name_at env b) u.0.at _ e u.2 in
+        let r = agreed_ok env x env.function _ e q.1 in
         let ty = an_operation at op (sound a sc (length sc) Open t.0 t.1) m.0 (sound b sc (length sc)
         (right_expected (is_equality op) t.0.of) u.0 u.1) q.0 r.0 in
-        subst (Types env sc k x (binary at op a b)) (ap (λ z. typed env at (gives op t.0.of)
-        (kind.Binary op t.0 z)) q.1 ∙ r.1) ty
+        subst (Types env sc k x (binary at op a b)) r.1 ty
     sound (choice at c a b) sc k x e h =
         let t = then_ok (condition env (name_at env c) (elab env c sc (length sc) Open)) _ e h in
         let q = condition_ok env (name_at env c) (elab env c sc (length sc) Open) t.0 t.1 in

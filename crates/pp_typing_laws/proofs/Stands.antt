@@ -1,17 +1,18 @@
 -- A fault that is computed stands there.
-use Rattle.std.proofs.Common.{◌≡◌, ◌∙◌, ℕ, suc, List, [], ◌∷◌, ◌++◌, Ok, Err, Option, Some, None, Bool, true, false}
-use Rattle.std.proofs.Common.{refl, sym, ap, subst, nat_eq, length, map, eq-eqb}
-use Rattle.std.specs.Prelude.{◌≢◌, slice_get, ℤ}
+use Rattle.std.proofs.Common.{◌≡◌, ◌∙◌, ℕ, suc, List, [], ◌∷◌, ◌++◌, Ok, Err, Option, Some, None}
+use Rattle.std.proofs.Common.{refl, sym, ap, subst, nat_eq, length, map}
+use Rattle.std.specs.Prelude.{◌≢◌, slice_get}
 use Rattle.std.proofs.lemmas.Bool.{eqb-true}
 use Rattle.pp_fault.specs.declared.Fault.{Fault}
-use Rattle.pp_fault.specs.declared.Rule.TheVariants.{Unknown, Duplicate, Mismatch, Arity, CannotInfer, NotABoolean}
+use Rattle.pp_fault.specs.declared.Rule.TheVariants.{Duplicate, Mismatch, Arity, NotABoolean}
 use Rattle.pp_fault.specs.Part.{Part, and_then}
 use Rattle.pp_fault.proofs.Parts.{same_err, same_ok}
 use Rattle.pp_generic.specs.declared.expected.Expected.{Expected}
 use Rattle.pp_generic.specs.declared.expected.Expected.TheVariants.{Open}
-use Rattle.pp_generic.specs.Equal.{equal}
+use Rattle.pp_typed.specs.Equal.{equal}
 use Rattle.pp_generic.specs.Expected.{Found, exact, expect, every, known}
 use Rattle.pp_generic.specs.Found.{learn}
+use Rattle.pp_typed.specs.Operators.{takes, unary_sort}
 use Rattle.pp_typed.specs.Put.{put}
 use Rattle.pp_names.specs.Find.{find_ctor}
 use Rattle.pp_rules.specs.declared.callee.Callee.{Callee}
@@ -19,20 +20,18 @@ use Rattle.pp_rules.specs.Elab.{AllBound, Bound, Taken, alike, applied, argument
 use Rattle.pp_rules.specs.Elab.{chosen, condition, count, count_patterns, ctor_bound, ctor_found, elab, elab_args}
 use Rattle.pp_rules.specs.Elab.{elab_cases, elab_pattern, elab_patterns, field_of_ctor, field_placed, field_typed}
 use Rattle.pp_rules.specs.Elab.{finished, guarded_arm, inferred, is_sort, leaf, local_at, matched, name_at, named}
-use Rattle.pp_rules.specs.Elab.{negated, no_args, of_sort, operated, pattern_name, plain_arm, selected, started, taken}
-use Rattle.pp_rules.specs.Elab.{typed, val_expected, valued, with_ctor}
+use Rattle.pp_rules.specs.Elab.{negated, no_args, of_sort, pattern_name, plain_arm, selected, started, taken}
+use Rattle.pp_rules.specs.Elab.{val_expected, valued, with_ctor}
 use Rattle.pp_operators.specs.Classes.{is_equality}
-use Rattle.pp_rules.specs.Operators.{admits, gives, right_expected, unary_sort}
+use Rattle.pp_rules.specs.Operators.{admits, right_expected}
 use Rattle.pp_rules.specs.Scope.{Env, Scope, clashes, place}
 use Rattle.pp_rules.specs.Shapes.{applied_by, field_place, field_sort, named_by, only_ctor}
 use Rattle.pp_rules.specs.Typing.{Types, an_int, a_bool, a_local, a_name, an_application, a_field, a_prefix}
 use Rattle.pp_rules.specs.Typing.{an_operation, a_choice, a_match, a_val, an_assert, Applies, applies, Starts}
-use Rattle.pp_rules.specs.Typing.{TypesArgs, no_arg, TypesCases, TypesPattern}
+use Rattle.pp_rules.specs.Typing.{TypesArgs, no_arg, TypesCases}
 use Rattle.pp_rules.specs.Written.{written, written_from}
 use Rattle.pp_sorts.proofs.Broken.{stands, one_stands}
 use Rattle.pp_sorts.specs.IsSort.{count as count_types}
-use Rattle.pp_tree.specs.declared.operator.BinaryOp.{BinaryOp}
-use Rattle.pp_tree.specs.declared.operator.UnaryOp.{UnaryOp}
 use Rattle.pp_tree.specs.Plain.{Word, TypeTree, TypeTrees, no_types, more_types, PatternTree, any, int_pattern}
 use Rattle.pp_tree.specs.Plain.{bool_pattern, ctor_pattern, PatternTrees, no_patterns, more_patterns, Tree, int, bool}
 use Rattle.pp_tree.specs.Plain.{name, apply, field, unary, binary, choice, matching, val_in, assert_in, Trees, no_trees}
@@ -51,8 +50,8 @@ use Rattle.pp_typing_laws.proofs.Faulty.{then_err, uneven, differs, unless_err, 
 use Rattle.pp_typing_laws.proofs.Faulty.{of_sort_err}
 use Rattle.pp_typing_laws.proofs.Patterns.{root_of, shows_root, bind_ok, arguments_ok, sound_pattern}
 use Rattle.pp_typing_laws.proofs.Sound.{sound, sound_args, sound_cases, started_ok, wanted_ok, taken_ok, arm_sort}
-use Rattle.pp_typing_laws.proofs.Steps.{then_ok, of_sort_ok, condition_ok, is_sort_is, nothing_left}
-use Rattle.pp_typing_laws.specs.Faults.{at_of, flawed, Misfits, BreaksBinding, bound_again, BreaksPattern, any_bound}
+use Rattle.pp_typing_laws.proofs.Steps.{then_ok, of_sort_ok, is_sort_is, nothing_left}
+use Rattle.pp_typing_laws.specs.Faults.{at_of, flawed, BreaksBinding, bound_again, BreaksPattern, any_bound}
 use Rattle.pp_typing_laws.specs.Faults.{int_bound, int_unfit, bool_bound, bool_unfit, ctor_unknown, ctor_absent}
 use Rattle.pp_typing_laws.specs.Faults.{ctor_of_other, ctor_arity, ctor_bound as binder_of_ctor, ctor_parts}
 use Rattle.pp_typing_laws.specs.Faults.{BreaksPatterns, this_pattern, later_pattern, BreaksWritten, in_type, Breaks}
@@ -453,12 +452,10 @@ module _ (env : Env) where
         (λ e. in_right at op ty (stands_expr b sc (length sc) (right_expected (is_equality op) t.of) f e))
         (λ u is2 rest3.
         let tu = sound env b sc (length sc) (right_expected (is_equality op) t.of) u is2 in
-        then_err (of_sort env Mismatch t.of (name_at env b) u) (operated env at x op t) f rest3
-        (λ e.
-        let q = of_sort_err env Mismatch t.of (name_at env b) u f e in
-        subst (Breaks env sc k x (binary at op a b)) (ap (flawed env Mismatch (name_at env b)) (sym
-        (at_typed tu)) ∙ q.1) (unfit_right at op ty tu q.0))
-        (λ v is3 rest4.
+        unless_err env (takes op t.of u.of) Mismatch (name_at env b) u.at _ f rest3
+        (λ m2 e. subst (Breaks env sc k x (binary at op a b)) (ap (flawed env Mismatch (name_at env b)) (sym
+        (at_typed tu)) ∙ e) (unfit_right at op ty tu m2))
+        (λ m2 rest4.
         let q = agreed_err env x env.function _ f rest4 in
         subst (Breaks env sc k x (binary at op a b)) q.1 (unfit_binary at op ty q.0)))))
     stands_expr (choice at c a b) sc k x f h =

@@ -1,6 +1,6 @@
 -- What it tells that a step of the computation gives a typing.
 use Rattle.std.proofs.Common.{◌≡◌, ◌∙◌, ℕ, List, [], ◌∷◌, Ok, Err, Option, Some, None, Bool, true, false, refl, sym, ap}
-use Rattle.std.proofs.Common.{subst, nat_eq, length, map, arith}
+use Rattle.std.proofs.Common.{subst, length, arith}
 use Rattle.std.specs.Prelude.{if◌then◌else◌}
 use Rattle.pp_fault.specs.declared.Rule.{Rule}
 use Rattle.pp_fault.specs.declared.Rule.TheVariants.{NotABoolean}
@@ -8,8 +8,8 @@ use Rattle.pp_fault.specs.Part.{Part, and_then}
 use Rattle.pp_fault.proofs.Parts.{goes, same_ok}
 use Rattle.pp_generic.proofs.Equal.{equal_same, equal_self}
 use Rattle.pp_generic.specs.declared.expected.Expected.{Expected}
-use Rattle.pp_generic.specs.Equal.{equal}
-use Rattle.pp_generic.specs.Expected.{Found, fits}
+use Rattle.pp_typed.specs.Equal.{equal}
+use Rattle.pp_generic.specs.Expected.{fits}
 use Rattle.pp_rules.specs.Elab.{agreed, condition, flaw, is_sort, of_sort, unless}
 use Rattle.pp_rules.specs.Scope.{Env}
 use Rattle.pp_rules.specs.Typing.{Suits}

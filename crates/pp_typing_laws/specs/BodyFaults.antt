@@ -1,5 +1,5 @@
 -- Which rules are broken where in a function's contracts and body. Source: own.
-use Rattle.std.specs.Prelude.{◌≡◌, ◌≢◌, ℕ, true, List, [], ◌∷◌, ◌++◌, length, Option, Some, None}
+use Rattle.std.specs.Prelude.{◌≡◌, ◌≢◌, ℕ, true, List, [], ◌∷◌, ◌++◌, length, Some}
 use Rattle.pp_fault.specs.declared.Fault.{Fault}
 use Rattle.pp_fault.specs.declared.Rule.TheVariants.{Duplicate, Mismatch}
 use Rattle.pp_generic.specs.declared.expected.Expected.TheVariants.{Open}

@@ -9,12 +9,13 @@ use Rattle.pp_generic.specs.declared.expected.Expected.{Expected}
 use Rattle.pp_generic.specs.declared.expected.Expected.TheVariants.{Open}
 use Rattle.pp_generic.specs.Expected.{Found, exact, expect, every, fits, known}
 use Rattle.pp_generic.specs.Found.{learn}
+use Rattle.pp_typed.specs.Operators.{gives, takes, unary_sort}
 use Rattle.pp_typed.specs.Put.{put}
 use Rattle.pp_names.specs.Find.{find_ctor}
 use Rattle.pp_rules.specs.declared.callee.Callee.{Callee}
 use Rattle.pp_rules.specs.Elab.{count, count_patterns, name_at, pattern_name}
 use Rattle.pp_operators.specs.Classes.{is_equality}
-use Rattle.pp_rules.specs.Operators.{admits, gives, right_expected, unary_sort}
+use Rattle.pp_rules.specs.Operators.{admits, right_expected}
 use Rattle.pp_rules.specs.Scope.{Env, Scope, clashes, place}
 use Rattle.pp_rules.specs.Shapes.{applied_by, field_place, field_sort, named_by, only_ctor}
 use Rattle.pp_rules.specs.Typing.{Binds, Starts, Types, TypesArgs, TypesPattern, Wants}
@@ -23,7 +24,7 @@ use Rattle.pp_sorts.specs.IsSort as written
 use Rattle.pp_tree.specs.declared.operator.BinaryOp.{BinaryOp}
 use Rattle.pp_tree.specs.declared.operator.UnaryOp.{UnaryOp}
 use Rattle.pp_tree.specs.Plain.{Word, TypeTree, TypeTrees, no_types, more_types, PatternTree, any, int_pattern}
-use Rattle.pp_tree.specs.Plain.{bool_pattern, ctor_pattern, PatternTrees, no_patterns, more_patterns, Tree, int, bool}
+use Rattle.pp_tree.specs.Plain.{bool_pattern, ctor_pattern, PatternTrees, more_patterns, Tree, int, bool}
 use Rattle.pp_tree.specs.Plain.{name, apply, field, unary, binary, choice, matching, val_in, assert_in, Trees, no_trees}
 use Rattle.pp_tree.specs.Plain.{more_trees, CaseTrees, no_cases, plain_case, guarded_case}
 use Rattle.pp_typed.specs.declared.expr.TypedExpr.{TypedExpr}
@@ -162,7 +163,7 @@ module _ (env : Env) where
           → Breaks sc k x (binary at op a b) f
       unfit_right : {sc : Scope} {k : ℕ} {x : Expected} {a b : Tree} {t u : TypedExpr} (at : ℕ) (op : BinaryOp)
           → Types env sc (length sc) Open a t → Types env sc (length sc) (right_expected (is_equality op) t.of) b u
-          → u.of ≢ t.of → Breaks sc k x (binary at op a b) (flawed Mismatch (name_at env b) (at_of b))
+          → takes op t.of u.of ≡ false → Breaks sc k x (binary at op a b) (flawed Mismatch (name_at env b) (at_of b))
       unfit_binary : {sc : Scope} {k : ℕ} {x : Expected} {a b : Tree} {t : TypedExpr} (at : ℕ) (op : BinaryOp)
           → Types env sc (length sc) Open a t → Misfits x (gives op t.of)
           → Breaks sc k x (binary at op a b) (flawed Mismatch env.function at)

@@ -5,16 +5,15 @@ use Rattle.std.proofs.Common.{◌∙◌, subst, append_assoc}
 use Rattle.std.specs.Prelude.{◌↔◌, IsTrue, Option, Some, None, is_none, is_some, slice_get, Contains}
 use Rattle.std.proofs.lemmas.List.{append-nil, map-append, map_push}
 use Rattle.std.proofs.lemmas.List.Elements.{Contains-push, Contains-append_left}
-use Rattle.pp_instances.proofs.Parts.{joined_push as members_push}
-use Rattle.pp_instances.specs.Same.{joined as joined_members}
+use Rattle.pp_list.specs.Joined.{joined}
+use Rattle.pp_list.proofs.Joined.{joined_push}
 use Rattle.pp_instances.specs.Uses.{case_mentions, function_at, guard_mentions, mentions, types_of}
 use Rattle.pp_instances.specs.declared.member.Member.{Member}
-use Rattle.pp_prog.proofs.Called.{joined_push}
-use Rattle.pp_prog.specs.Calls.{OneGroup, joined}
+use Rattle.pp_prog.specs.Calls.{OneGroup}
 use Rattle.pp_prog.specs.ExprSorts.{sort_of}
 use Rattle.pp_prog.specs.Listing.{CaseSites, Site, Sites, division, assertion, precondition, measure, matching, at_sort}
-use Rattle.pp_prog.specs.Listing.{case_sites, division_site, operator_site, site_step, sites, sites_of_cases, unguarded}
-use Rattle.pp_prog.specs.Listing.{unless_guarded, with_bound}
+use Rattle.pp_prog.specs.Listing.{case_beside, case_sites, division_site, operator_site, site_step, sites}
+use Rattle.pp_prog.specs.Listing.{sites_in_case, sites_of_cases, unguarded, unless_guarded, with_bound, with_case_sites}
 use Rattle.pp_prog.specs.PatternSorts.{bound_sorts}
 use Rattle.pp_prog.specs.Valid.{Carries, Covers, has_measure, has_precondition}
 use Rattle.pp_prog.specs.declared.check.CheckKind.TheVariants as check
@@ -56,7 +55,7 @@ use Rattle.pp_validity.proofs.Exprs.{OneCase, split, split_cases}
 use Rattle.pp_validity.proofs.Known.{HasTypes, IsKnown}
 use Rattle.pp_validity.proofs.Listed.{Lists, lists_append, lists_none, lists_same, one_if, plain_site}
 use Rattle.pp_validity.proofs.Patterns.{pattern_binds}
-use Rattle.pp_prog.proofs.SiteForms.{In, case_beside, sites_in_case, sites_int, sites_bool, sites_var, sites_unary}
+use Rattle.pp_prog.proofs.SiteForms.{In, sites_int, sites_bool, sites_var, sites_unary}
 use Rattle.pp_prog.proofs.SiteForms.{sites_binary, sites_construct, sites_field, sites_if, sites_match, sites_val}
 use Rattle.pp_prog.proofs.SiteForms.{sites_assert, sites_call}
 use Rattle.pp_validity.proofs.Sites.{offsets_int, offsets_bool, offsets_local, offsets_call, offsets_construct}
@@ -73,7 +72,8 @@ pub record IsGrouped (typed : Typed) (set : Setting) (ms : List Member) (fs : Li
         → has_precondition (slice_get fs (function_number set.functions f args).0) ≡ has_pre (slice_get typed.defs f)
     pub measures : (f : ℕ) (d : TypedDef) (args : List GenericSort) → slice_get typed.defs f ≡ Some d
         → Contains ms (function_at f args)
-        → has_measure (slice_get fs (function_number set.functions f args).0) ≡ has_typed_measure (slice_get typed.defs f)
+        → has_measure (slice_get fs (function_number set.functions f args).0)
+        ≡ has_typed_measure (slice_get typed.defs f)
     pub measured : own.measured ≡ has_measure (slice_get fs own.number)
     pub grouped : (g : ℕ) (h : Function) → slice_get fs g ≡ Some h
         → IsTrue (same_number (slice_get set.groups own.number) (slice_get set.groups g)) ↔ OneGroup fs own.number g
@@ -164,7 +164,7 @@ module _ (typed : Typed) (set : Setting) (ms : List Member) (fs : List Function)
 
   -- a case, by its parts
   case_is : (sc : List Sort) (p : Pattern) (guard : Option Expr) (body : Expr) (s : Sort)
-      → sites_in_case set.types fs sc (record { pattern = p; guard = guard; body = body }) s sc
+      → sites_in_case set.types fs (record { pattern = p; guard = guard; body = body }) s sc
       ≡ with_bound (bound_sorts set.types.ctors p s) (λ bound. guard_in guard (sc ++ bound) ++ sites set.types fs body
       (sc ++ bound))
   case_is sc p None body s = ap (λ (f : CaseSites). f s sc)
@@ -196,26 +196,26 @@ module _ (typed : Typed) (set : Setting) (ms : List Member) (fs : List Function)
   same_guard p no_guard = refl
   same_guard p (one_guard t) = refl
 
-  case_patterns : (sc : List Sort) {at : GenericSort} {c : TypedCase} {y : Case} {old new : List CheckAt}
+  case_patterns : {at : GenericSort} {c : TypedCase} {y : Case} {old new : List CheckAt}
       → TranslateCase typed set own at c y old new
-      → unguarded (case_beside set.types fs sc y ∷ []) ≡ unguarded_case typed set.roots at c
-  case_patterns sc {at} (one_case c {guard = guard} {body = body} tg tb) =
+      → unguarded (case_beside set.types fs y ∷ []) ≡ unguarded_case typed set.roots at c
+  case_patterns {at} (one_case c {guard = guard} {body = body} tg tb) =
       let z : prog_layer.Case-F Expr Case =
       record { pattern = pattern_at typed set.roots (out-TypedCase c).pattern at; guard = guard; body = body } in
       ap (λ (k : prog_layer.Case-F Expr Case). unless_guarded k.guard k.pattern []) (out-roll-Case z)
       ∙ same_guard (pattern_at typed set.roots (out-TypedCase c).pattern at) tg
 
-  covered_patterns : (sc : List Sort) {at : GenericSort} {cs : List TypedCase} {ys : List Case} {old new : List CheckAt}
+  covered_patterns : {at : GenericSort} {cs : List TypedCase} {ys : List Case} {old new : List CheckAt}
       → TranslateCases typed set own at cs ys old new
-      → unguarded (map (case_beside set.types fs sc) ys) ≡ unguarded_at typed set.roots at cs
-  covered_patterns sc no_cases = refl
-  covered_patterns sc {at} (more_cases {cases = cs} {c = c} {ys = ys} {y = y} before one) =
-      ap unguarded (map_push (case_beside set.types fs sc) ys y)
-      ∙ unguarded_append (map (case_beside set.types fs sc) ys) (case_beside set.types fs sc y ∷ [])
-      ∙ ap (λ l. l ++ unguarded (case_beside set.types fs sc y ∷ [])) (covered_patterns sc before)
-      ∙ ap (λ l. unguarded_at typed set.roots at cs ++ l) (case_patterns sc one)
-      ∙ sym (members_push (map (unguarded_case typed set.roots at) cs) (unguarded_case typed set.roots at c))
-      ∙ ap joined_members (sym (map_push (unguarded_case typed set.roots at) cs c))
+      → unguarded (with_case_sites set.types fs ys) ≡ unguarded_at typed set.roots at cs
+  covered_patterns no_cases = refl
+  covered_patterns {at} (more_cases {cases = cs} {c = c} {ys = ys} {y = y} before one) =
+      ap unguarded (map_push (case_beside set.types fs) ys y)
+      ∙ unguarded_append (with_case_sites set.types fs ys) (case_beside set.types fs y ∷ [])
+      ∙ ap (λ l. l ++ unguarded (case_beside set.types fs y ∷ [])) (covered_patterns before)
+      ∙ ap (λ l. unguarded_at typed set.roots at cs ++ l) (case_patterns one)
+      ∙ sym (joined_push (map (unguarded_case typed set.roots at) cs) (unguarded_case typed set.roots at c))
+      ∙ ap joined (sym (map_push (unguarded_case typed set.roots at) cs c))
 
   -- the site of a match
   match_site : (e m : TypedExpr) (cs : List TypedCase) (ps : List Pattern) (mid : List CheckAt) (covered : Bool)
@@ -256,10 +256,10 @@ module _ (typed : Typed) (set : Setting) (ms : List Member) (fs : List Function)
         (kind.outs-Call f sorts es) in
         let inside = in_call ms own.args e f sorts es is w in
         let there = inside (function_at f sorts)
-        (Contains-append_left (function_at f sorts ∷ []) (types_of sorts ++ joined_members (map mentions es))
+        (Contains-append_left (function_at f sorts ∷ []) (types_of sorts ++ joined (map mentions es))
         (function_at f sorts) (Contains-push [] (function_at f sorts))) in
-        let later = in_right ms own.args (types_of sorts) (joined_members (map mentions es))
-        (in_right ms own.args (function_at f sorts ∷ []) (types_of sorts ++ joined_members (map mentions es))
+        let later = in_right ms own.args (types_of sorts) (joined (map mentions es))
+        (in_right ms own.args (function_at f sorts ∷ []) (types_of sorts ++ joined (map mentions es))
         inside) in
         let g = known.functions f c.d (map (put own.args) sorts) c.declared there in
         same _ _ _ _ old new (sites_call set.types fs (map G scope) (callee typed set own f sorts) xs _ _)
@@ -269,7 +269,7 @@ module _ (typed : Typed) (set : Setting) (ms : List Member) (fs : List Function)
     lists_expr {e} {old = old} {new = new} {scope = scope} (of_construct {es = es} {xs = xs} c sorts is all) h w =
         let f = exprs.at_form typed set ms fs known own params own_types e (kind.Construct c sorts es) _ h is
         (kind.outs-Construct c sorts es) in
-        let later = in_right ms own.args (types_of sorts) (joined_members (map mentions es))
+        let later = in_right ms own.args (types_of sorts) (joined (map mentions es))
         (in_construct ms own.args e c sorts es is w) in
         same _ _ _ _ old new (sites_construct set.types fs (map G scope) _ xs) (offsets_construct e c sorts es is)
         (lists_all all f.args_sorted later)
@@ -311,9 +311,9 @@ module _ (typed : Typed) (set : Setting) (ms : List Member) (fs : List Function)
         let f = exprs.at_form typed set ms fs known own params own_types e (kind.Match m cs) _ h is
         (kind.outs-Match m cs) in
         let inside = in_match ms own.args e m cs is w in
-        let within = in_left ms own.args (mentions m) (joined_members (map case_mentions cs)) inside in
+        let within = in_left ms own.args (mentions m) (joined (map case_mentions cs)) inside in
         let sc = map G scope in
-        let arms = map (case_beside set.types fs sc) ys in
+        let arms = with_case_sites set.types fs ys in
         let n = number_if (not covered) mid in
         let after = more_if (not covered) (check_at typed set own check.Match e) mid in
         let at_value : at_sort (sort_of set.types fs x sc)
@@ -328,8 +328,8 @@ module _ (typed : Typed) (set : Setting) (ms : List Member) (fs : List Function)
         (lists_expr tm f.matched within)
         (two (matching (G m.of) (unguarded arms) n ∷ []) (sites_of_cases arms (G m.of) sc) ((e.source, e.at) ∷ [])
         (joined (map offsets_in_case cs)) mid after new
-        (match_site e m cs (unguarded arms) mid covered (covered_patterns sc tc) exact)
-        (lists_cases tc refl f.cases_sorted (in_right ms own.args (mentions m) (joined_members (map case_mentions cs))
+        (match_site e m cs (unguarded arms) mid covered (covered_patterns tc) exact)
+        (lists_cases tc refl f.cases_sorted (in_right ms own.args (mentions m) (joined (map case_mentions cs))
         inside) (exprs.sort_types typed set ms fs known own params own_types m within))))
     lists_expr {e} {old = old} {new = new} {scope = scope}
         (of_val {bound = a} {rest = b} {x = x} {y = y} {mid = mid} is ta tb) h w =
@@ -362,7 +362,7 @@ module _ (typed : Typed) (set : Setting) (ms : List Member) (fs : List Function)
 
     pub lists_all : {es : List TypedExpr} {xs : List Expr} {old new : List CheckAt} {scope ss : List GenericSort}
         → TranslateAll typed set own es xs old new
-        → AreSorted typed params scope ss es → Within ms own.args (joined_members (map mentions es))
+        → AreSorted typed params scope ss es → Within ms own.args (joined (map mentions es))
         → L (joined (map (At scope) xs)) (joined (map site_offsets es)) old new
     lists_all {old = old} no_exprs h w = lists_none set.types fs own.number old
     lists_all {old = old} {new = new} {scope = scope} (one_more {es = es} {e = e} {xs = xs} {x = x} {mid = mid} before
@@ -385,7 +385,7 @@ module _ (typed : Typed) (set : Setting) (ms : List Member) (fs : List Function)
         → TranslateCase typed set own at c y old new
         → at ≡ put own.args s → OneCase typed params scope s of c → Within ms own.args (case_mentions c)
         → HasTypes ms (put own.args s)
-        → L (sites_in_case set.types fs (map G scope) y (G s) (map G scope)) (offsets_in_case c) old new
+        → L (sites_in_case set.types fs y (G s) (map G scope)) (offsets_in_case c) old new
     lists_case {s} {at = at} {old = old} {new = new} {scope = scope}
         (one_case c {guard = guard} {body = body} {mid = mid} tg tb) is o w types =
         let parts = in_case ms own.args c w in
@@ -407,8 +407,8 @@ module _ (typed : Typed) (set : Setting) (ms : List Member) (fs : List Function)
     lists_cases : {s of at : GenericSort} {cs : List TypedCase} {ys : List Case} {old new : List CheckAt}
         {scope : List GenericSort} → TranslateCases typed set own at cs ys old new
         → at ≡ put own.args s → AreSortedCases typed params scope s of cs
-        → Within ms own.args (joined_members (map case_mentions cs)) → HasTypes ms (put own.args s)
-        → L (sites_of_cases (map (case_beside set.types fs (map G scope)) ys) (G s) (map G scope))
+        → Within ms own.args (joined (map case_mentions cs)) → HasTypes ms (put own.args s)
+        → L (sites_of_cases (with_case_sites set.types fs ys) (G s) (map G scope))
         (joined (map offsets_in_case cs)) old new
     lists_cases {old = old} no_cases is h w types = lists_none set.types fs own.number old
     lists_cases {s} {old = old} {new = new} {scope = scope}
@@ -416,11 +416,11 @@ module _ (typed : Typed) (set : Setting) (ms : List Member) (fs : List Function)
         let r = split_cases typed params scope cs c h in
         let parts = in_parts ms own.args case_mentions cs c w in
         let sc = map G scope in
-        let pair = case_beside set.types fs sc in
+        let pair = case_beside set.types fs in
         same _ _ _ _ old new
         (ap (λ l. sites_of_cases l (G s) sc) (map_push pair ys y) ∙ of_cases_append (map pair ys) (pair y ∷ []) (G s) sc
-        ∙ ap (λ l. sites_of_cases (map pair ys) (G s) sc ++ l) (append-nil (sites_in_case set.types fs sc y (G s) sc)))
+        ∙ ap (λ l. sites_of_cases (map pair ys) (G s) sc ++ l) (append-nil (sites_in_case set.types fs y (G s) sc)))
         (ap joined (map_push offsets_in_case cs c) ∙ joined_push (map offsets_in_case cs) (offsets_in_case c))
-        (two (sites_of_cases (map pair ys) (G s) sc) (sites_in_case set.types fs sc y (G s) sc)
+        (two (sites_of_cases (map pair ys) (G s) sc) (sites_in_case set.types fs y (G s) sc)
         (joined (map offsets_in_case cs)) (offsets_in_case c) old mid new
         (lists_cases before is r.0 parts.0 types) (lists_case one is r.1 parts.1 types))

@@ -4,11 +4,10 @@ use Rattle.std.proofs.Common.{append_assoc, subst, arith}
 use Rattle.std.specs.Prelude.{Option, Some, None, is_some, Contains, All}
 use Rattle.std.proofs.lemmas.List.{append-nil, map_push}
 use Rattle.std.proofs.lemmas.Bool.{and_from}
-use Rattle.pp_instances.specs.Same.{joined as joined_members}
+use Rattle.pp_list.specs.Joined.{joined}
 use Rattle.pp_instances.specs.Uses.{mentions, post_mentions, text_mentions}
 use Rattle.pp_instances.specs.declared.member.Instance.{Instance}
 use Rattle.pp_instances.specs.declared.member.Member.{Member}
-use Rattle.pp_prog.specs.Calls.{joined}
 use Rattle.pp_prog.specs.ExprSorts.{binary_sort, has_the_sort, is_of_sort, is_sorted, is_sorted_measure, is_sorted_post}
 use Rattle.pp_prog.specs.ExprSorts.{is_sorted_pre, sort_of}
 use Rattle.pp_prog.specs.Listing.{Site, function_sites, measure_sites, plain, post_sites, postcondition, pre_sites}
@@ -40,14 +39,14 @@ use Rattle.pp_typed.specs.declared.sort.GenericSort.TheVariants as sort
 use Rattle.pp_typed.specs.declared.typed.Typed.{Typed}
 use Rattle.pp_typed.specs.declared.typed.TypedDef.{TypedDef}
 use Rattle.pp_typed.specs.declared.typed.TypedPost.{TypedPost}
-use Rattle.pp_prog.proofs.Called.{joined_push}
+use Rattle.pp_list.proofs.Joined.{joined_push}
 use Rattle.pp_validity.proofs.Carried.{IsGrouped, lists_all, lists_expr}
 use Rattle.pp_validity.proofs.Exprs.{sorted_all, sorted_expr, split}
 use Rattle.pp_prog.proofs.SortForms.{Sorted, sort_of_binary}
 use Rattle.pp_validity.proofs.Ground.{sort_at_bool}
 use Rattle.pp_validity.proofs.Known.{HasTypes, IsKnown}
 use Rattle.pp_validity.proofs.Listed.{Lists, lists_append, lists_none, lists_same, one_if, plain_site}
-use Rattle.pp_validity.proofs.Operators.{same_self}
+use Rattle.pp_prog.proofs.ValueSorts.{its_sort}
 use Rattle.pp_validity.proofs.Patterns.{map_map}
 use Rattle.pp_prog.proofs.SiteForms.{sites_binary}
 use Rattle.pp_validity.proofs.Within.{Within, in_left, in_right, in_parts}
@@ -107,12 +106,12 @@ module _ (typed : Typed) (set : Setting) (ms : List Member) (fs : List Function)
   abbrev own_sort : TypedExpr → GenericSort
   own_sort e = e.of
 
-  each : (es : List TypedExpr) → All (IsSorted typed d.type_params scope) es
+  exprs_sorted : (es : List TypedExpr) → All (IsSorted typed d.type_params scope) es
       → AreSorted typed d.type_params scope (map own_sort es) es
-  each [] h = none_sorted
-  each (e ∷ es) h =
+  exprs_sorted [] h = none_sorted
+  exprs_sorted (e ∷ es) h =
       more_sorted (head_of (IsSorted typed d.type_params scope) e es h) refl
-      (each es (tail_of (IsSorted typed d.type_params scope) e es h))
+      (exprs_sorted es (tail_of (IsSorted typed d.type_params scope) e es h))
 
   measure_sorted : (xs : List Expr) (ss : List GenericSort) → map (Sorted set.types fs sc) xs ≡ map some ss
       → is_sorted_measure set.types fs xs sc ≡ true
@@ -168,7 +167,7 @@ module _ (typed : Typed) (set : Setting) (ms : List Member) (fs : List Function)
 
   each_lists : {es : List TypedExpr} {xs : List Expr} {old new : List CheckAt} {ss : List GenericSort}
       → TranslateAll typed set own es xs old new
-      → AreSorted typed d.type_params scope ss es → Within ms own.args (joined_members (map mentions es))
+      → AreSorted typed d.type_params scope ss es → Within ms own.args (joined (map mentions es))
       → Chain ListsOne xs ([], old) (joined (map site_offsets es), new)
   each_lists no_exprs h w = none_leads
   each_lists (one_more {es = es} {e = e} {xs = xs} {x = x} before t) h w =
@@ -190,7 +189,7 @@ module _ (typed : Typed) (set : Setting) (ms : List Member) (fs : List Function)
 
   pre_lists : {es : List TypedExpr} {xs : List Expr} {old new : List CheckAt} {ss : List GenericSort}
       → TranslateAll typed set own es xs old new
-      → AreSorted typed d.type_params scope ss es → Within ms own.args (joined_members (map mentions es))
+      → AreSorted typed d.type_params scope ss es → Within ms own.args (joined (map mentions es))
       → L (pre_sites set.types fs (as_one xs) sc) (joined (map site_offsets es)) old new
   pre_lists {es} {xs} {old} {new} t h w =
       one_lists (as_one xs) (joined (map site_offsets es)) old new (as_one_leads ListsOne both_list (each_lists t h w))
@@ -206,15 +205,15 @@ module _ (typed : Typed) (set : Setting) (ms : List Member) (fs : List Function)
       ∙ map_map G sort_of_param d.params
 
   record Parts : Type 0 where
-    pre : Within ms own.args (joined_members (map mentions d.pre))
-    measure : Within ms own.args (joined_members (map mentions d.measure))
+    pre : Within ms own.args (joined (map mentions d.pre))
+    measure : Within ms own.args (joined (map mentions d.measure))
     body : Within ms own.args (mentions d.body)
     post : Within ms own.args (post_mentions d.post)
 
   parts_of : Within ms own.args (text_mentions d) → Parts
   parts_of w =
-      let a = joined_members (map mentions d.pre) in
-      let b = joined_members (map mentions d.measure) in
+      let a = joined (map mentions d.pre) in
+      let b = joined (map mentions d.measure) in
       let abc = in_left ms own.args (a ++ b ++ mentions d.body) (post_mentions d.post) w in
       let ab = in_left ms own.args (a ++ b) (mentions d.body) abc in
       record {
@@ -234,7 +233,7 @@ module _ (typed : Typed) (set : Setting) (ms : List Member) (fs : List Function)
 
   right : (x : Expr) (l : List Sort) (s t : Sort) → sort_of set.types fs x l ≡ Some t → t ≡ s
       → is_of_sort set.types fs s l x ≡ true
-  right x l s t h e = ap (has_the_sort set.types fs s) h ∙ ap (λ (z : Sort). same_sort z s) e ∙ same_self s
+  right x l s t h e = ap (has_the_sort set.types fs s) h ∙ ap (λ (z : Sort). same_sort z s) e ∙ its_sort s
 
   abbrev with_result : List GenericSort
   with_result = scope ++ d.result ∷ []
@@ -282,7 +281,7 @@ module _ (typed : Typed) (set : Setting) (ms : List Member) (fs : List Function)
   def_sorted {f = f} t h w =
       let parts = parts_of w in
       let pre = sorted_all typed set ms fs known own d.type_params own_types t.pre.each (bools d.pre h.pre) parts.pre in
-      let measure = sorted_all typed set ms fs known own d.type_params own_types t.measure (each d.measure h.measure)
+      let measure = sorted_all typed set ms fs known own d.type_params own_types t.measure (exprs_sorted d.measure h.measure)
       parts.measure in
       let body = sorted_expr typed set ms fs known own d.type_params own_types t.body h.body.0 parts.body in
       ap (λ (l : List Sort). is_sorted_pre set.types fs f.pre l &&
@@ -303,7 +302,7 @@ module _ (typed : Typed) (set : Setting) (ms : List Member) (fs : List Function)
       let parts = parts_of w in
       let pre = pre_lists t.pre.each (bools d.pre h.pre) parts.pre in
       let measure = lists_all typed set ms fs known own grouped d.type_params own_types t.measure
-      (each d.measure h.measure) parts.measure in
+      (exprs_sorted d.measure h.measure) parts.measure in
       let body = lists_expr typed set ms fs known own grouped d.type_params own_types t.body h.body.0 parts.body in
       let post = post_lists f t.result t.post h.post parts.post in
       let a = pre_sites set.types fs (as_one t.pre.parts) sc in

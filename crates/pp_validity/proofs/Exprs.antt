@@ -7,14 +7,15 @@ use Rattle.std.proofs.lemmas.List.{length-map, map-append, map_push}
 use Rattle.std.proofs.lemmas.List.Elements.{Contains-get_or, Contains-push, Contains-push_cases, Contains-append_left}
 use Rattle.std.proofs.lemmas.List.Elements.{Contains-append_right}
 use Rattle.std.proofs.lemmas.Option.{slice_get-map, slice_get_within, get_or_from_slice_get}
+use Rattle.pp_list.specs.Joined.{joined}
 use Rattle.pp_instances.proofs.Kept.{nothing_in}
-use Rattle.pp_instances.specs.Same.{joined, place_of}
+use Rattle.pp_instances.specs.Same.{place_of}
 use Rattle.pp_instances.specs.Uses.{case_mentions, function_at, guard_mentions, mentions, root_at, types_of}
 use Rattle.pp_instances.specs.declared.member.Member.{Member}
 use Rattle.pp_prog.specs.ExprSorts.{Arm, Sorting, a_bool, a_tree, alike, arm_sort, arm_step, arm_with, arms_like}
-use Rattle.pp_prog.specs.ExprSorts.{arms_sort, binary_sort, call_sort, field_of_ctor, field_of_data, field_sort}
-use Rattle.pp_prog.specs.ExprSorts.{guarded_sort, match_sorts, sort_if, sort_of, sort_step, then_sort, tree_sort}
-use Rattle.pp_prog.specs.ExprSorts.{unary_sort}
+use Rattle.pp_prog.specs.ExprSorts.{arms_sort, binary_sort, call_sort, case_sorts, field_of_ctor, field_of_data}
+use Rattle.pp_prog.specs.ExprSorts.{field_sort, guarded_sort, match_sorts, sort_if, sort_of, sort_step, then_sort}
+use Rattle.pp_prog.specs.ExprSorts.{tree_sort, unary_sort}
 use Rattle.pp_prog.specs.PatternSorts.{bound_sorts}
 use Rattle.pp_prog.specs.Sorts.{param_sorts as sorts_of_params}
 use Rattle.pp_prog.specs.declared.expr.Case.{Case}
@@ -49,12 +50,13 @@ use Rattle.pp_typed.specs.declared.sort.GenericSort.{GenericSort}
 use Rattle.pp_typed.specs.declared.sort.GenericSort.TheVariants as sort
 use Rattle.pp_typed.specs.declared.typed.Typed.{Typed}
 use Rattle.pp_typed_forms.proofs.Forms.{IsOfForm, Layer, form}
-use Rattle.pp_prog.proofs.SortForms.{Sorted, arm, sort_of_int, sort_of_bool, sort_of_var, sort_of_unary, sort_of_binary}
+use Rattle.pp_prog.proofs.SortForms.{Sorted, sort_of_int, sort_of_bool, sort_of_var, sort_of_unary, sort_of_binary}
 use Rattle.pp_prog.proofs.SortForms.{sort_of_construct, sort_of_call, sort_of_field, sort_of_if, sort_of_match}
 use Rattle.pp_prog.proofs.SortForms.{sort_of_val, sort_of_assert}
+use Rattle.pp_prog.proofs.ValueSorts.{its_sort}
 use Rattle.pp_validity.proofs.Ground.{put_put, puts_puts, sort_at_int, sort_at_bool, sort_at_root}
 use Rattle.pp_validity.proofs.Known.{HasTypes, IsKnown}
-use Rattle.pp_validity.proofs.Operators.{alike_self, binary_right, same_self, unary_right}
+use Rattle.pp_validity.proofs.Operators.{alike_self, binary_right, unary_right}
 use Rattle.pp_validity.proofs.Patterns.{grounds, map_map, mapped, pattern_binds, put_twice, root_there}
 use Rattle.pp_validity.proofs.Types.{types_put}
 use Rattle.pp_validity.proofs.Within.{Within, in_left, in_right, in_sort, in_call, in_construct, in_field, in_unary}
@@ -99,7 +101,7 @@ module _ (typed : Typed) (params : ℕ) (scope : List GenericSort) where
 
 match_same : (ts : List Sort) → match_sorts (map (λ t. Some t) ts) ts ≡ true
 match_same [] = refl
-match_same (t ∷ ts) = ap (λ b. b && match_sorts (map (λ t. Some t) ts) ts) (same_self t) ∙ match_same ts
+match_same (t ∷ ts) = ap (λ b. b && match_sorts (map (λ t. Some t) ts) ts) (its_sort t) ∙ match_same ts
 
 like_all : (types : TypeTable) (functions : List Function) (t s : Sort) (sc : List Sort) (arms : List Arm)
     → ((a : Arm) → Contains arms a → arm_sort types functions a s sc ≡ Some t)
@@ -194,23 +196,23 @@ module _ (typed : Typed) (set : Setting) (ms : List Member) (fs : List Function)
   some_cases (more_cases {ys = ys} {y = y} before one) h = filled ys y
 
   arms_all : (scope : List GenericSort) (s t : Sort) (ys : List Case) → Filled ys
-      → ((y : Case) → Contains ys y → arm_sort set.types fs (arm set.types fs (map G scope) y) s (map G scope) ≡ Some t)
-      → arms_sort set.types fs (map (arm set.types fs (map G scope)) ys) s (map G scope) ≡ Some t
+      → ((y : Case) → Contains ys y → arm_sort set.types fs (case_sorts set.types fs y) s (map G scope) ≡ Some t)
+      → arms_sort set.types fs (map (case_sorts set.types fs) ys) s (map G scope) ≡ Some t
   arms_all scope s t [] f h = let e : [] ≡ f.0 ∷ f.1 = f.2 in cc
   arms_all scope s t (y ∷ ys) f h =
-      ap (λ o. arms_like set.types fs o (map (arm set.types fs (map G scope)) ys) s (map G scope))
+      ap (λ o. arms_like set.types fs o (map (case_sorts set.types fs) ys) s (map G scope))
       (h y (Contains-append_left (y ∷ []) ys y (Contains-push [] y)))
-      ∙ like_all set.types fs t s (map G scope) (map (arm set.types fs (map G scope)) ys)
-      (mapped (arm set.types fs (map G scope)) ys (λ a. arm_sort set.types fs a s (map G scope) ≡ Some t)
+      ∙ like_all set.types fs t s (map G scope) (map (case_sorts set.types fs) ys)
+      (mapped (case_sorts set.types fs) ys (λ a. arm_sort set.types fs a s (map G scope) ≡ Some t)
       (λ z c. h z (Contains-append_right (y ∷ []) ys z c)))
 
   -- a case, by its parts
-  arm_is : (sc : List Sort) (p : Pattern) (guard : Option Expr) (body : Expr)
-      → arm set.types fs sc (record { pattern = p; guard = guard; body = body }) ≡ record
+  arm_is : (p : Pattern) (guard : Option Expr) (body : Expr)
+      → case_sorts set.types fs (record { pattern = p; guard = guard; body = body }) ≡ record
       { pattern = p; guard = option_map (sort_of set.types fs) guard; body = sort_of set.types fs body }
-  arm_is sc p None body = fold-roll-Case Sorting Arm (sort_step set.types fs) arm_step
+  arm_is p None body = fold-roll-Case Sorting Arm (sort_step set.types fs) arm_step
       (record { pattern = p; guard = None; body = body })
-  arm_is sc p (Some g) body = fold-roll-Case Sorting Arm (sort_step set.types fs) arm_step
+  arm_is p (Some g) body = fold-roll-Case Sorting Arm (sort_step set.types fs) arm_step
       (record { pattern = p; guard = Some g; body = body })
 
   mutual
@@ -288,10 +290,10 @@ module _ (typed : Typed) (set : Setting) (ms : List Member) (fs : List Function)
         let f = at_form e (kind.Binary op a b) _ h is (kind.outs-Binary op a b) in
         let inside = in_binary ms own.args e a b op is w in
         let left = sorted_expr ta f.left (in_left ms own.args (mentions a) (mentions b) inside) in
-        let right = sorted_expr tb f.right (in_right ms own.args (mentions a) (mentions b) inside) ∙ ap some f.same in
+        let right = sorted_expr tb f.right (in_right ms own.args (mentions a) (mentions b) inside) in
         sort_of_binary set.types fs (map G scope) op x y _
         ∙ ap (λ z. binary_sort op z (Has y scope)) left
-        ∙ ap (λ z. binary_sort op (some a.of) z) right ∙ binary_right G int bool op a.of e.of f.operates
+        ∙ ap (λ z. binary_sort op (some a.of) z) right ∙ binary_right G int bool op a.of b.of e.of f.operates
     sorted_expr {e} {scope = scope} (of_if {c = c} {a = a} {b = b} {x = x} {y = y} {z = z} is tc ta tb) h w =
         let f = at_form e (kind.If c a b) _ h is (kind.outs-If c a b) in
         let inside = in_if ms own.args e c a b is w in
@@ -310,7 +312,7 @@ module _ (typed : Typed) (set : Setting) (ms : List Member) (fs : List Function)
         let each = sorted_cases tc refl f.cases_sorted
         (in_right ms own.args (mentions m) (joined (map case_mentions cs)) inside) (sort_types m within) in
         sort_of_match set.types fs (map G scope) x ys _
-        ∙ first_then (Has x scope) (G m.of) (λ s. arms_sort set.types fs (map (arm set.types fs (map G scope)) ys) s
+        ∙ first_then (Has x scope) (G m.of) (λ s. arms_sort set.types fs (map (case_sorts set.types fs) ys) s
         (map G scope)) value
         ∙ arms_all scope (G m.of) (G e.of) ys (some_cases tc f.some) each
     sorted_expr {e} {scope = scope} (of_val {bound = a} {rest = b} {x = x} {y = y} is ta tb) h w =
@@ -354,7 +356,7 @@ module _ (typed : Typed) (set : Setting) (ms : List Member) (fs : List Function)
         → TranslateCase typed set own at c y old new
         → at ≡ put own.args s → OneCase typed params scope s of c → Within ms own.args (case_mentions c)
         → HasTypes ms (put own.args s)
-        → arm_sort set.types fs (arm set.types fs (map G scope) y) (G s) (map G scope) ≡ some of
+        → arm_sort set.types fs (case_sorts set.types fs y) (G s) (map G scope) ≡ some of
     sorted_case {s} {at = at} {scope = scope} (one_case c {guard = guard} {body = body} tg tb) same o w types =
         let parts = in_case ms own.args c w in
         let p = pattern_at typed set.roots (out-TypedCase c).pattern at in
@@ -369,7 +371,7 @@ module _ (typed : Typed) (set : Setting) (ms : List Member) (fs : List Function)
           body =
               sort_of set.types fs body;
         } in
-        ap (λ (a : Arm). arm_sort set.types fs a (G s) (map G scope)) (arm_is (map G scope) p guard body)
+        ap (λ (a : Arm). arm_sort set.types fs a (G s) (map G scope)) (arm_is p guard body)
         ∙ ap (arm_with made (map G scope)) binds
         ∙ ap (λ l. guarded_sort (option_map (sort_of set.types fs) guard) l (sort_of set.types fs body l)) both
         ∙ sorted_guard tg o.guard parts.0 (Has body (scope ++ o.bound)) ∙ has ∙ ap some o.body_is
@@ -379,13 +381,13 @@ module _ (typed : Typed) (set : Setting) (ms : List Member) (fs : List Function)
         → at ≡ put own.args s → AreSortedCases typed params scope s of cs
         → Within ms own.args (joined (map case_mentions cs)) → HasTypes ms (put own.args s)
         → (y : Case) → Contains ys y
-        → arm_sort set.types fs (arm set.types fs (map G scope) y) (G s) (map G scope) ≡ some of
+        → arm_sort set.types fs (case_sorts set.types fs y) (G s) (map G scope) ≡ some of
     sorted_cases no_cases same h w types y c = absurd (nothing_in y c)
     sorted_cases {s} {of} {scope = scope} (more_cases {cases = cases} {c = c} {ys = ys} {y = z} before one) same h w
         types y has =
         let r = split_cases typed params scope cases c h in
         let parts = in_parts ms own.args case_mentions cases c w in
         ⊎_elim (λ (earlier : Contains ys y). sorted_cases before same r.0 parts.0 types y earlier)
-        (λ (e : z ≡ y). subst (λ (k : Case). arm_sort set.types fs (arm set.types fs (map G scope) k) (G s)
+        (λ (e : z ≡ y). subst (λ (k : Case). arm_sort set.types fs (case_sorts set.types fs k) (G s)
         (map G scope) ≡ some of) e (sorted_case one same r.1 parts.1 types))
         (Contains-push_cases ys z y has)

@@ -4,8 +4,8 @@ use Rattle.std.proofs.Common.{ap, ◌∙◌, subst, arith, append_assoc, length-
 use Rattle.std.specs.Prelude.{None, Contains}
 use Rattle.std.proofs.lemmas.List.{append-nil, map-append}
 use Rattle.std.proofs.lemmas.List.Elements.{Contains-push_cases, Contains-append_cases}
+use Rattle.pp_list.specs.Joined.{joined}
 use Rattle.pp_instances.proofs.Kept.{nothing_in}
-use Rattle.pp_prog.specs.Calls.{joined}
 use Rattle.pp_prog.specs.Listing.{Site, plain, division, assertion, precondition, measure, matching, postcondition}
 use Rattle.pp_prog.specs.Listing.{as_kind, carried}
 use Rattle.pp_prog.specs.Valid.{Carries}

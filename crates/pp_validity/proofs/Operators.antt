@@ -1,26 +1,26 @@
--- The sorts of operands and of results, and of the one sort of both.
-use Rattle.std.proofs.Common.{◌≡◌, ⊎_elim, true, Some, refl, sym, ap, ◌∙◌, eq-eqb}
+-- What a translation of sorts keeps: which operands an operator takes, and what it gives.
+use Rattle.std.proofs.Common.{◌≡◌, ⊎_elim, true, ◌&&◌, Some, refl, sym, ap, ◌∙◌, subst}
+use Rattle.std.proofs.lemmas.Bool.{and_parts, and_from, or_cases, or_left, or_right}
+use Rattle.pp_generic.proofs.Equal.{equal_same}
 use Rattle.pp_operators.specs.Classes.{class_of}
+use Rattle.pp_operators.specs.Sorts as operators
 use Rattle.pp_operators.specs.declared.class.OperatorClass.{OperatorClass}
 use Rattle.pp_operators.specs.declared.class.OperatorClass.TheVariants as class
-use Rattle.pp_prog.specs.ExprSorts.{alike, binary_sort, class_sort, sort_if, then_sort, unary_sort as prog_unary}
+use Rattle.pp_prog.proofs.ValueSorts.{its_sort}
+use Rattle.pp_prog.specs.ExprSorts.{alike, binary_sort, class_gives, class_takes, sort_if, unary_sort as prog_unary}
 use Rattle.pp_prog.specs.Sorts.{same_sort}
 use Rattle.pp_prog.specs.declared.sort.Sort.{Sort}
 use Rattle.pp_prog.specs.declared.sort.Sort.TheVariants as prog
 use Rattle.pp_tree.specs.declared.operator.BinaryOp.{BinaryOp}
 use Rattle.pp_tree.specs.declared.operator.UnaryOp.{UnaryOp}
 use Rattle.pp_tree.specs.declared.operator.UnaryOp.TheVariants.{Neg, Not, Flip}
-use Rattle.pp_typed.specs.Operators.{ClassOperates, Operates, IsNumeric, IsOrder, IsLogical, IsBitwise, unary_sort}
+use Rattle.pp_typed.specs.Equal.{equal}
+use Rattle.pp_typed.specs.Operators.{Operates, is_number, unary_sort}
 use Rattle.pp_typed.specs.declared.sort.GenericSort.{GenericSort}
 use Rattle.pp_typed.specs.declared.sort.GenericSort.TheVariants as sort
 
-pub same_self : (s : Sort) → same_sort s s ≡ true
-same_self prog.Int = refl
-same_self prog.Bool = refl
-same_self (prog.Tree d) = eq-eqb d.0 d.0 refl
-
 pub alike_self : (s : Sort) → alike (Some s) (Some s) ≡ Some s
-alike_self s = ap (λ b. sort_if b s) (same_self s)
+alike_self s = ap (λ b. sort_if b s) (its_sort s)
 
 -- where G gives the sorts of the program
 module _ (G : GenericSort → Sort) (int : G sort.Int ≡ prog.Int) (bool : G sort.Bool ≡ prog.Bool) where
@@ -32,50 +32,47 @@ module _ (G : GenericSort → Sort) (int : G sort.Int ≡ prog.Int) (bool : G so
   unary_right Flip a of p q =
       ap (λ s. prog_unary Flip (Some s)) (ap G p ∙ int) ∙ ap Some (sym (ap G q ∙ int))
 
-  both : (c : OperatorClass) (a of : GenericSort) (s t : Sort) → G a ≡ s → G of ≡ t
-      → class_sort c (Some s) (Some s) ≡ Some t
-      → class_sort c (Some (G a)) (Some (G a)) ≡ Some (G of)
-  both c a of s t p q h = ap (λ z. class_sort c (Some z) (Some z)) p ∙ h ∙ ap Some (sym q)
+  same : (a b : GenericSort) → equal a b ≡ true → same_sort (G a) (G b) ≡ true
+  same a b h = ap (λ s. same_sort (G a) (G s)) (sym (equal_same a b h)) ∙ its_sort (G a)
 
-  equal_right : (c : OperatorClass) (a of : GenericSort) → of ≡ sort.Bool
-      → class_sort c (Some (G a)) (Some (G a)) ≡ Some prog.Bool
-      → class_sort c (Some (G a)) (Some (G a)) ≡ Some (G of)
-  equal_right c a of p h = h ∙ ap Some (sym (ap G p ∙ bool))
+  number : (a : GenericSort) → is_number a ≡ true → same_sort prog.Int (G a) ≡ true
+  number a h = subst (λ s. same_sort s (G a) ≡ true) int (same sort.Int a h)
 
-  abbrev numeric : (c : OperatorClass) (a of : GenericSort) → IsNumeric a of
-      → class_sort c (Some prog.Int) (Some prog.Int) ≡ Some prog.Int
-      → class_sort c (Some (G a)) (Some (G a)) ≡ Some (G of)
-  numeric c a of h is = both c a of prog.Int prog.Int (ap G h.0 ∙ int) (ap G h.1 ∙ int) is
+  truth : (a : GenericSort) → equal sort.Bool a ≡ true → same_sort prog.Bool (G a) ≡ true
+  truth a h = subst (λ s. same_sort s (G a) ≡ true) bool (same sort.Bool a h)
 
-  abbrev order : (c : OperatorClass) (a of : GenericSort) → IsOrder a of
-      → class_sort c (Some prog.Int) (Some prog.Int) ≡ Some prog.Bool
-      → class_sort c (Some (G a)) (Some (G a)) ≡ Some (G of)
-  order c a of h is = both c a of prog.Int prog.Bool (ap G h.0 ∙ int) (ap G h.1 ∙ bool) is
+  two_numbers : (a b : GenericSort) → (is_number a && equal a b) ≡ true
+      → (same_sort prog.Int (G a) && same_sort (G a) (G b)) ≡ true
+  two_numbers a b h = let p = and_parts _ _ h in and_from _ _ (number a p.0) (same a b p.1)
 
-  abbrev logical : (c : OperatorClass) (a of : GenericSort) → IsLogical a of
-      → class_sort c (Some prog.Bool) (Some prog.Bool) ≡ Some prog.Bool
-      → class_sort c (Some (G a)) (Some (G a)) ≡ Some (G of)
-  logical c a of h is = both c a of prog.Bool prog.Bool (ap G h.0 ∙ bool) (ap G h.1 ∙ bool) is
+  takes_right : (c : OperatorClass) (a b : GenericSort)
+      → operators.class_takes is_number equal sort.Bool c a b ≡ true → class_takes c (G a) (G b) ≡ true
+  takes_right class.Sum a b h = two_numbers a b h
+  takes_right class.Product a b h = two_numbers a b h
+  takes_right class.Quotient a b h = two_numbers a b h
+  takes_right class.Equality a b h = same a b h
+  takes_right class.Order a b h = two_numbers a b h
+  takes_right class.Logic a b h = let p = and_parts _ _ h in and_from _ _ (truth a p.0) (truth b p.1)
+  takes_right class.Bitwise a b h =
+      let p = and_parts _ _ h in
+      and_from _ _
+      (⊎_elim (λ (q : is_number a ≡ true). or_left (same_sort prog.Int (G a)) (same_sort prog.Bool (G a)) (number a q))
+      (λ (q : equal sort.Bool a ≡ true). or_right (same_sort prog.Int (G a)) (same_sort prog.Bool (G a)) (truth a q))
+      (or_cases _ _ p.0)) (same a b p.1)
+  takes_right class.Shift a b h = let p = and_parts _ _ h in and_from _ _ (number a p.0) (number b p.1)
 
-  abbrev bitwise : (c : OperatorClass) (a of : GenericSort) → IsBitwise a of
-      → class_sort c (Some prog.Int) (Some prog.Int) ≡ Some prog.Int
-      → class_sort c (Some prog.Bool) (Some prog.Bool) ≡ Some prog.Bool
-      → class_sort c (Some (G a)) (Some (G a)) ≡ Some (G of)
-  bitwise c a of h is also =
-      ⊎_elim (λ (n : IsNumeric a of). numeric c a of n is) (λ (l : IsLogical a of). logical c a of l also) h
+  gives_right : (c : OperatorClass) (a : GenericSort) → class_gives c (G a) ≡ G (operators.class_gives sort.Bool c a)
+  gives_right class.Sum a = refl
+  gives_right class.Product a = refl
+  gives_right class.Quotient a = refl
+  gives_right class.Equality a = sym bool
+  gives_right class.Order a = sym bool
+  gives_right class.Logic a = sym bool
+  gives_right class.Bitwise a = refl
+  gives_right class.Shift a = refl
 
-  class_right : (c : OperatorClass) (a of : GenericSort) → ClassOperates c a of
-      → class_sort c (Some (G a)) (Some (G a)) ≡ Some (G of)
-  class_right class.Sum a of h = numeric class.Sum a of h refl
-  class_right class.Product a of h = numeric class.Product a of h refl
-  class_right class.Quotient a of h = numeric class.Quotient a of h refl
-  class_right class.Equality a of h =
-      equal_right class.Equality a of h (ap (λ o. then_sort o (λ s. Some prog.Bool)) (alike_self (G a)))
-  class_right class.Order a of h = order class.Order a of h refl
-  class_right class.Logic a of h = logical class.Logic a of h refl
-  class_right class.Bitwise a of h = bitwise class.Bitwise a of h refl refl
-  class_right class.Shift a of h = numeric class.Shift a of h refl
-
-  pub binary_right : (op : BinaryOp) (a of : GenericSort) → Operates op a of
-      → binary_sort op (Some (G a)) (Some (G a)) ≡ Some (G of)
-  binary_right op a of h = class_right (class_of op) a of h
+  pub binary_right : (op : BinaryOp) (a b of : GenericSort) → Operates op a b of
+      → binary_sort op (Some (G a)) (Some (G b)) ≡ Some (G of)
+  binary_right op a b of h =
+      let c = class_of op in
+      ap (λ t. sort_if t (class_gives c (G a))) (takes_right c a b h.0) ∙ ap Some (gives_right c a ∙ ap G (sym h.1))

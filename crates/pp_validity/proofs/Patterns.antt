@@ -40,7 +40,7 @@ use Rattle.pp_typed.specs.declared.typed.TypedCtor.{TypedCtor}
 use Rattle.pp_validity.proofs.Ground.{args_of_root, each_put, puts_puts, sort_at_bool, sort_at_int}
 use Rattle.pp_validity.proofs.Ground.{sort_at_root}
 use Rattle.pp_validity.proofs.Known.{HasTypes, IsKnown}
-use Rattle.pp_validity.proofs.Operators.{same_self}
+use Rattle.pp_prog.proofs.ValueSorts.{its_sort}
 
 -- the sorts that each form of a pattern binds
 module _ (ctors : List Ctor) where
@@ -142,7 +142,7 @@ module _ (typed : Typed) (set : Setting) (ms : List Member) (fs : List Function)
       → bind_fields ps k.fields ≡ Some l → bind_tree o ps t ≡ Some l
   some_tree k o ps t l p q h =
       ap (λ z. bind_tree z ps t) p ∙ ap (λ (z : Sort). bind_tree (Some k) ps z) (sym q)
-      ∙ ap (λ b. if b then bind_fields ps k.fields else None) (same_self (of_prog.Tree k.of)) ∙ h
+      ∙ ap (λ b. if b then bind_fields ps k.fields else None) (its_sort (of_prog.Tree k.of)) ∙ h
 
   both_bound : (a b : Option (List Sort)) (x y : List Sort) → a ≡ Some x → b ≡ Some y
       → then_bind a (λ here. then_bind b (λ more. Some (here ++ more))) ≡ Some (x ++ y)

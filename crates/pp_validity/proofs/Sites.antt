@@ -1,7 +1,7 @@
 -- The offsets of the sites of each form of an expression.
 use Rattle.std.proofs.Common.{◌≡◌, ℕ, ℤ, Bool, List, [], ◌∷◌, ◌++◌, map, refl, sym, ap, ◌∙◌}
 use Rattle.std.specs.Prelude.{Option, Some, None}
-use Rattle.pp_prog.specs.Calls.{joined}
+use Rattle.pp_list.specs.Joined.{joined}
 use Rattle.pp_translation.specs.Places as places
 use Rattle.pp_translation.specs.Places.{Below, operator_offset, site_offsets}
 use Rattle.pp_tree.specs.declared.operator.BinaryOp.{BinaryOp as TreeBinary}

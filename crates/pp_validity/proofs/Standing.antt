@@ -4,6 +4,8 @@ use Rattle.std.proofs.Common.{subst, arith}
 use Rattle.std.specs.Prelude.{Option, Some, None, All, Contains, slice_get}
 use Rattle.std.proofs.lemmas.List.Elements.{All-contains, Contains-append_cases, Contains-append_left}
 use Rattle.std.proofs.lemmas.List.Elements.{Contains-append_right, Contains-push, Contains-push_cases}
+use Rattle.pp_typed.specs.Parts.{case_parts, kind_parts}
+use Rattle.pp_list.specs.Joined.{joined}
 use Rattle.pp_instances.proofs.Kept.{nothing_in}
 use Rattle.pp_instances.specs.declared.member.Instance.{Instance}
 use Rattle.pp_prog.specs.declared.expr.Case.{Case}
@@ -22,8 +24,8 @@ use Rattle.pp_prog.specs.declared.check.CheckKind.TheVariants as check
 use Rattle.pp_translation.specs.Setting.{Setting}
 use Rattle.pp_translation.specs.declared.frame.CheckAt.{CheckAt}
 use Rattle.pp_translation.specs.declared.frame.Frame.{Frame}
-use Rattle.pp_typed.specs.Stand.{DefStands, ExprStands, Offset, PostStands, Stands, TypedStands, case_offsets}
-use Rattle.pp_typed.specs.Stand.{expr_offsets, joined, kind_offsets, offsets}
+use Rattle.pp_typed.specs.Stand.{DefStands, ExprStands, Offset, PostStands, Stands, TypedStands}
+use Rattle.pp_typed.specs.Stand.{expr_offsets, offsets}
 use Rattle.pp_typed.specs.declared.expr.TypedCase.{TypedCase}
 use Rattle.pp_typed.specs.declared.expr.TypedExpr.{TypedExpr}
 use Rattle.pp_typed.specs.declared.expr.TypedKind.{TypedKind}
@@ -44,21 +46,21 @@ Os = List Offset
 
 -- the offsets below an expression, and those of a case
 abbrev in_kind : TypedKind → Os
-in_kind = fold-TypedKind Os Os Os kind_offsets case_offsets expr_offsets
+in_kind = fold-TypedKind Os Os Os kind_parts case_parts expr_offsets
 
 abbrev in_case : TypedCase → Os
-in_case = fold-TypedCase Os Os Os kind_offsets case_offsets expr_offsets
+in_case = fold-TypedCase Os Os Os kind_parts case_parts expr_offsets
 
 abbrev guard_offsets : Option TypedExpr → Os
 guard_offsets None = []
 guard_offsets (Some g) = offsets g
 
-case_parts : (p : TypedPattern) (g : Option TypedExpr) (b : TypedExpr)
-    → case_offsets (map-TypedCase TypedKind TypedCase TypedExpr Os Os Os in_kind in_case offsets
+in_parts : (p : TypedPattern) (g : Option TypedExpr) (b : TypedExpr)
+    → case_parts (map-TypedCase TypedKind TypedCase TypedExpr Os Os Os in_kind in_case offsets
     (record { pattern = p; guard = g; body = b }))
     ≡ guard_offsets g ++ offsets b
-case_parts p None b = refl
-case_parts p (Some g) b = refl
+in_parts p None b = refl
+in_parts p (Some g) b = refl
 
 module _ (texts : List (List ℕ)) where
   abbrev Stand : Os → Type 0
@@ -80,10 +82,10 @@ module _ (texts : List (List ℕ)) where
   rest o os h = right (o ∷ []) os h
 
   opened : (e : TypedExpr) → offsets e ≡ (e.source, e.at) ∷ in_kind e.kind
-  opened e = fold_out-TypedExpr Os Os Os kind_offsets case_offsets expr_offsets e
+  opened e = fold_out-TypedExpr Os Os Os kind_parts case_parts expr_offsets e
 
-  here : (e : TypedExpr) → Stand (offsets e) → Stands texts (e.source, e.at)
-  here e h = first (e.source, e.at) (in_kind e.kind) (subst Stand (opened e) h)
+  own_place : (e : TypedExpr) → Stand (offsets e) → Stands texts (e.source, e.at)
+  own_place e h = first (e.source, e.at) (in_kind e.kind) (subst Stand (opened e) h)
 
   below : (e : TypedExpr) (k : TypedKind) (os : Os) → e.kind ≡ k → in_kind k ≡ os → Stand (offsets e) → Stand os
   below e k os is h st =
@@ -91,8 +93,8 @@ module _ (texts : List (List ℕ)) where
 
   of_case : (c : TypedCase) → in_case c ≡ guard_offsets (out-TypedCase c).guard ++ offsets (out-TypedCase c).body
   of_case c =
-      fold_out-TypedCase Os Os Os kind_offsets case_offsets expr_offsets c
-      ∙ case_parts (out-TypedCase c).pattern (out-TypedCase c).guard (out-TypedCase c).body
+      fold_out-TypedCase Os Os Os kind_parts case_parts expr_offsets c
+      ∙ in_parts (out-TypedCase c).pattern (out-TypedCase c).guard (out-TypedCase c).body
 
   joined_push : (xss : List Os) (xs : Os) → Stand (joined (xss ++ xs ∷ [])) → Stand (joined xss) × Stand xs
   joined_push [] xs h = (λ o c. absurd (nothing_in o c), left xs [] h)
@@ -129,8 +131,8 @@ module _ (texts : List (List ℕ)) where
       stand_expr {e} (of_call {es = es} {mid = mid} f sorts is t) st h =
           let parts = below e (kind.Call f sorts es) (joined (map offsets es)) is
           (ap in_kind (sym (kind.rolls-Call f sorts es))
-          ∙ fold-roll-TypedKind Os Os Os kind_offsets case_offsets expr_offsets (layer.Call f sorts es)) st in
-          let at : Stands texts (e.source, e.at) = here e st in
+          ∙ fold-roll-TypedKind Os Os Os kind_parts case_parts expr_offsets (layer.Call f sorts es)) st in
+          let at : Stands texts (e.source, e.at) = own_place e st in
           if_more (descends typed set own f (callee typed set own f sorts)) (check_at typed set own check.Measure e)
           (after_pre typed set own e f mid)
           (if_more (has_pre (slice_get typed.defs f)) (check_at typed set own check.Precondition e) mid
@@ -138,48 +140,48 @@ module _ (texts : List (List ℕ)) where
       stand_expr {e} (of_construct {es = es} c sorts is t) st h =
           stand_all t (below e (kind.Construct c sorts es) (joined (map offsets es)) is
           (ap in_kind (sym (kind.rolls-Construct c sorts es))
-          ∙ fold-roll-TypedKind Os Os Os kind_offsets case_offsets expr_offsets (layer.Construct c sorts es)) st) h
+          ∙ fold-roll-TypedKind Os Os Os kind_parts case_parts expr_offsets (layer.Construct c sorts es)) st) h
       stand_expr {e} (of_field {base = base} j is t) st h =
           stand_expr t (below e (kind.Field base j) (offsets base) is
-          (ap in_kind (sym (kind.rolls-Field base j)) ∙ fold-roll-TypedKind Os Os Os kind_offsets case_offsets
+          (ap in_kind (sym (kind.rolls-Field base j)) ∙ fold-roll-TypedKind Os Os Os kind_parts case_parts
           expr_offsets (layer.Field base j)) st) h
       stand_expr {e} (of_unary {a = a} op is t) st h =
           stand_expr t (below e (kind.Unary op a) (offsets a) is
-          (ap in_kind (sym (kind.rolls-Unary op a)) ∙ fold-roll-TypedKind Os Os Os kind_offsets case_offsets
+          (ap in_kind (sym (kind.rolls-Unary op a)) ∙ fold-roll-TypedKind Os Os Os kind_parts case_parts
           expr_offsets (layer.Unary op a)) st) h
       stand_expr {e} (of_binary {a = a} {b = b} {new = new} op is ta tb) st h =
           let parts = below e (kind.Binary op a b) (offsets a ++ offsets b) is
           (ap in_kind (sym (kind.rolls-Binary op a b))
-          ∙ fold-roll-TypedKind Os Os Os kind_offsets case_offsets expr_offsets (layer.Binary op a b)) st in
+          ∙ fold-roll-TypedKind Os Os Os kind_parts case_parts expr_offsets (layer.Binary op a b)) st in
           if_more (is_division op) (check_at typed set own check.Division e) new
           (stand_expr tb (right (offsets a) (offsets b) parts) (stand_expr ta (left (offsets a) (offsets b) parts) h))
-          (here e st)
+          (own_place e st)
       stand_expr {e} (of_if {c = c} {a = a} {b = b} is tc ta tb) st h =
           let parts = below e (kind.If c a b) (offsets c ++ offsets a ++ offsets b) is
           (ap in_kind (sym (kind.rolls-If c a b))
-          ∙ fold-roll-TypedKind Os Os Os kind_offsets case_offsets expr_offsets (layer.If c a b)) st in
+          ∙ fold-roll-TypedKind Os Os Os kind_parts case_parts expr_offsets (layer.If c a b)) st in
           let front = left (offsets c ++ offsets a) (offsets b) parts in
           stand_expr tb (right (offsets c ++ offsets a) (offsets b) parts)
           (stand_expr ta (right (offsets c) (offsets a) front) (stand_expr tc (left (offsets c) (offsets a) front) h))
       stand_expr {e} (of_match {m = m} {cs = cs} {mid = mid} covered is tm cov t) st h =
           let parts = below e (kind.Match m cs) (offsets m ++ joined (map in_case cs)) is
           (ap in_kind (sym (kind.rolls-Match m cs))
-          ∙ fold-roll-TypedKind Os Os Os kind_offsets case_offsets expr_offsets (layer.Match m cs)) st in
+          ∙ fold-roll-TypedKind Os Os Os kind_parts case_parts expr_offsets (layer.Match m cs)) st in
           stand_cases t (right (offsets m) (joined (map in_case cs)) parts)
           (if_more (not covered) (check_at typed set own check.Match e) mid
-          (stand_expr tm (left (offsets m) (joined (map in_case cs)) parts) h) (here e st))
+          (stand_expr tm (left (offsets m) (joined (map in_case cs)) parts) h) (own_place e st))
       stand_expr {e} (of_val {bound = a} {rest = b} is ta tb) st h =
           let parts = below e (kind.Val a b) (offsets a ++ offsets b) is
           (ap in_kind (sym (kind.rolls-Val a b))
-          ∙ fold-roll-TypedKind Os Os Os kind_offsets case_offsets expr_offsets (layer.Val a b)) st in
+          ∙ fold-roll-TypedKind Os Os Os kind_parts case_parts expr_offsets (layer.Val a b)) st in
           stand_expr tb (right (offsets a) (offsets b) parts) (stand_expr ta (left (offsets a) (offsets b) parts) h)
       stand_expr {e} (of_assert {c = a} {rest = b} {mid = mid} is ta tb) st h =
           let parts = below e (kind.Assert a b) (offsets a ++ offsets b) is
           (ap in_kind (sym (kind.rolls-Assert a b))
-          ∙ fold-roll-TypedKind Os Os Os kind_offsets case_offsets expr_offsets (layer.Assert a b)) st in
+          ∙ fold-roll-TypedKind Os Os Os kind_parts case_parts expr_offsets (layer.Assert a b)) st in
           stand_expr tb (right (offsets a) (offsets b) parts)
           (added mid (check_at typed set own check.Assertion e) (stand_expr ta (left (offsets a) (offsets b) parts) h)
-          (here e st))
+          (own_place e st))
 
       stand_all : {es : List TypedExpr} {xs : List Expr} {old new : List CheckAt}
           → TranslateAll typed set own es xs old new

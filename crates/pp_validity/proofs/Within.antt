@@ -3,9 +3,10 @@ use Rattle.std.proofs.Common.{◌≡◌, ℕ, List, [], ◌∷◌, ◌++◌, map
 use Rattle.std.specs.Prelude.{Option, Some, None, Contains}
 use Rattle.std.proofs.lemmas.List.Elements.{Contains-append_left, Contains-append_right}
 use Rattle.std.proofs.lemmas.List.{map_push}
-use Rattle.pp_instances.proofs.Parts.{joined_push}
-use Rattle.pp_instances.specs.Same.{joined}
-use Rattle.pp_instances.specs.Uses.{at_args, case_mentions, case_step, expr_step, function_at, guard_mentions}
+use Rattle.pp_typed.specs.Parts.{case_parts}
+use Rattle.pp_list.specs.Joined.{joined}
+use Rattle.pp_list.proofs.Joined.{joined_push}
+use Rattle.pp_instances.specs.Uses.{at_args, case_mentions, expr_step, function_at, guard_mentions}
 use Rattle.pp_instances.specs.Uses.{kind_mentions, kind_step, mentions, types_in, types_of}
 use Rattle.pp_instances.specs.declared.member.Member.{Member}
 use Rattle.pp_typed.specs.declared.expr.TypedCase.{TypedCase}
@@ -36,7 +37,7 @@ module _ (ms : Ms) (args : List GenericSort) where
   in_same a b e h = subst Within e h
 
   opened : (e : TypedExpr) → mentions e ≡ types_in e.of ++ kind_mentions e.kind
-  opened e = fold_out-TypedExpr Ms Ms Ms kind_step case_step expr_step e
+  opened e = fold_out-TypedExpr Ms Ms Ms kind_step case_parts expr_step e
 
   pub in_sort : (e : TypedExpr) → Within (mentions e) → Within (types_in e.of)
   in_sort e h = in_left (types_in e.of) (kind_mentions e.kind) (in_same _ _ (opened e) h)
@@ -50,51 +51,51 @@ module _ (ms : Ms) (args : List GenericSort) where
       → Within (function_at f sorts ∷ types_of sorts ++ joined (map mentions es))
   in_call e f sorts es is = in_kind e (kind.Call f sorts es) _ is
       (ap kind_mentions (sym (kind.rolls-Call f sorts es))
-      ∙ fold-roll-TypedKind Ms Ms Ms kind_step case_step expr_step (layer.Call f sorts es))
+      ∙ fold-roll-TypedKind Ms Ms Ms kind_step case_parts expr_step (layer.Call f sorts es))
 
   pub in_construct : (e : TypedExpr) (c : ℕ) (sorts : List GenericSort) (es : List TypedExpr)
       → e.kind ≡ kind.Construct c sorts es → Within (mentions e)
       → Within (types_of sorts ++ joined (map mentions es))
   in_construct e c sorts es is = in_kind e (kind.Construct c sorts es) _ is
       (ap kind_mentions (sym (kind.rolls-Construct c sorts es))
-      ∙ fold-roll-TypedKind Ms Ms Ms kind_step case_step expr_step (layer.Construct c sorts es))
+      ∙ fold-roll-TypedKind Ms Ms Ms kind_step case_parts expr_step (layer.Construct c sorts es))
 
   pub in_field : (e base : TypedExpr) (j : ℕ) → e.kind ≡ kind.Field base j → Within (mentions e)
       → Within (mentions base)
   in_field e base j is = in_kind e (kind.Field base j) _ is
       (ap kind_mentions (sym (kind.rolls-Field base j))
-      ∙ fold-roll-TypedKind Ms Ms Ms kind_step case_step expr_step (layer.Field base j))
+      ∙ fold-roll-TypedKind Ms Ms Ms kind_step case_parts expr_step (layer.Field base j))
 
   pub in_unary : (e a : TypedExpr) (op : _) → e.kind ≡ kind.Unary op a → Within (mentions e) → Within (mentions a)
   in_unary e a op is = in_kind e (kind.Unary op a) _ is
-      (ap kind_mentions (sym (kind.rolls-Unary op a)) ∙ fold-roll-TypedKind Ms Ms Ms kind_step case_step expr_step
+      (ap kind_mentions (sym (kind.rolls-Unary op a)) ∙ fold-roll-TypedKind Ms Ms Ms kind_step case_parts expr_step
       (layer.Unary op a))
 
   pub in_binary : (e a b : TypedExpr) (op : _) → e.kind ≡ kind.Binary op a b → Within (mentions e)
       → Within (mentions a ++ mentions b)
   in_binary e a b op is = in_kind e (kind.Binary op a b) _ is
       (ap kind_mentions (sym (kind.rolls-Binary op a b))
-      ∙ fold-roll-TypedKind Ms Ms Ms kind_step case_step expr_step (layer.Binary op a b))
+      ∙ fold-roll-TypedKind Ms Ms Ms kind_step case_parts expr_step (layer.Binary op a b))
 
   pub in_if : (e c a b : TypedExpr) → e.kind ≡ kind.If c a b → Within (mentions e)
       → Within (mentions c ++ mentions a ++ mentions b)
   in_if e c a b is = in_kind e (kind.If c a b) _ is (ap kind_mentions (sym (kind.rolls-If c a b))
-      ∙ fold-roll-TypedKind Ms Ms Ms kind_step case_step expr_step (layer.If c a b))
+      ∙ fold-roll-TypedKind Ms Ms Ms kind_step case_parts expr_step (layer.If c a b))
 
   pub in_match : (e m : TypedExpr) (cs : List TypedCase) → e.kind ≡ kind.Match m cs → Within (mentions e)
       → Within (mentions m ++ joined (map case_mentions cs))
   in_match e m cs is = in_kind e (kind.Match m cs) _ is
-      (ap kind_mentions (sym (kind.rolls-Match m cs)) ∙ fold-roll-TypedKind Ms Ms Ms kind_step case_step expr_step
+      (ap kind_mentions (sym (kind.rolls-Match m cs)) ∙ fold-roll-TypedKind Ms Ms Ms kind_step case_parts expr_step
       (layer.Match m cs))
 
   pub in_val : (e a b : TypedExpr) → e.kind ≡ kind.Val a b → Within (mentions e) → Within (mentions a ++ mentions b)
   in_val e a b is = in_kind e (kind.Val a b) _ is (ap kind_mentions (sym (kind.rolls-Val a b))
-      ∙ fold-roll-TypedKind Ms Ms Ms kind_step case_step expr_step (layer.Val a b))
+      ∙ fold-roll-TypedKind Ms Ms Ms kind_step case_parts expr_step (layer.Val a b))
 
   pub in_assert : (e a b : TypedExpr) → e.kind ≡ kind.Assert a b → Within (mentions e)
       → Within (mentions a ++ mentions b)
   in_assert e a b is = in_kind e (kind.Assert a b) _ is
-      (ap kind_mentions (sym (kind.rolls-Assert a b)) ∙ fold-roll-TypedKind Ms Ms Ms kind_step case_step expr_step
+      (ap kind_mentions (sym (kind.rolls-Assert a b)) ∙ fold-roll-TypedKind Ms Ms Ms kind_step case_parts expr_step
       (layer.Assert a b))
 
   -- all but the last, and the last
@@ -105,7 +106,7 @@ module _ (ms : Ms) (args : List GenericSort) where
       (in_left (joined (map f xs)) (f x) both, in_right (joined (map f xs)) (f x) both)
 
   in_layer : (p : TypedPattern) (g : Option TypedExpr) (b : TypedExpr)
-      → Within (case_step (map-TypedCase TypedKind TypedCase TypedExpr Ms Ms Ms kind_mentions case_mentions mentions
+      → Within (case_parts (map-TypedCase TypedKind TypedCase TypedExpr Ms Ms Ms kind_mentions case_mentions mentions
       (record { pattern = p; guard = g; body = b })))
       → Within (guard_mentions g) × Within (mentions b)
   in_layer p None b h = (in_left [] (mentions b) h, h)
@@ -115,4 +116,4 @@ module _ (ms : Ms) (args : List GenericSort) where
       × Within (mentions (out-TypedCase c).body)
   in_case c h =
       in_layer (out-TypedCase c).pattern (out-TypedCase c).guard (out-TypedCase c).body
-      (in_same _ _ (fold_out-TypedCase Ms Ms Ms kind_step case_step expr_step c) h)
+      (in_same _ _ (fold_out-TypedCase Ms Ms Ms kind_step case_parts expr_step c) h)

@@ -1,6 +1,7 @@
 -- Guess runs of a function whose call tree is at most n deep are the same in round n and the one after it.
 use Rattle.std.proofs.Common.{◌≡◌, ℕ, zero, suc, List, [], ◌∷◌, ◌++◌, map, Option, Some, None, Ok, slice_get, refl, sym}
 use Rattle.std.proofs.Common.{ap, subst, Contains}
+use Rattle.pp_list.specs.Joined.{joined}
 use Rattle.pp_graph.specs.Reaches.{calls_of}
 use Rattle.pp_prog.specs.declared.expr.Expr.{Expr}
 use Rattle.pp_prog.specs.declared.expr.Function.{Function}
@@ -8,7 +9,7 @@ use Rattle.pp_prog.specs.declared.id.CheckId.{CheckId}
 use Rattle.pp_prog.specs.declared.id.FunctionId.{FunctionId}
 use Rattle.pp_prog.specs.declared.types.Ctor.{Ctor}
 use Rattle.pp_prog.specs.declared.value.Value.{Value}
-use Rattle.pp_prog.specs.Calls.{call_table, calls, contract_calls, function_calls, joined, post_calls, pre_calls}
+use Rattle.pp_prog.specs.Calls.{call_table, calls, contract_calls, function_calls, post_calls, pre_calls}
 use Rattle.pp_checks.specs.Closed.{Nests}
 use Rattle.pp_checks.proofs.Ruling.{calls_at}
 use Rattle.pp_eval.specs.Invocation.{admits, descends}

@@ -10,7 +10,6 @@ use Rattle.pp_estimate.specs.Counted.{MemoOf, Sound, counted, framed}
 use Rattle.pp_estimate.specs.Events.{called, work}
 use Rattle.pp_estimate.specs.Frames.{calls_from, frame, frame_at, inner_calls}
 use Rattle.pp_estimate.specs.Place.{place_arm, place_called, place_calls, place_visit}
-use Rattle.pp_operators.specs.Gates.{unary_gates}
 use Rattle.pp_estimate.specs.Visits.{at_shape, bound, compared, in_env, look_at, node, pattern_events}
 use Rattle.pp_estimate.proofs.Calling.{added_frame, added_true, called_counts, called_shape, contract_falls}
 use Rattle.pp_estimate.proofs.Calling.{found_frame, frame_falls, frame_found, frame_within, sound_more, sound_rows}
@@ -33,7 +32,7 @@ pub visit::visit-returns-in_ok-visit-in-Unary-clause-counted :
 visit::visit-returns-in_ok-visit-in-Unary-clause-counted t c =
     visited_unary c.args.place.types.now (place_calls c.args.place) c.args.old.now c.args.env.now _ _ _ _ _ _ _ _
     c.in-Unary.is c.get.ensures c.in_ok-visit-in-Unary.ensures.counted c.unary_gates.ensures
-    c.add_node-in-Unary.ensures
+    c.weighed-in-Unary.ensures.counted
 
 pub visit::visit-returns-in_ok-extra-in-Binary-clause-counted :
     goal.visit::visit-returns-in_ok-extra-in-Binary-clause-counted
@@ -44,22 +43,21 @@ visit::visit-returns-in_ok-extra-in-Binary-clause-counted t c =
     c.in_ok-left-in-Binary.ensures.counted c.in_ok-left-in-Binary.ensures.shape
     c.in_ok-right-in-Binary.ensures.counted c.in_ok-right-in-Binary.ensures.shape
     c.in_ok-extra-in-Binary.ensures.weight
-    c.add_node-in-Binary.ensures
+    c.weighed-in-Binary.ensures.counted
 
 pub visit::visit-returns-in_ok-shapes-in-Construct-clause-counted :
     goal.visit::visit-returns-in_ok-shapes-in-Construct-clause-counted
 visit::visit-returns-in_ok-shapes-in-Construct-clause-counted t c =
-    visited_construct c.args.place.types.now (place_calls c.args.place) c.args.old.now c.args.env.now _ _ _ _ _ _ _ _ _
+    visited_construct c.args.place.types.now (place_calls c.args.place) c.args.old.now c.args.env.now _ _ _ _ _ _ _
     c.in-Construct.is c.as_slice-in-Construct.ensures c.in_ok-shapes-in-Construct.ensures.counted
-    (c.tree_sort-sort.ensures ∙ ap (λ (l : List Ctor). tree_result (slice_get l c.in-Construct.c.0))
-    c.as_slice-in-Construct-2.ensures) c.add_look.ensures c.add_node-in-Construct.ensures
+    c.constructed.ensures.counted
 
 pub visit::visit-returns-in_ok-shapes-in-Construct-clause-sound :
     goal.visit::visit-returns-in_ok-shapes-in-Construct-clause-sound
 visit::visit-returns-in_ok-shapes-in-Construct-clause-sound t c =
-    sound_more c.args.place.types.now c.args.place.functions.now _ _ _ (node 0)
-    (sound_more c.args.place.types.now c.args.place.functions.now _ _ _ (look_at c.tree_sort-sort.result)
-    c.in_ok-shapes-in-Construct.ensures.sound c.add_look.ensures) c.add_node-in-Construct.ensures
+    sound_more c.args.place.types.now c.args.place.functions.now _ _ _
+    (look_at (tree_result (slice_get c.args.place.types.now.ctors c.in-Construct.c.0)) ++ node 0)
+    c.in_ok-shapes-in-Construct.ensures.sound c.constructed.ensures.counted
 
 pub visit::visit-returns-in_ok-extra-in-If-clause-counted : goal.visit::visit-returns-in_ok-extra-in-If-clause-counted
 visit::visit-returns-in_ok-extra-in-If-clause-counted t c =
@@ -69,18 +67,19 @@ visit::visit-returns-in_ok-extra-in-If-clause-counted t c =
     c.in_ok-visit-in-If.ensures.kept (c.in_ok-left-in-If.ensures.kept ∙ c.in_ok-visit-in-If.ensures.kept)
     c.in_ok-visit-in-If.ensures.counted c.in_ok-left-in-If.ensures.counted c.in_ok-left-in-If.ensures.shape
     c.in_ok-right-in-If.ensures.counted c.in_ok-right-in-If.ensures.shape c.max-height.ensures
-    c.in_ok-extra-in-If.ensures.weight c.add_node-in-If.ensures
+    c.in_ok-extra-in-If.ensures.weight c.weighed-in-If.ensures.counted
 
 pub visit::visit-returns-in_ok-extra-in-Binary-clause-sound :
     goal.visit::visit-returns-in_ok-extra-in-Binary-clause-sound
 visit::visit-returns-in_ok-extra-in-Binary-clause-sound t c =
     sound_rows c.args.place.types.now c.args.place.functions.now _ _ _ _ (node c.in_ok-extra-in-Binary.extra)
-    c.in_ok-right-in-Binary.ensures.sound c.in_ok-extra-in-Binary.ensures.rows c.add_node-in-Binary.ensures
+    c.in_ok-right-in-Binary.ensures.sound c.in_ok-extra-in-Binary.ensures.rows
+    c.weighed-in-Binary.ensures.counted
 
 pub visit::visit-returns-in_ok-extra-in-If-clause-sound : goal.visit::visit-returns-in_ok-extra-in-If-clause-sound
 visit::visit-returns-in_ok-extra-in-If-clause-sound t c =
     sound_rows c.args.place.types.now c.args.place.functions.now _ _ _ _ (node c.in_ok-extra-in-If.extra)
-    c.in_ok-right-in-If.ensures.sound c.in_ok-extra-in-If.ensures.rows c.add_node-in-If.ensures
+    c.in_ok-right-in-If.ensures.sound c.in_ok-extra-in-If.ensures.rows c.weighed-in-If.ensures.counted
 
 pub visit::visit-returns-in_ok-result-in-Assert-clause-counted :
     goal.visit::visit-returns-in_ok-result-in-Assert-clause-counted
@@ -95,7 +94,7 @@ visit::visit-returns-in_ok-result-in-Val-clause-counted t c =
     visited_val c.args.place.types.now (place_calls c.args.place) c.args.old.now c.args.env.now _ _ _ _ _ _ _ _ _ _ _ _
     c.in-Val.is c.get-in-Val.ensures c.get-in-Val-2.ensures c.in_ok-s-in-Val.ensures.kept
     c.in_ok-push-in-Val.ensures.ok c.in_ok-s-in-Val.ensures.counted c.in_ok-s-in-Val.ensures.shape
-    c.in_ok-result-in-Val.ensures.counted c.add_node-in-Val.ensures
+    c.in_ok-result-in-Val.ensures.counted c.add_node.ensures
 
 pub visit::visit-returns-in_ok-s-in-Match-clause-counted : goal.visit::visit-returns-in_ok-s-in-Match-clause-counted
 visit::visit-returns-in_ok-s-in-Match-clause-counted t c =
@@ -110,30 +109,28 @@ pub visit::visit-returns-in_ok-shapes-in-Call-clause-counted :
 visit::visit-returns-in_ok-shapes-in-Call-clause-counted t c =
     subst (λ (k : Counts). OnOk c.call.result (c.call.new.counts ≡ k))
     (visited_call c.args.place.types.now (place_calls c.args.place) c.args.old.now c.args.env.now _ _ _ _ _ _ _ _ _
-    _ _
-    _ c.in-Call.is c.as_slice-in-Call.ensures c.in_ok-shapes-in-Call.ensures.counted
-    c.in_ok-shapes-in-Call.ensures.shape c.as_slice-in-Call-2.ensures c.add_node-in-Call.ensures c.add_call.ensures)
+    _ _ c.in-Call.is c.as_slice-in-Call.ensures c.in_ok-shapes-in-Call.ensures.counted
+    c.in_ok-shapes-in-Call.ensures.shape c.as_slice-given.ensures c.add_call_node.ensures)
     c.call.ensures.counted
 
 pub visit::visit-returns-in_ok-whole-in-Field-clause-counted :
     goal.visit::visit-returns-in_ok-whole-in-Field-clause-counted
 visit::visit-returns-in_ok-whole-in-Field-clause-counted t c =
-    visited_field c.args.place.types.now (place_calls c.args.place) c.args.old.now c.args.env.now _ _ _ _ _ _ _ _ _
+    visited_field c.args.place.types.now (place_calls c.args.place) c.args.old.now c.args.env.now _ _ _ _ _ _ _ _
     c.in-Field.is c.get-in-Field.ensures c.in_ok-whole-in-Field.ensures.counted c.in_ok-whole-in-Field.ensures.shape
-    c.add_look-in-Field.ensures c.add_node-in-Field.ensures
+    c.selected.ensures.counted
 
 pub visit::visit-returns-in_ok-whole-in-Field-clause-sound : goal.visit::visit-returns-in_ok-whole-in-Field-clause-sound
 visit::visit-returns-in_ok-whole-in-Field-clause-sound t c =
-    sound_more c.args.place.types.now c.args.place.functions.now _ _ _ (node 0)
-    (sound_more c.args.place.types.now c.args.place.functions.now _ _ _ (look_at c.in_ok-whole-in-Field.whole.sort)
-    c.in_ok-whole-in-Field.ensures.sound c.add_look-in-Field.ensures) c.add_node-in-Field.ensures
+    sound_more c.args.place.types.now c.args.place.functions.now _ _ _
+    (look_at c.in_ok-whole-in-Field.whole.sort ++ node 0) c.in_ok-whole-in-Field.ensures.sound
+    c.selected.ensures.counted
 
 pub visit::visit-call-requires : goal.visit::visit-call-requires
 visit::visit-call-requires t c = (
   omega arith,
-  sound_more c.args.place.types.now c.args.place.functions.now _ _ _ (called c.in-Call.callee ∷ [])
-      (sound_more c.args.place.types.now c.args.place.functions.now _ _ _ (node 0)
-      c.in_ok-shapes-in-Call.ensures.sound c.add_node-in-Call.ensures) c.add_call.ensures,
+  sound_more c.args.place.types.now c.args.place.functions.now _ _ _ (node 0 ++ called c.in-Call.callee ∷ [])
+      c.in_ok-shapes-in-Call.ensures.sound c.add_call_node.ensures,
 )
 
 pub visit::visit_all-loop-e-preserved : goal.visit::visit_all-loop-e-preserved

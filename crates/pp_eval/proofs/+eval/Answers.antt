@@ -4,7 +4,8 @@ use Rattle.pp_eval.specs.Meaning.{arm, meaning}
 use Rattle.pp_prog.proofs.ExprSizes.{args_of_call, args_of_construct, case_deeper, cases_of_match, item_case, item_size}
 use Rattle.pp_prog.proofs.ExprSizes.{most_case, most_size}
 use Rattle.pp_eval.proofs.Width.{call_falls}
-use Rattle.pp_eval.proofs.Steps.{call_at, case_passed, case_stop, case_taken, tells_along, values_stop, values_turn}
+use Rattle.pp_eval.proofs.Steps.{binary_at, call_at, case_passed, case_stop, case_taken, tells_along, values_stop}
+use Rattle.pp_eval.proofs.Steps.{values_turn}
 use Rattle.pp_eval.proofs.+eval.Goals as goal
 
 pub invocation::call-enter-requires : goal.invocation::call-enter-requires
@@ -22,6 +23,12 @@ invocation::call-returns-in-Some t c =
     tells_along c.enter.result _ _
     (call_at c.args.callees.ctors.now c.args.callees.functions.now c.args.callees.fuel c.args.frame.now c.args.callee
     c.args.pre c.args.measure c.args.args c.in-Some.f.now (omega arith) (sym c.in-Some.ensures)) c.enter.ensures
+
+pub eval::value_of-returns-in-Binary-clause-told : goal.eval::value_of-returns-in-Binary-clause-told
+eval::value_of-returns-in-Binary-clause-told t c =
+    tells_along c.binary.result _ _
+    (binary_at (call_meaning c.args.callees) c.args.frame.now c.args.env.now c.in-Binary.is c.get-in-Binary.ensures
+    c.get-in-Binary-2.ensures) c.binary.ensures.told
 
 pub eval::value_of-values_of-requires : goal.eval::value_of-values_of-requires
 eval::value_of-values_of-requires t c =

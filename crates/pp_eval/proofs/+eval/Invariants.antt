@@ -1,4 +1,4 @@
-use Rattle.std.proofs.Common.{◌≡◌, ◌+◌, ◌*◌, drop, map}
+use Rattle.std.proofs.Common.{◌≡◌, ◌+◌, ◌*◌, drop, map, max}
 use Rattle.pp_prog.specs.declared.expr.Case.{size-Case}
 use Rattle.pp_prog.specs.declared.expr.Expr.{size-Expr}
 use Rattle.pp_eval.specs.Callees.{call_meaning}
@@ -21,6 +21,10 @@ decreases-invocation::frame_of l = l.callees.fuel * width l.callees.functions.no
 
 abbrev pub decreases-eval::value_of : goal.decreases-eval::value_of
 decreases-eval::value_of l = l.callees.fuel * width l.callees.functions.now + (4 * size-Expr l.e.now + 1)
+
+abbrev pub decreases-eval::binary : goal.decreases-eval::binary
+decreases-eval::binary l =
+    l.callees.fuel * width l.callees.functions.now + (4 * max (size-Expr l.a.now) (size-Expr l.b.now) + 2)
 
 abbrev pub decreases-eval::values_of : goal.decreases-eval::values_of
 decreases-eval::values_of l = l.callees.fuel * width l.callees.functions.now + (4 * most_size l.exprs.now + 2)

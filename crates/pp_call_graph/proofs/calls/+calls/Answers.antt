@@ -1,5 +1,5 @@
 use Rattle.pp_call_graph.specs.TypedCalls.{case_calls, typed_calls}
-use Rattle.pp_prog.proofs.Called.{one_more}
+use Rattle.pp_list.proofs.Joined.{one_more}
 use Rattle.pp_call_graph.proofs.calls.+calls.Goals as goal
 
 pub add_all-loop-e-preserved : goal.add_all-loop-e-preserved

@@ -1,6 +1,6 @@
 use Rattle.std.proofs.Common.{◌++◌, List, ◌∙◌, ap, map}
+use Rattle.pp_list.specs.Joined.{joined}
 use Rattle.pp_prog.specs.declared.sort.Sort.{Sort}
-use Rattle.pp_prog.specs.Calls.{joined}
 use Rattle.pp_prog.specs.Sizes.{sorts_in_ctor}
 use Rattle.pp_checks.specs.Tables.{trees_in}
 use Rattle.pp_checks.proofs.Tallest.{trees_more}

@@ -1,5 +1,5 @@
 use Rattle.std.proofs.Common.{◌≡◌, ◌++◌, drop, map}
-use Rattle.pp_prog.specs.Calls.{joined}
+use Rattle.pp_list.specs.Joined.{joined}
 use Rattle.pp_prog.specs.Sizes.{sorts_in_ctor}
 use Rattle.pp_checks.specs.Tables.{trees_in}
 use Rattle.pp_checks.proofs.heights.trees_of.Given as goal

@@ -1,5 +1,5 @@
 use Rattle.std.proofs.Common.{◌≡◌, ◌++◌, drop, map}
-use Rattle.pp_prog.specs.Calls.{joined}
+use Rattle.pp_list.specs.Joined.{joined}
 use Rattle.pp_checks.specs.Marks.{Marking, marks_of}
 use Rattle.pp_checks.proofs.plain.+add_marks.Given as goal
 

@@ -1,5 +1,5 @@
 use Rattle.std.proofs.Common.{◌≡◌, ◌++◌, drop, map}
-use Rattle.pp_prog.specs.Calls.{joined}
+use Rattle.pp_list.specs.Joined.{joined}
 use Rattle.pp_estimate.specs.Counted.{counted}
 use Rattle.pp_estimate.specs.Visits.{bind_each, bound, pattern_events}
 use Rattle.pp_estimate.proofs.binding.+bind.Given as goal

@@ -1,5 +1,5 @@
 use Rattle.std.proofs.Common.{◌≡◌, map, take}
-use Rattle.pp_prog.specs.Calls.{joined}
+use Rattle.pp_list.specs.Joined.{joined}
 use Rattle.pp_prog.specs.Sizes.{sorts_in_ctor}
 use Rattle.pp_estimate.specs.Bounds.{sizes}
 use Rattle.pp_estimate.proofs.sizes.size_of_fields.Given as goal

@@ -1,5 +1,5 @@
 use Rattle.std.proofs.Common.{◌≡◌, drop, map}
-use Rattle.pp_generic.specs.Equal.{pass_all}
+use Rattle.pp_typed.specs.Equal.{pass_all}
 use Rattle.pp_generic.specs.Expected.{fits}
 use Rattle.pp_generic.proofs.expected.+fits.Given as goal
 

@@ -1,5 +1,5 @@
 use Rattle.pp_instances.specs.Uses.{mentions, case_mentions}
-use Rattle.pp_instances.proofs.Parts.{one_more}
+use Rattle.pp_list.proofs.Joined.{one_more}
 use Rattle.pp_instances.proofs.mentions.+mentions.Goals as goal
 
 pub add_all-loop-e-preserved : goal.add_all-loop-e-preserved

@@ -1,5 +1,5 @@
 use Rattle.std.proofs.Common.{◌≡◌, ◌++◌, map, take}
-use Rattle.pp_instances.specs.Same.{joined}
+use Rattle.pp_list.specs.Joined.{joined}
 use Rattle.pp_instances.specs.Uses.{mentions, case_mentions}
 use Rattle.pp_instances.proofs.mentions.+mentions.Given as goal
 

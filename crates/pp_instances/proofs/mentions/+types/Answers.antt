@@ -1,7 +1,7 @@
 use Rattle.std.proofs.Common.{◌∷◌, [], ap, sym, ◌∙◌}
 use Rattle.pp_instances.specs.Uses.{types_in, types_of, root_at}
 use Rattle.pp_instances.proofs.Mentioned.{types_int, types_bool, types_param, types_root, nothing_more}
-use Rattle.pp_instances.proofs.Parts.{one_more, two_parts}
+use Rattle.pp_list.proofs.Joined.{one_more, two_parts}
 use Rattle.pp_instances.proofs.mentions.+types.Goals as goal
 
 pub add_types-returns-in-Int : goal.add_types-returns-in-Int

@@ -1,5 +1,5 @@
 use Rattle.pp_instances.specs.Uses.{param_types}
-use Rattle.pp_instances.proofs.Parts.{one_more}
+use Rattle.pp_list.proofs.Joined.{one_more}
 use Rattle.pp_instances.proofs.mentions.add_params.Goals as goal
 
 pub loop-param-preserved : goal.loop-param-preserved

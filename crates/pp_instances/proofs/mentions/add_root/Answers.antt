@@ -1,5 +1,5 @@
 use Rattle.pp_instances.specs.Uses.{ctor_mentions}
-use Rattle.pp_instances.proofs.Parts.{one_more}
+use Rattle.pp_list.proofs.Joined.{one_more}
 use Rattle.pp_instances.proofs.mentions.add_root.Goals as goal
 
 pub loop-ctor-preserved : goal.loop-ctor-preserved

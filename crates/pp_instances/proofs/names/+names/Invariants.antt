@@ -1,7 +1,7 @@
 use Rattle.std.proofs.Common.{◌≡◌, ◌++◌, map, take, drop}
 use Rattle.std.specs.String.{string_bytes}
+use Rattle.pp_list.specs.Joined.{joined}
 use Rattle.pp_instances.specs.Names.{printed_later}
-use Rattle.pp_instances.specs.Same.{joined}
 use Rattle.pp_instances.proofs.names.+names.Given as goal
 
 abbrev pub invariant-add_args-loop-i : goal.invariant-add_args-loop-i

@@ -1,9 +1,10 @@
 use Rattle.std.proofs.Common.{◌∷◌, [], List, map, ap, ◌∙◌}
+use Rattle.pp_list.specs.Joined.{joined}
 use Rattle.pp_prog.specs.declared.expr.Case.{Case}
 use Rattle.pp_prog.specs.declared.expr.Expr.{Expr}
-use Rattle.pp_prog.specs.Calls.{calls, calls_in_case, joined, pre_calls}
+use Rattle.pp_prog.specs.Calls.{calls, calls_in_case, pre_calls}
 use Rattle.pp_prog.proofs.CallForms.{calls_of_match, calls_of_val, calls_of_assert, calls_of_call, calls_of_case}
-use Rattle.pp_prog.proofs.Called.{one_more, two_parts}
+use Rattle.pp_list.proofs.Joined.{one_more, two_parts}
 use Rattle.pp_prog.proofs.calls.+calls.Goals as goal
 
 pub add_all-loop-e-preserved : goal.add_all-loop-e-preserved

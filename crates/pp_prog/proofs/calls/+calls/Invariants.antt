@@ -1,5 +1,6 @@
 use Rattle.std.proofs.Common.{◌≡◌, ◌++◌, map, take}
-use Rattle.pp_prog.specs.Calls.{calls, calls_in_case, joined}
+use Rattle.pp_list.specs.Joined.{joined}
+use Rattle.pp_prog.specs.Calls.{calls, calls_in_case}
 use Rattle.pp_prog.proofs.calls.+calls.Given as goal
 
 abbrev pub invariant-add_all-loop-e : goal.invariant-add_all-loop-e

@@ -1,5 +1,5 @@
 use Rattle.std.proofs.Common.{◌++◌, sym, ap, ◌∙◌}
-use Rattle.pp_instances.proofs.Parts.{parts_more}
+use Rattle.pp_list.proofs.Joined.{parts_more}
 use Rattle.pp_translation.specs.Numbered.{unguarded_case}
 use Rattle.pp_translate.proofs.exprs.unguarded.Goals as goal
 

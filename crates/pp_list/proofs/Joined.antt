@@ -1,14 +1,13 @@
--- Lists of parts, one after another.
-use Rattle.std.proofs.Common.{◌≡◌, ℕ, ◌+◌, ◌<◌, List, [], ◌∷◌, ◌++◌, map, take, length, get_or, sym, ap, ◌∙◌}
+-- Lists one after another, piece by piece.
+use Rattle.std.proofs.Common.{◌≡◌, ℕ, ◌+◌, ◌<◌, List, [], ◌∷◌, ◌++◌, length, get_or, map, take, sym, ap, ◌∙◌}
 use Rattle.std.proofs.Common.{append_assoc}
 use Rattle.std.proofs.lemmas.List.{append-nil, map_push, take_more}
-use Rattle.pp_instances.specs.Same.{joined}
+use Rattle.pp_list.specs.Joined.{joined}
 
 -- two parts, one after the other
 pub two_parts : {A : Type 0} (start a b : List A) {mid end whole : List A} → mid ≡ start ++ a → end ≡ mid ++ b
     → whole ≡ a ++ b → end ≡ start ++ whole
-two_parts start a b p q r =
-    q ∙ ap (λ l. l ++ b) p ∙ append_assoc start a b ∙ ap (λ l. start ++ l) (sym r)
+two_parts start a b p q r = q ∙ ap (λ l. l ++ b) p ∙ append_assoc start a b ∙ ap (λ l. start ++ l) (sym r)
 
 pub joined_push : {A : Type 0} (xss : List (List A)) (xs : List A) → joined (xss ++ xs ∷ []) ≡ joined xss ++ xs
 joined_push [] xs = append-nil xs
@@ -21,6 +20,7 @@ parts_more f xs i x lt is =
     ap (λ l. joined (map f l)) (take_more xs i x lt) ∙ ap joined (map_push f (take i xs) (get_or xs i x))
     ∙ joined_push (map f (take i xs)) (f (get_or xs i x)) ∙ ap (λ y. joined (map f (take i xs)) ++ f y) (sym is)
 
+-- where they stand behind something
 pub one_more : {A B : Type 0} (f : A → List B) (xs : List A) (i : ℕ) (x : A) (start : List B) {mid end : List B}
     → i < length xs → x ≡ get_or xs i x → mid ≡ start ++ joined (map f (take i xs)) → end ≡ mid ++ f x
     → end ≡ start ++ joined (map f (take (i + 1) xs))
