@@ -21,7 +21,8 @@ sample() {
         read -ra fields <<< "$line"
         parent=$(tr '\0' ' ' 2> /dev/null < "/proc/${fields[1]}/cmdline") || continue
         [[ $parent =~ /rattle\ (check|build) ]] && continue
-        crate=${words[3]}
+        crate=${words[3]:-}
+        [ -n "$crate" ] || continue
         place=$(readlink "$process/cwd") || continue
         [[ $place == "$root"/* || $place == */rt-edit* ]] || continue
         kind=proof

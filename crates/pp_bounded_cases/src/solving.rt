@@ -23,7 +23,7 @@ pub fn assignment(alloc: Global, circuit: &Circuit, asked: &[Lit]) -> Result<Opt
     ensure!(circuit.gates() <= MOST, "too many gates");
     let clauses = circuit.clauses()?;
     match Clause::of(alloc, asked)? {
-        Some(_) => match solve(alloc, &clauses, asked, LEMMAS)? {
+        Some(_) => match solve(alloc, &clauses, asked, &[], LEMMAS)? {
             Answer::Sat(a) => Ok(Some(a)),
             Answer::Unsat(_) => Ok(None),
             Answer::Spent(_) => bail!("the lemmas are spent"),

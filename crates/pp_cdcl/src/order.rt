@@ -1,11 +1,11 @@
 //! In which order variables are decided. The solver's answers are right in any order; this one is a guess at a good
-//! one: the variables that the last conflicts met come first, each with the sign that it had last. Of equally active
-//! ones, which most are that no conflict met, the one with the lowest number comes first: a gate has a greater number
-//! than its parts, so most gates follow from what is decided, and few variables are decided that have nothing to do
-//! with the next conflict. Some searches get lost there: their lemmas each rule out little more than one assignment of
-//! the variables that were met first. So from time to time all activities are forgotten, and the order of equals is
-//! turned round. Of the heap only that its places are in range is proved.
-ghost use Rattle.std.specs.Prelude.{ℕ, ◌≡◌, ◌<◌, length, All, IfOk, OnOk};
+//! one: first come the variables that the caller names, then those that the last conflicts met, each with the sign that
+//! it had last. Of equally active ones, which most are that no conflict met, the one with the lowest number comes first:
+//! a gate has a greater number than its parts, so most gates follow from what is decided, and few variables are decided
+//! that have nothing to do with the next conflict. Some searches get lost there: their lemmas each rule out little more
+//! than one assignment of the variables that were met first. So from time to time all activities are forgotten, and the
+//! order of equals is turned round. Of the heap only that its places are in range is proved.
+ghost use Rattle.std.specs.Prelude.{ℕ, ◌≡◌, ◌<◌, length, vec_len, All, IfOk, OnOk};
 
 use crate::NoMemory;
 use crate::restart::RESTART;
@@ -27,11 +27,20 @@ const GREATEST_ACTIVITY: u64 = 1 << 60;
 /// By how many bits they are made smaller then.
 const SHIFT: u32 = 40;
 
+/// What says of a variable when it is decided.
+#[derive(Clone, Copy)]
+struct Rank {
+    /// Whether it comes before those of which this isn't so.
+    first: bool,
+    /// How active it is.
+    activity: u64,
+}
+
 /// Variables with the one on top that is decided next, and the sign that each had last.
 #[derive(Drop)]
 pub struct Order {
     // by variable
-    activity: Vec<u64>,
+    ranks: Vec<Rank>,
     // by variable: its literal that is decided
     preferred: Vec<Lit>,
     // by variable: its place in the heap
@@ -53,16 +62,17 @@ impl Model for Order {
 
     ghost Value = { ℕ };
 
-    ghost view = { λ o. vec_len o.activity };
+    ghost view = { λ o. vec_len o.ranks };
 
-    ghost invariant = { λ o. IsSized (vec_len o.activity) (vec_len o.preferred) (vec_len o.places) o.heap.items };
+    ghost invariant = { λ o. IsSized (vec_len o.ranks) (vec_len o.preferred) (vec_len o.places) o.heap.items };
 }
 
 impl Order {
-    /// All variables up to this one, each at first false, those with lower numbers first.
-    pub fn new(alloc: Global, vars: u32) -> Result<Order, NoMemory> {
+    /// All variables up to this one, each at first false: those that are named, and of others those with lower numbers
+    /// first.
+    pub fn new(alloc: Global, vars: u32, first: &[u32]) -> Result<Order, NoMemory> {
         let count = vars as usize + 1;
-        let activity = vec![in alloc; 0; count]?;
+        let ranks = ranks_of(alloc, count, first)?;
         let mut preferred = vec![in alloc; Lit::default(); count]?;
         let places = vec![in alloc; None; count]?;
         let heap = Vec::with_capacity(alloc, count)?;
@@ -72,7 +82,7 @@ impl Order {
             }
         }
         let mut order = Order {
-            activity,
+            ranks,
             preferred,
             places,
             heap,
@@ -103,12 +113,7 @@ impl Order {
         self.places[top] = None;
         self.heap[0] = last;
         self.places[last] = Some(0);
-        sift_down(
-            &mut self.heap,
-            &mut self.places,
-            &self.activity,
-            self.turned,
-        );
+        sift_down(&mut self.heap, &mut self.places, &self.ranks, self.turned);
         Some(self.preferred[top])
     }
 
@@ -145,14 +150,14 @@ impl Order {
     /// Makes a variable more active.
     fn bump(&mut self, var: u32) {
         let var = var as usize;
-        if var < self.activity.len() {
-            let raised = self.activity[var].saturating_add(self.gain);
-            self.activity[var] = raised;
+        if var < self.ranks.len() {
+            let raised = self.ranks[var].activity.saturating_add(self.gain);
+            self.ranks[var].activity = raised;
             if let Some(place) = self.places[var] {
                 sift_up(
                     &mut self.heap,
                     &mut self.places,
-                    &self.activity,
+                    &self.ranks,
                     self.turned,
                     place,
                 );
@@ -165,8 +170,8 @@ impl Order {
 
     /// Makes all activities smaller. Those that differ little become the same.
     fn shrink(&mut self) {
-        for activity in self.activity.iter_mut() {
-            *activity >>= SHIFT;
+        for rank in self.ranks.iter_mut() {
+            rank.activity >>= SHIFT;
         }
         self.gain = (self.gain >> SHIFT).max(1);
         self.restore();
@@ -174,8 +179,8 @@ impl Order {
 
     /// Forgets all activities, and turns the order of equals round.
     fn turn(&mut self) {
-        for activity in self.activity.iter_mut() {
-            *activity = 0;
+        for rank in self.ranks.iter_mut() {
+            rank.activity = 0;
         }
         self.gain = FIRST_GAIN;
         self.turned = !self.turned;
@@ -190,7 +195,7 @@ impl Order {
             sift_up(
                 &mut self.heap,
                 &mut self.places,
-                &self.activity,
+                &self.ranks,
                 self.turned,
                 place,
             );
@@ -209,7 +214,7 @@ impl Order {
             sift_up(
                 &mut self.heap,
                 &mut self.places,
-                &self.activity,
+                &self.ranks,
                 self.turned,
                 place,
             );
@@ -218,18 +223,37 @@ impl Order {
     }
 }
 
-/// Whether the one variable comes before the other: the more active one, and of equals the one with the lower number,
-/// or with the higher one where the order of equals is turned round.
-fn is_before(activity: &[u64], turned: bool, one: usize, other: usize) -> bool
-    requires one { one < length activity.now }
-    requires other { other < length activity.now }
+/// The ranks of so many variables, of which these come first. Numbers of no variable are passed over.
+fn ranks_of(alloc: Global, count: usize, first: &[u32]) -> Result<Vec<Rank>, NoMemory>
+    ensures { IfOk result (λ r. vec_len r ≡ count) }
 {
-    let mine = activity[one];
-    let its = activity[other];
-    if mine == its {
+    let last = Rank {
+        first: false,
+        activity: 0,
+    };
+    let mut ranks = vec![in alloc; last; count]?;
+    for var in first {
+        if (*var as usize) < ranks.len() {
+            ranks[*var as usize].first = true;
+        }
+    }
+    Ok(ranks)
+}
+
+/// Whether the one variable comes before the other: one of the first, the more active one, and of equals the one with
+/// the lower number, or with the higher one where the order of equals is turned round.
+fn is_before(ranks: &[Rank], turned: bool, one: usize, other: usize) -> bool
+    requires one { one < length ranks.now }
+    requires other { other < length ranks.now }
+{
+    let mine = ranks[one];
+    let its = ranks[other];
+    if mine.first != its.first {
+        mine.first
+    } else if mine.activity == its.activity {
         (one < other) != turned
     } else {
-        its < mine
+        its.activity < mine.activity
     }
 }
 
@@ -237,18 +261,18 @@ fn is_before(activity: &[u64], turned: bool, one: usize, other: usize) -> bool
 fn sift_up(
     heap: &mut [usize],
     places: &mut [Option<usize>],
-    activity: &[u64],
+    ranks: &[Rank],
     turned: bool,
     place: usize,
 )
-    requires places { length places.old ≡ length activity.now }
-    requires heap { All (λ x. x < length activity.now) heap.old }
-    ensures { All (λ x. x < length activity.now) heap.new }
+    requires places { length places.old ≡ length ranks.now }
+    requires heap { All (λ x. x < length ranks.now) heap.old }
+    ensures { All (λ x. x < length ranks.now) heap.new }
 {
     let mut at = place;
     while 0 < at && at < heap.len() {
         let above = (at - 1) / 2;
-        if !is_before(activity, turned, heap[at], heap[above]) {
+        if !is_before(ranks, turned, heap[at], heap[above]) {
             return;
         }
         exchange(heap, places, at, above);
@@ -257,18 +281,18 @@ fn sift_up(
 }
 
 /// Moves the variable on top down, as long as one below it comes before it.
-fn sift_down(heap: &mut [usize], places: &mut [Option<usize>], activity: &[u64], turned: bool)
-    requires places { length places.old ≡ length activity.now }
-    requires heap { All (λ x. x < length activity.now) heap.old }
-    ensures { All (λ x. x < length activity.now) heap.new }
+fn sift_down(heap: &mut [usize], places: &mut [Option<usize>], ranks: &[Rank], turned: bool)
+    requires places { length places.old ≡ length ranks.now }
+    requires heap { All (λ x. x < length ranks.now) heap.old }
+    ensures { All (λ x. x < length ranks.now) heap.new }
 {
     let mut at = 0;
     while at < heap.len() / 2 {
         let mut below = 2 * at + 1;
-        if below + 1 < heap.len() && is_before(activity, turned, heap[below + 1], heap[below]) {
+        if below + 1 < heap.len() && is_before(ranks, turned, heap[below + 1], heap[below]) {
             below += 1;
         }
-        if !is_before(activity, turned, heap[below], heap[at]) {
+        if !is_before(ranks, turned, heap[below], heap[at]) {
             return;
         }
         exchange(heap, places, at, below);

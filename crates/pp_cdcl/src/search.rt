@@ -17,6 +17,8 @@ pub struct Problem<'a> {
     pub clauses: &'a Clauses,
     /// The literals that are to be true besides.
     pub assumptions: &'a [Lit],
+    /// The variables that are decided before all others.
+    pub first: &'a [u32],
     /// How many lemmas are allowed.
     pub lemmas: u64,
 }
@@ -47,7 +49,7 @@ impl Search {
     {
         let vars = raised(greatest_var(problem.clauses), problem.assumptions);
         let watch = Watch::over(alloc, problem.clauses, vars)?;
-        let order = Order::new(alloc, vars)?;
+        let order = Order::new(alloc, vars, problem.first)?;
         let analysis = Analysis::new(alloc, vars)?;
         Ok(Search {
             watch,

@@ -17,6 +17,7 @@ use pp_clause::{Clauses, Lit};
 use std::alloc::Global;
 
 /// Looks for an assignment that makes the clauses and the assumptions true, and learns at most `lemmas` lemmas for it.
+/// It decides the variables of `first` before all others; any list will do, and it says nothing of the answer.
 ///
 /// There must be room for a lemma, the clauses and the lemmas together must be fewer than 2^32, and no assumption may
 /// be the negation of another. One of the three answers always comes, except for want of memory; `Spent` never comes
@@ -25,6 +26,7 @@ pub fn solve(
     alloc: Global,
     clauses: &Clauses,
     assumptions: &[Lit],
+    first: &[u32],
     lemmas: u64,
 ) -> Result<Answer, NoMemory>
     requires some { 1 ≤ lemmas }
@@ -48,6 +50,7 @@ pub fn solve(
     let problem = Problem {
         clauses,
         assumptions,
+        first,
         lemmas,
     };
     let mut search = Search::new(alloc, problem)?;

@@ -6,19 +6,23 @@ ghost use Rattle.pp_gate.specs.Circuit.{IsCircuit, IsOf};
 ghost use Rattle.pp_query.specs.Reply.{AreClausesOf, IsReply, asked_of};
 
 use crate::NoMemory;
+use crate::compared::comparisons;
 use crate::reply::Reply;
 use pp_cdcl::{Answer, solve};
 use pp_clause::{Clauses, Lit, Lits, Spent};
 use pp_gate::Circuit;
+use pp_symbolic::Mode;
 use std::alloc::Global;
 
 /// Asks for an assignment that gives each gate its value and makes both literals true: that the check fails, and that
-/// all that was supposed holds. The solver may learn so many lemmas. The only error is want of memory.
+/// all that was supposed holds. The solver may learn so many lemmas. The mode says what it decides first. The only error
+/// is want of memory.
 pub(crate) fn ask(
     alloc: Global,
     circuit: &Circuit,
     fails: Lit,
     circuit_ok: Lit,
+    mode: Mode,
     lemmas: u64,
 ) -> Result<Reply, NoMemory>
     requires circuit { IsCircuit circuit.now }
@@ -34,7 +38,8 @@ pub(crate) fn ask(
     let assumptions = assumptions(alloc, fails, circuit_ok)?;
     let asked = assumptions.as_slice();
     let clauses = clauses_of(circuit, asked)?;
-    match solve(alloc, &clauses, asked, lemmas)? {
+    let first = first_decided(alloc, &clauses, fails, mode)?;
+    match solve(alloc, &clauses, asked, &first, lemmas)? {
         Answer::Sat(assignment) => {
             let whole = circuit.complete(&assignment)?;
             Ok(Reply::Model(whole))
@@ -48,6 +53,20 @@ pub(crate) fn ask(
             };
             Ok(Reply::Spent(evidence))
         }
+    }
+}
+
+/// The variables that are decided first: of a guess run those that tell that words are equal, of a run none, so that the
+/// arguments that are shown have small numbers.
+fn first_decided(
+    alloc: Global,
+    clauses: &Clauses,
+    fails: Lit,
+    mode: Mode,
+) -> Result<Vec<u32>, NoMemory> {
+    match mode {
+        Mode::Real => Ok(Vec::new(alloc)),
+        Mode::Guess => comparisons(alloc, clauses, fails),
     }
 }
 

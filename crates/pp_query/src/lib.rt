@@ -8,6 +8,7 @@
 #![tactic(auto)]
 
 mod asking;
+mod compared;
 mod found;
 mod proof;
 mod proving;
@@ -17,6 +18,7 @@ mod reading;
 mod reply;
 mod searching;
 
+pub use compared::comparisons;
 pub use found::Found;
 pub use proof::Proof;
 pub use proving::prove;

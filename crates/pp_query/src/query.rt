@@ -48,12 +48,17 @@ pub fn query_of<D: Domain + Drop>(
     ensures query { IfOk result (λ q. IsQuery D.sense program.now check mode round depth lemmas q) }
 {
     let question = question_of::<D>(alloc, program, plan, check, mode, round, depth)?;
-    let reply = reply_to(alloc, &question, lemmas)?;
+    let reply = reply_to(alloc, &question, mode, lemmas)?;
     Ok(Query { question, reply })
 }
 
 /// What the solver replies to the question.
-fn reply_to<D, T>(alloc: Global, question: &Question<D, T>, lemmas: u64) -> Result<Reply, NoMemory>
+fn reply_to<D, T>(
+    alloc: Global,
+    question: &Question<D, T>,
+    mode: Mode,
+    lemmas: u64,
+) -> Result<Reply, NoMemory>
     requires question { CanAsk question.now }
     requires lemmas { (1 ≤ lemmas) × (lemmas ≤ LEMMAS.most) }
     ensures { IfOk result (λ reply. IsReplyTo question.now lemmas reply) }
@@ -64,6 +69,7 @@ fn reply_to<D, T>(alloc: Global, question: &Question<D, T>, lemmas: u64) -> Resu
         &question.circuit,
         frame.fails,
         frame.circuit_ok,
+        mode,
         lemmas,
     )
 }

@@ -90,7 +90,7 @@ fn solved(alloc: Global, case: &Case) -> Result<Answer> {
         "no such number of lemmas"
     );
     match Clause::of(alloc, &case.assumptions)? {
-        Some(_) => Ok(solve(alloc, &case.clauses, &case.assumptions, lemmas)?),
+        Some(_) => Ok(solve(alloc, &case.clauses, &case.assumptions, &[], lemmas)?),
         None => bail!("an assumption is the negation of another"),
     }
 }

@@ -21,6 +21,7 @@ use pp_estimate::estimate;
 use pp_gate::Circuit;
 use pp_named::Named;
 use pp_prog::{CheckId, Program};
+use pp_query::comparisons;
 use pp_symbolic::{Mode, NoMemory, symbolic};
 use std::alloc::Global;
 use std::fs;
@@ -249,7 +250,7 @@ fn ask(alloc: Global, clauses: &Clauses, asked: &[Lit], lemmas: u32) -> Result<E
 {
     match Clause::of(alloc, asked)? {
         None => Ok(End::Proved(0)),
-        Some(_) => match solve(alloc, clauses, asked, u64::from(lemmas))? {
+        Some(_) => match solve(alloc, clauses, asked, &comparisons(alloc, clauses, asked[0])?, u64::from(lemmas))? {
             Answer::Sat(_) => Ok(End::Failed),
             Answer::Unsat(log) => Ok(End::Proved(log.as_slice().len())),
             Answer::Spent(log) => Ok(End::Spent(log.as_slice().len())),

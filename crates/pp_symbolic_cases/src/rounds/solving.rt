@@ -48,7 +48,7 @@ fn has_assignment(alloc: Global, clauses: &Clauses, lits: &[Lit]) -> Result<bool
     requires { length clauses.now ≤ 2 ^ 31 }
 {
     match Clause::of(alloc, lits)? {
-        Some(_) => match solve(alloc, clauses, lits, LEMMAS)? {
+        Some(_) => match solve(alloc, clauses, lits, &[], LEMMAS)? {
             Answer::Sat(_) => Ok(true),
             Answer::Unsat(_) => Ok(false),
             Answer::Spent(_) => bail!("the lemmas are spent"),

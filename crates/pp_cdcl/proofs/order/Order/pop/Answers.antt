@@ -4,22 +4,22 @@ use Rattle.pp_cdcl.proofs.order.Order.pop.Goals as goal
 
 pub sift_down-requires-clause-heap : goal.sift_down-requires-clause-heap
 sift_down-requires-clause-heap c =
-    let p = All-pop (λ x. x < vec_len c.self.inside.activity) c.self.inside.heap.items c.pop.new.self.items
+    let p = All-pop (λ x. x < vec_len c.self.inside.ranks) c.self.inside.heap.items c.pop.new.self.items
     (Some c.in_ok-last.last) c.in_ok-last.ensures.items c.self.invariant.heap in
     rw (c.deref_mut.ensures.value, c.deref.ensures.len)
-    (All-set (λ x. x < vec_len c.self.inside.activity) c.pop.new.self.items 0 c.in_ok-last.last p.1 p.0)
+    (All-set (λ x. x < vec_len c.self.inside.ranks) c.pop.new.self.items 0 c.in_ok-last.last p.1 p.0)
 
 pub invariant_of-self-2 : goal.invariant_of-self-2
 invariant_of-self-2 c =
-    let p = All-pop (λ x. x < vec_len c.self.inside.activity) c.self.inside.heap.items c.pop.new.self.items
+    let p = All-pop (λ x. x < vec_len c.self.inside.ranks) c.self.inside.heap.items c.pop.new.self.items
     (Some c.in_ok-last.last) c.in_ok-last.ensures.items c.self.invariant.heap in
-    let set = All-set (λ x. x < vec_len c.self.inside.activity) c.pop.new.self.items 0 c.in_ok-last.last p.1 p.0 in
-    let sifted : All (λ x. x < vec_len c.self.inside.activity) c.sift_down.new.heap =
+    let set = All-set (λ x. x < vec_len c.self.inside.ranks) c.pop.new.self.items 0 c.in_ok-last.last p.1 p.0 in
+    let sifted : All (λ x. x < vec_len c.self.inside.ranks) c.sift_down.new.heap =
     rw c.deref.ensures.len at c.sift_down.ensures in
     record {
       literals = c.self.invariant.literals;
       places = c.self.invariant.places;
-      heap = All-take (λ x. x < vec_len c.self.inside.activity) _ _
-          (All-append (λ x. x < vec_len c.self.inside.activity) c.sift_down.new.heap _ sifted
-          (All-drop (λ x. x < vec_len c.self.inside.activity) _ _ set));
+      heap = All-take (λ x. x < vec_len c.self.inside.ranks) _ _
+          (All-append (λ x. x < vec_len c.self.inside.ranks) c.sift_down.new.heap _ sifted
+          (All-drop (λ x. x < vec_len c.self.inside.ranks) _ _ set));
     }
