@@ -1,5 +1,5 @@
 -- The search through the constructors of a tree, and its gates.
-use Rattle.std.proofs.Common.{◌≡◌, ℕ, zero, suc, ◌+◌, ◌-◌, ◌*◌, ◌<◌, ◌≤◌, Bool, true, not, List, [], ◌∷◌}
+use Rattle.std.proofs.Common.{◌≡◌, ℕ, zero, suc, ◌+◌, ◌-◌, ◌*◌, ◌<◌, ◌≤◌, Bool, true, not, List, [], ◌∷◌, le_refl}
 use Rattle.std.proofs.Common.{length, map, take, Option, Some, None, refl, sym, ap, ◌∙◌, subst, arith, slice_get, inl}
 use Rattle.std.proofs.Common.{inr}
 use Rattle.std.specs.Prelude.{◌↔◌}
@@ -51,17 +51,14 @@ use Rattle.pp_list.proofs.Numbers.{less_one, none_below}
 
 -- ---- the gates
 
-same_or_less : (n : ℕ) → n ≤ n
-same_or_less n = omega arith
-
 pub nodes_grow : (types : TypeTable) (h k : ℕ) (s : Sort) → h ≤ k → nodes types h s ≤ nodes types k s
-nodes_grow types zero zero s le = same_or_less (nodes types zero s)
-nodes_grow types zero (suc k) sort.Int le = same_or_less 0
-nodes_grow types zero (suc k) sort.Bool le = same_or_less 0
+nodes_grow types zero zero s le = le_refl (nodes types zero s)
+nodes_grow types zero (suc k) sort.Int le = le_refl 0
+nodes_grow types zero (suc k) sort.Bool le = le_refl 0
 nodes_grow types zero (suc k) (sort.Tree d) le = none_below _
 nodes_grow types (suc h) zero s le = absurd (omega arith)
-nodes_grow types (suc h) (suc k) sort.Int le = same_or_less 0
-nodes_grow types (suc h) (suc k) sort.Bool le = same_or_less 0
+nodes_grow types (suc h) (suc k) sort.Int le = le_refl 0
+nodes_grow types (suc h) (suc k) sort.Bool le = le_refl 0
 nodes_grow types (suc h) (suc k) (sort.Tree d) le =
     plus_grow 1 _ _ _ _ (total_sum (nodes types h) (fields_of types d)) (total_sum (nodes types k) (fields_of types d))
     (total_grow (nodes types h) (nodes types k) (fields_of types d) (λ s. nodes_grow types h k s (less_one h k le)))

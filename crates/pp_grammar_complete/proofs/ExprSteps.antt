@@ -10,11 +10,11 @@ use Rattle.pp_grammar.specs.StepExprs.{on_binary, on_dot_name, on_expr_end, on_h
 use Rattle.pp_grammar.specs.StepExprs.{on_name, on_name_types, on_negative, on_negative_field, on_number, on_operand}
 use Rattle.pp_grammar.specs.StepExprs.{on_operand_name, on_operator, on_unwound, on_want}
 use Rattle.pp_grammar.specs.StepTypes.{refuse}
-use Rattle.pp_grammar.specs.Words.{Role, binary_of, is_minus, is_sign, is_signed, level, negative_of, number_of, plain}
-use Rattle.pp_grammar.specs.Words.{role, tightest, unary_of, word}
+use Rattle.pp_grammar.specs.Words.{Role, binary_of, is_sign, level, negative_of, number_of, plain, role, tightest}
+use Rattle.pp_grammar.specs.Words.{unary_of, word}
 use Rattle.pp_grammar_complete.proofs.Starts.{Starts}
 use Rattle.pp_grammar_complete.proofs.Steps.{Closes, Ends, Follows, Go, Run, closes, go_on, goes_on, goes_on_operand}
-use Rattle.pp_grammar_complete.proofs.Steps.{take_step}
+use Rattle.pp_grammar_complete.proofs.Steps.{sign_is, take_step}
 use Rattle.pp_grammar_sound.proofs.Unwound.{le_cases}
 use Rattle.pp_tokens.specs.declared.token.Bracket.TheVariants.{CloseBrace, CloseRound, Comma, Dot, OpenRound}
 use Rattle.pp_tokens.specs.declared.token.Bracket.TheVariants.{OpenSquare, Semicolon}
@@ -27,8 +27,8 @@ use Rattle.pp_tokens.specs.declared.token.TokenKind.TheVariants.{Hex, Mark, Name
 use Rattle.pp_tree.specs.Plain.{Tree, TypeTrees, Word, apply, field, int, name, no_trees}
 use Rattle.pp_tree.specs.declared.operator.BinaryOp.{BinaryOp}
 use Rattle.pp_tree.specs.declared.operator.UnaryOp.{UnaryOp}
-use Rattle.std.proofs.Common.{Bool, List, Some, [], ap, arith, cond, false, inl, inr, refl, sym, true, ℕ, ℤ, ◌&&◌, ◌∙◌}
-use Rattle.std.proofs.Common.{◌∷◌, ◌≡◌, ◌≤◌}
+use Rattle.std.proofs.Common.{Bool, List, Some, [], ap, arith, cond, false, inl, inr, refl, true, ℕ, ℤ, ◌∙◌, ◌∷◌, ◌≡◌}
+use Rattle.std.proofs.Common.{◌≤◌}
 
 pub le_true : (p l : ℕ) → p ≤ l → nat_le p l ≡ true
 le_true p l le = elim (le_cases p l) [ inl h ↦ h.0 | inr h ↦ absurd (omega arith) ]
@@ -270,10 +270,6 @@ module _ (text : Word) (d : Parsed) (b : Bool) where
   pub fields_end : {us vs : List Token} {e x : Tree} → IsFields text us vs e x → Ends vs → Ends us
   fields_end no_field f = f
   fields_end (one_field dot t is_d is r g) f = ap goes_on is_d
-
-  pub sign_is : (m t : Token) (us : List Token) (x : Bool) → m.kind ≡ Op Minus → is_sign m (t ∷ us) ≡ x
-      → is_signed m.to t ≡ x
-  sign_is m t us x is e = sym (ap (λ k. is_minus k && is_signed m.to t) is) ∙ e
 
   pub minus_first : (m : Token) (us : List Token) (s : List Frame) → m.kind ≡ Op Minus → floor s ≤ tightest
       → Run text d b (m ∷ us) s want ≡ Run text d b us s (after_minus m.from m.to)

@@ -9,8 +9,8 @@ use Rattle.pp_grammar.specs.Patterns.{pattern_in_round, signed_pattern, true_pat
 use Rattle.pp_grammar.specs.StepTypes.{on_have_pattern, on_int_pattern, on_named_pattern, on_naming}
 use Rattle.pp_grammar.specs.StepTypes.{on_pattern_args_open, on_pattern_at, on_pattern_name, on_want_pattern}
 use Rattle.pp_grammar.specs.StepTypes.{pattern_of_name}
-use Rattle.pp_grammar.specs.Words.{binds, is_minus, is_sign, is_signed, negated_of, negative_of, number_of, word}
-use Rattle.pp_grammar_complete.proofs.Steps.{Ends, Run, go_on, goes_on, take_step}
+use Rattle.pp_grammar.specs.Words.{binds, is_sign, negated_of, negative_of, number_of, word}
+use Rattle.pp_grammar_complete.proofs.Steps.{Ends, Run, go_on, goes_on, sign_is, take_step}
 use Rattle.pp_tokens.specs.declared.token.Bracket.TheVariants.{CloseBrace, CloseRound, CloseSquare, Comma, Dot}
 use Rattle.pp_tokens.specs.declared.token.Bracket.TheVariants.{OpenBrace, OpenRound, OpenSquare, Semicolon}
 use Rattle.pp_tokens.specs.declared.token.Operator.TheVariants.{At, Minus}
@@ -18,8 +18,8 @@ use Rattle.pp_tokens.specs.declared.token.Token.{Token}
 use Rattle.pp_tokens.specs.declared.token.TokenKind.{TokenKind}
 use Rattle.pp_tokens.specs.declared.token.TokenKind.TheVariants.{Hex, Mark, Number, Op}
 use Rattle.pp_tree.specs.Plain.{PatternTree, PatternTrees, Word, any, ctor_pattern, int_pattern, no_patterns}
-use Rattle.std.proofs.Common.{Bool, List, None, Option, Some, [], ap, cond, false, refl, sym, true, ℕ, ℤ, ◌&&◌, ◌∙◌}
-use Rattle.std.proofs.Common.{◌∷◌, ◌≡◌}
+use Rattle.std.proofs.Common.{Bool, List, None, Option, Some, [], ap, cond, false, refl, sym, true, ℕ, ℤ, ◌∙◌, ◌∷◌}
+use Rattle.std.proofs.Common.{◌≡◌}
 
 -- a name with `@` is on top
 abbrev pub is_naming : List Frame → Bool
@@ -47,10 +47,6 @@ module _ (text : Word) (d : Parsed) (b : Bool) where
   number_step t s n (Number m) is = ap (on_int_pattern text t s t.from) is
   number_step t s n (Hex m) is = ap (on_int_pattern text t s t.from) is
   number_step t s n _ is = absurd (cc)
-
-  sign_is : (m t : Token) (us : List Token) (x : Bool) → m.kind ≡ Op Minus → is_sign m (t ∷ us) ≡ x
-      → is_signed m.to t ≡ x
-  sign_is m t us x is e = sym (ap (λ k. is_minus k && is_signed m.to t) is) ∙ e
 
   minus_step : (m t : Token) (us : List Token) (s : List Frame) (x : Bool) (n : ℤ) → m.kind ≡ Op Minus
       → is_sign m (t ∷ us) ≡ x → cond x (negative_of t.kind) (negated_of t.kind) ≡ Some n

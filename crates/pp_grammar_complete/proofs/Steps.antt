@@ -4,16 +4,16 @@ use Rattle.pp_grammar.specs.Automaton.{moved, on_mode, run}
 use Rattle.pp_grammar.specs.Exprs.{IsSemicolon, no_semicolon, semicolon}
 use Rattle.pp_grammar.specs.Frames.{Frame, Mode, Move, Parsed, State, within}
 use Rattle.pp_grammar.specs.Types.{IsGap, IsSemis, no_semi, one_semi, semis}
-use Rattle.pp_grammar.specs.Words.{is_semi}
+use Rattle.pp_grammar.specs.Words.{is_minus, is_semi, is_sign, is_signed}
 use Rattle.pp_tokens.specs.declared.token.Bracket.TheVariants.{CloseBrace, CloseRound, Comma, Dot, OpenRound}
 use Rattle.pp_tokens.specs.declared.token.Bracket.TheVariants.{OpenSquare, Semicolon}
-use Rattle.pp_tokens.specs.declared.token.Operator.TheVariants.{At}
+use Rattle.pp_tokens.specs.declared.token.Operator.TheVariants.{At, Minus}
 use Rattle.pp_tokens.specs.declared.token.Reserved.TheVariants.{Case, Else}
 use Rattle.pp_tokens.specs.declared.token.Token.{Token}
 use Rattle.pp_tokens.specs.declared.token.TokenKind.{TokenKind}
 use Rattle.pp_tokens.specs.declared.token.TokenKind.TheVariants.{Mark, Newline, Op, Word as Reserve}
 use Rattle.pp_tree.specs.Plain.{Word}
-use Rattle.std.proofs.Common.{Bool, List, [], ap, false, refl, true, ◌∷◌, ◌≡◌}
+use Rattle.std.proofs.Common.{Bool, List, [], ap, false, refl, sym, true, ◌&&◌, ◌∙◌, ◌∷◌, ◌≡◌}
 
 abbrev pub goes_on : TokenKind → Bool
 goes_on (Mark OpenRound) = true
@@ -90,6 +90,11 @@ semis_close (semis t is g) = semi_closes t.kind is
 pub semicolon_closes : {ts us : List Token} → IsSemicolon ts us → Closes us → Closes ts
 semicolon_closes no_semicolon c = c
 semicolon_closes (semicolon t is) c = ap closes is
+
+-- a minus tells whether it is the sign of a number
+pub sign_is : (m t : Token) (us : List Token) (x : Bool) → m.kind ≡ Op Minus → is_sign m (t ∷ us) ≡ x
+    → is_signed m.to t ≡ x
+sign_is m t us x is e = sym (ap (λ k. is_minus k && is_signed m.to t) is) ∙ e
 
 module _ (text : Word) (d : Parsed) (b : Bool) where
   -- the run within a declaration

@@ -14,14 +14,13 @@ use Rattle.pp_grammar.specs.StepBodies.{on_no_params, on_object_name, on_param_n
 use Rattle.pp_grammar.specs.StepBodies.{on_require_word, on_stat_name, on_tuple_closed, on_type_param, on_val_name}
 use Rattle.pp_grammar.specs.StepBodies.{on_val_word, on_want_body, on_want_lambda, on_want_lambda_or_semi, on_want_name}
 use Rattle.pp_grammar.specs.StepBodies.{on_want_object_name, on_want_param, on_want_stat, on_want_type_param}
-use Rattle.pp_grammar.specs.StepTypes.{refuse}
 use Rattle.pp_grammar.specs.Words.{Role, assert_word, binary_of, decreases_word, ensuring_word, holds_word, int_word}
 use Rattle.pp_grammar.specs.Words.{plain, require_word, role, word}
 use Rattle.pp_grammar_laws.proofs.FaultExprs.{good_on_claim_brace, good_on_have, good_on_int, good_on_measured}
 use Rattle.pp_grammar_laws.proofs.FaultExprs.{good_on_name, good_on_operand_name, good_on_post_word}
 use Rattle.pp_grammar_laws.proofs.FaultExprs.{good_on_sealed_brace, good_on_sealed_case, good_on_want}
 use Rattle.pp_grammar_laws.proofs.Faults.{GoodContracts, GoodFrames, GoodMove, GoodOffset, GoodPlaced, NameOk}
-use Rattle.pp_grammar_laws.proofs.Faults.{good_first, good_seal, refusal_good}
+use Rattle.pp_grammar_laws.proofs.Faults.{good_first, good_seal, refused}
 use Rattle.pp_tokens.specs.declared.token.Bracket.TheVariants.{CloseBrace, CloseRound, CloseSquare, Comma, Dot}
 use Rattle.pp_tokens.specs.declared.token.Bracket.TheVariants.{OpenBrace, OpenRound, OpenSquare, Semicolon}
 use Rattle.pp_tokens.specs.declared.token.Operator.TheVariants.{Arrow, Assign, Colon}
@@ -35,9 +34,6 @@ use Rattle.std.proofs.Common.{Bool, List, None, Option, Some, [], false, refl, t
 
 module _ (text : Word) (B : ℕ → Type 0) (L : Word → ℕ → Type 0) (t : Token) (bt : B t.from)
     (nt : t.kind ≡ Name → NameOk B L (word text t) t.from) where
-  refused : GoodMove B L (refuse text t)
-  refused = refusal_good text B L t bt nt
-
   pub good_on_require_word : (x0 : List Frame) (x1 : Contracts) (x2 : Option ℕ) → GoodFrames B L x0
       → GoodContracts B L x1 → GoodOffset B L x2 → L (word text t) t.from
       → GoodMove B L (on_require_word text t x0 x1 x2)
@@ -52,12 +48,12 @@ module _ (text : Word) (B : ℕ → Type 0) (L : Word → ℕ → Type 0) (t : T
   pub good_on_require : (x0 : List Frame) → GoodFrames B L x0 → L (word text t) t.from
       → GoodMove B L (on_require text t x0)
   good_on_require (head_braces c ∷ s) g h = good_on_require_word s c c.late g.1 g.0 g.0.1 h
-  good_on_require s g h = refused
+  good_on_require s g h = refused text B L t bt nt
 
   pub good_on_decreases : (x0 : List Frame) → GoodFrames B L x0 → L (word text t) t.from
       → GoodMove B L (on_decreases text t x0)
   good_on_decreases (head_braces c ∷ s) g h = good_on_decreases_word s c (has_measure c.measure) g.1 g.0 h
-  good_on_decreases s g h = refused
+  good_on_decreases s g h = refused text B L t bt nt
 
   pub good_on_stat_name : (x0 : List Frame) (x1 : Role) → GoodFrames B L x0 → role (word text t) ≡ x1
       → NameOk B L (word text t) t.from → GoodMove B L (on_stat_name text t x0 x1)
@@ -78,7 +74,7 @@ module _ (text : Word) (B : ℕ → Type 0) (L : Word → ℕ → Type 0) (t : T
       → GoodMove B L (on_after_stat text t x0 x1)
   good_on_after_stat s Newline ok = assumption (bt, ok)
   good_on_after_stat s (Mark Semicolon) ok = assumption (bt, ok)
-  good_on_after_stat s k ok = refused
+  good_on_after_stat s k ok = refused text B L t bt nt
 
   pub good_on_after_last : (x0 : List Frame) (x1 : Tree) (x2 : TokenKind) → GoodFrames B L x0
       → GoodMove B L (on_after_last text t x0 x1 x2)
@@ -86,33 +82,33 @@ module _ (text : Word) (B : ℕ → Type 0) (L : Word → ℕ → Type 0) (t : T
   good_on_after_last s e (Mark Semicolon) g = assumption (bt, g)
   good_on_after_last s e (Mark CloseBrace) g = good_on_sealed_brace text B L t bt nt (seal s e) (good_seal B L s e g)
   good_on_after_last s e (Reserve Case) g = good_on_sealed_case text B L t bt nt (seal s e) (good_seal B L s e g)
-  good_on_after_last s e k g = refused
+  good_on_after_last s e k g = refused text B L t bt nt
 
   pub good_on_val_word : (x0 : List Frame) (x1 : ℕ) (x2 : TokenKind) → GoodFrames B L x0
       → GoodMove B L (on_val_word text t x0 x1 x2)
   good_on_val_word s at Name ok = assumption (bt, ok)
-  good_on_val_word s at k ok = refused
+  good_on_val_word s at k ok = refused text B L t bt nt
 
   pub good_on_val_name : (x0 : List Frame) (x1 : ℕ) (x2 : Word) (x3 : TokenKind) → GoodFrames B L x0
       → GoodMove B L (on_val_name text t x0 x1 x2 x3)
   good_on_val_name s at w (Op Colon) ok = assumption (bt, ok)
   good_on_val_name s at w (Op Assign) ok = assumption (bt, ok)
-  good_on_val_name s at w k ok = refused
+  good_on_val_name s at w k ok = refused text B L t bt nt
 
   pub good_on_assert_word : (x0 : List Frame) (x1 : ℕ) (x2 : TokenKind) → GoodFrames B L x0
       → GoodMove B L (on_assert_word text t x0 x1 x2)
   good_on_assert_word s at (Mark OpenRound) ok = assumption (bt, ok)
-  good_on_assert_word s at k ok = refused
+  good_on_assert_word s at k ok = refused text B L t bt nt
 
   pub good_on_after_require : (x0 : List Frame) (x1 : TokenKind) → GoodFrames B L x0
       → GoodMove B L (on_after_require text t x0 x1)
   good_on_after_require s (Mark OpenRound) ok = assumption (bt, ok)
-  good_on_after_require s k ok = refused
+  good_on_after_require s k ok = refused text B L t bt nt
 
   pub good_on_after_decreases : (x0 : List Frame) (x1 : ℕ) (x2 : TokenKind) → GoodFrames B L x0 → B x1
       → GoodMove B L (on_after_decreases text t x0 x1 x2)
   good_on_after_decreases s at (Mark OpenRound) ok h0 = assumption (bt, ok, h0)
-  good_on_after_decreases s at k ok h0 = refused
+  good_on_after_decreases s at k ok h0 = refused text B L t bt nt
 
   pub good_on_measure_open : (x0 : List Frame) (x1 : TokenKind) → GoodFrames B L x0
       → GoodMove B L (on_measure_open text t x0 x1)
@@ -122,13 +118,13 @@ module _ (text : Word) (B : ℕ → Type 0) (L : Word → ℕ → Type 0) (t : T
   pub good_on_tuple_closed : (x0 : List Frame) (x1 : List Tree) → GoodFrames B L x0
       → GoodMove B L (on_tuple_closed text t x0 x1)
   good_on_tuple_closed (measuring at [] ∷ s) es g = good_on_measured text B L t bt nt s at es g.1 g.0
-  good_on_tuple_closed (measuring at (x ∷ xs) ∷ s) es g = refused
-  good_on_tuple_closed s es g = refused
+  good_on_tuple_closed (measuring at (x ∷ xs) ∷ s) es g = refused text B L t bt nt
+  good_on_tuple_closed s es g = refused text B L t bt nt
 
   pub good_on_after_tuple : (x0 : List Frame) (x1 : List Tree) (x2 : TokenKind) → GoodFrames B L x0
       → GoodMove B L (on_after_tuple text t x0 x1 x2)
   good_on_after_tuple s es (Mark CloseRound) ok = good_on_tuple_closed s es (assumption (bt, ok))
-  good_on_after_tuple s es k ok = refused
+  good_on_after_tuple s es k ok = refused text B L t bt nt
 
   pub good_on_want_body : (x0 : List Frame) (x1 : TokenKind) → GoodFrames B L x0
       → GoodMove B L (on_want_body text t x0 x1)
@@ -138,21 +134,21 @@ module _ (text : Word) (B : ℕ → Type 0) (L : Word → ℕ → Type 0) (t : T
   pub good_on_contracted_end : (x0 : List Frame) (x1 : Tree) → GoodFrames B L x0
       → GoodMove B L (on_contracted_end text t x0 x1)
   good_on_contracted_end (body_of h a c ∷ s) e ok = tt
-  good_on_contracted_end s e ok = refused
+  good_on_contracted_end s e ok = refused text B L t bt nt
 
   pub good_on_misplaced : (x0 : Option Placed) → GoodPlaced B L x0 → GoodMove B L (on_misplaced text t x0)
   good_on_misplaced (Some p) h = h
-  good_on_misplaced None h = refused
+  good_on_misplaced None h = refused text B L t bt nt
 
   pub good_on_contracted_operand : (x0 : List Frame) → GoodFrames B L x0
       → GoodMove B L (on_contracted_operand text t x0)
   good_on_contracted_operand (body_of h a c ∷ s) g = good_on_misplaced c.first g.0.0
-  good_on_contracted_operand s g = refused
+  good_on_contracted_operand s g = refused text B L t bt nt
 
   pub good_on_contracted_operator : (x0 : List Frame) (x1 : Option BinaryOp) → GoodFrames B L x0
       → GoodMove B L (on_contracted_operator text t x0 x1)
   good_on_contracted_operator s (Some op) ok = good_on_contracted_operand s (assumption (bt, ok))
-  good_on_contracted_operator s None ok = refused
+  good_on_contracted_operator s None ok = refused text B L t bt nt
 
   pub good_on_have_contracted : (x0 : List Frame) (x1 : Tree) (x2 : TokenKind) → GoodFrames B L x0
       → GoodMove B L (on_have_contracted text t x0 x1 x2)
@@ -164,7 +160,7 @@ module _ (text : Word) (B : ℕ → Type 0) (L : Word → ℕ → Type 0) (t : T
   good_on_have_contracted s e (Mark CloseBrace) ok = good_on_contracted_end s e (assumption (bt, ok))
   good_on_have_contracted s e (Op o) ok = good_on_contracted_operator s (binary_of o) (assumption (bt, ok))
   good_on_have_contracted s e (Reserve Match) ok = good_on_contracted_operand s (assumption (bt, ok))
-  good_on_have_contracted s e k ok = refused
+  good_on_have_contracted s e k ok = refused text B L t bt nt
 
   pub good_on_contracted_name : (x0 : List Frame) (x1 : Tree) (x2 : Role) → GoodFrames B L x0
       → GoodMove B L (on_contracted_name text t x0 x1 x2)
@@ -177,13 +173,13 @@ module _ (text : Word) (B : ℕ → Type 0) (L : Word → ℕ → Type 0) (t : T
   pub good_on_contracted_dot : (x0 : List Frame) (x1 : Tree) (x2 : TokenKind) → GoodFrames B L x0
       → GoodMove B L (on_contracted_dot text t x0 x1 x2)
   good_on_contracted_dot s e Name ok = good_on_contracted_name s e (role (word text t)) (assumption (bt, ok))
-  good_on_contracted_dot s e k ok = refused
+  good_on_contracted_dot s e k ok = refused text B L t bt nt
 
   pub good_on_after_ensuring : (x0 : List Frame) (x1 : ℕ) (x2 : Tree) (x3 : TokenKind) → GoodFrames B L x0
       → GoodMove B L (on_after_ensuring text t x0 x1 x2 x3)
   good_on_after_ensuring s at e (Mark OpenRound) ok = assumption (bt, ok)
   good_on_after_ensuring s at e (Mark OpenBrace) ok = assumption (bt, ok)
-  good_on_after_ensuring s at e k ok = refused
+  good_on_after_ensuring s at e k ok = refused text B L t bt nt
 
   pub good_on_want_lambda : (x0 : List Frame) (x1 : TokenKind) → GoodFrames B L x0 → t.kind ≡ x1
       → GoodMove B L (on_want_lambda text t x0 x1)
@@ -245,7 +241,7 @@ module _ (text : Word) (B : ℕ → Type 0) (L : Word → ℕ → Type 0) (t : T
   pub good_on_lambda_typed : (x0 : List Frame) (x1 : Word) (x2 : TypeTree) (x3 : TokenKind) → GoodFrames B L x0
       → GoodMove B L (on_lambda_typed text t x0 x1 x2 x3)
   good_on_lambda_typed s w a (Op Arrow) ok = assumption (bt, ok)
-  good_on_lambda_typed s w a k ok = refused
+  good_on_lambda_typed s w a k ok = refused text B L t bt nt
 
   pub good_on_after_claim : (x0 : List Frame) (x1 : Word) (x2 : Option TypeTree) (x3 : Tree) (x4 : TokenKind)
       → GoodFrames B L x0 → GoodMove B L (on_after_claim text t x0 x1 x2 x3 x4)
@@ -255,17 +251,17 @@ module _ (text : Word) (B : ℕ → Type 0) (L : Word → ℕ → Type 0) (t : T
     bt,
     ok,
   ))
-  good_on_after_claim s w a e k ok = refused
+  good_on_after_claim s w a e k ok = refused text B L t bt nt
 
   pub good_on_after_body : (x0 : List Frame) (x1 : Tree) (x2 : Option PostTree) → GoodFrames B L x0
       → GoodMove B L (on_after_body text t x0 x1 x2)
   good_on_after_body (body_of h a c ∷ s) e p ok = tt
-  good_on_after_body s e p ok = refused
+  good_on_after_body s e p ok = refused text B L t bt nt
 
   pub good_on_want_name : (x0 : List Frame) (x1 : Kind) (x2 : TokenKind) → GoodFrames B L x0
       → GoodMove B L (on_want_name text t x0 x1 x2)
   good_on_want_name s kind Name ok = assumption (bt, ok)
-  good_on_want_name s kind k ok = refused
+  good_on_want_name s kind k ok = refused text B L t bt nt
 
   pub good_on_class_params : (x0 : List Frame) (x1 : Bool) (x2 : Bool) (x3 : Bool) (x4 : Head) (x5 : TokenKind)
       → GoodFrames B L x0 → GoodMove B L (on_class_params text t x0 x1 x2 x3 x4 x5)
@@ -275,14 +271,14 @@ module _ (text : Word) (B : ℕ → Type 0) (L : Word → ℕ → Type 0) (t : T
   pub good_on_def_params : (x0 : List Frame) (x1 : Head) (x2 : TokenKind) → GoodFrames B L x0
       → GoodMove B L (on_def_params text t x0 x1 x2)
   good_on_def_params s h (Op Colon) ok = assumption (bt, ok)
-  good_on_def_params s h k ok = refused
+  good_on_def_params s h k ok = refused text B L t bt nt
 
   pub good_on_after_params : (x0 : List Frame) (x1 : TokenKind) → GoodFrames B L x0
       → GoodMove B L (on_after_params text t x0 x1)
   good_on_after_params (header (of_class sealed case trait) h ∷ s) k ok = good_on_class_params s sealed case trait
       h k (assumption (bt, ok))
   good_on_after_params (header of_def h ∷ s) k ok = good_on_def_params s h k (assumption (bt, ok))
-  good_on_after_params s k ok = refused
+  good_on_after_params s k ok = refused text B L t bt nt
 
   pub good_on_after_type_params : (x0 : List Frame) (x1 : TokenKind) → GoodFrames B L x0
       → GoodMove B L (on_after_type_params text t x0 x1)
@@ -296,27 +292,27 @@ module _ (text : Word) (B : ℕ → Type 0) (L : Word → ℕ → Type 0) (t : T
 
   pub good_on_type_param : (x0 : List Frame) → GoodFrames B L x0 → GoodMove B L (on_type_param text t x0)
   good_on_type_param (header kind h ∷ s) ok = assumption (bt, ok)
-  good_on_type_param s ok = refused
+  good_on_type_param s ok = refused text B L t bt nt
 
   pub good_on_want_type_param : (x0 : List Frame) (x1 : TokenKind) → GoodFrames B L x0
       → GoodMove B L (on_want_type_param text t x0 x1)
   good_on_want_type_param s Name ok = good_on_type_param s (assumption (bt, ok))
-  good_on_want_type_param s k ok = refused
+  good_on_want_type_param s k ok = refused text B L t bt nt
 
   pub good_on_after_type_param : (x0 : List Frame) (x1 : TokenKind) → GoodFrames B L x0
       → GoodMove B L (on_after_type_param text t x0 x1)
   good_on_after_type_param s (Mark Comma) ok = assumption (bt, ok)
   good_on_after_type_param s (Mark CloseSquare) ok = assumption (bt, ok)
-  good_on_after_type_param s k ok = refused
+  good_on_after_type_param s k ok = refused text B L t bt nt
 
   pub good_on_want_param : (x0 : List Frame) (x1 : TokenKind) → GoodFrames B L x0
       → GoodMove B L (on_want_param text t x0 x1)
   good_on_want_param s Name ok = assumption (bt, ok)
-  good_on_want_param s k ok = refused
+  good_on_want_param s k ok = refused text B L t bt nt
 
   pub good_on_no_params : (x0 : List Frame) → GoodFrames B L x0 → GoodMove B L (on_no_params text t x0)
   good_on_no_params (header kind h ∷ s) ok = assumption (bt, ok)
-  good_on_no_params s ok = refused
+  good_on_no_params s ok = refused text B L t bt nt
 
   pub good_on_params_open : (x0 : List Frame) (x1 : TokenKind) → GoodFrames B L x0
       → GoodMove B L (on_params_open text t x0 x1)
@@ -326,14 +322,14 @@ module _ (text : Word) (B : ℕ → Type 0) (L : Word → ℕ → Type 0) (t : T
   pub good_on_param_name : (x0 : List Frame) (x1 : ℕ) (x2 : Word) (x3 : TokenKind) → GoodFrames B L x0
       → GoodMove B L (on_param_name text t x0 x1 x2 x3)
   good_on_param_name s at w (Op Colon) ok = assumption (bt, ok)
-  good_on_param_name s at w k ok = refused
+  good_on_param_name s at w k ok = refused text B L t bt nt
 
   pub good_on_want_object_name : (x0 : List Frame) (x1 : TokenKind) → GoodFrames B L x0
       → GoodMove B L (on_want_object_name text t x0 x1)
   good_on_want_object_name s Name ok = assumption (bt, ok)
-  good_on_want_object_name s k ok = refused
+  good_on_want_object_name s k ok = refused text B L t bt nt
 
   pub good_on_object_name : (x0 : List Frame) (x1 : ℕ) (x2 : Word) (x3 : TokenKind) → GoodFrames B L x0
       → GoodMove B L (on_object_name text t x0 x1 x2 x3)
   good_on_object_name s at w (Reserve Extends) ok = assumption (bt, ok)
-  good_on_object_name s at w k ok = refused
+  good_on_object_name s at w k ok = refused text B L t bt nt

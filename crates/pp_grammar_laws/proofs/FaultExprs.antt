@@ -16,11 +16,10 @@ use Rattle.pp_grammar.specs.StepExprs.{on_negative_dot, on_negative_field, on_ne
 use Rattle.pp_grammar.specs.StepExprs.{on_operand_name, on_operator, on_post_operand, on_post_word, on_required}
 use Rattle.pp_grammar.specs.StepExprs.{on_round_closed, on_sealed_brace, on_sealed_case, on_semi, on_semicolon}
 use Rattle.pp_grammar.specs.StepExprs.{on_unwound, on_want, on_want_case, on_want_else, on_want_then}
-use Rattle.pp_grammar.specs.StepTypes.{refuse}
 use Rattle.pp_grammar.specs.Words.{Role, binary_of, bound_of, ensuring_word, holds_word, int_word, is_signed, level}
 use Rattle.pp_grammar.specs.Words.{loosest, negative_of, number_of, plain, res, role, tightest, word}
 use Rattle.pp_grammar_laws.proofs.Faults.{GoodContracts, GoodFrames, GoodMove, NameOk, good_cond, good_late, good_seal}
-use Rattle.pp_grammar_laws.proofs.Faults.{good_unwind, refusal_good}
+use Rattle.pp_grammar_laws.proofs.Faults.{good_unwind, refused}
 use Rattle.pp_tokens.specs.declared.token.Bracket.TheVariants.{CloseBrace, CloseRound, Comma, Dot, OpenBrace, OpenRound}
 use Rattle.pp_tokens.specs.declared.token.Bracket.TheVariants.{OpenSquare, Semicolon}
 use Rattle.pp_tokens.specs.declared.token.Operator.TheVariants.{Arrow, Flip, Minus, Not}
@@ -35,18 +34,15 @@ use Rattle.std.proofs.Common.{Bool, List, None, Option, Some, [], false, true, �
 
 module _ (text : Word) (B : ℕ → Type 0) (L : Word → ℕ → Type 0) (t : Token) (bt : B t.from)
     (nt : t.kind ≡ Name → NameOk B L (word text t) t.from) where
-  refused : GoodMove B L (refuse text t)
-  refused = refusal_good text B L t bt nt
-
   pub good_on_number : (x0 : List Frame) (x1 : Option ℤ) → GoodFrames B L x0 → GoodMove B L (on_number text t x0 x1)
   good_on_number s (Some n) ok = assumption (bt, ok)
-  good_on_number s None ok = refused
+  good_on_number s None ok = refused text B L t bt nt
 
   pub good_on_operand_name : (x0 : List Frame) (x1 : Role) → GoodFrames B L x0
       → GoodMove B L (on_operand_name text t x0 x1)
   good_on_operand_name s plain ok = assumption (bt, ok)
   good_on_operand_name s int_word ok = assumption (bt, ok)
-  good_on_operand_name s r ok = refused
+  good_on_operand_name s r ok = refused text B L t bt nt
 
   pub good_on_want : (x0 : List Frame) (x1 : TokenKind) → GoodFrames B L x0 → GoodMove B L (on_want text t x0 x1)
   good_on_want s (Number n) ok = good_on_number s (number_of (Number n)) (assumption (bt, ok))
@@ -54,19 +50,23 @@ module _ (text : Word) (B : ℕ → Type 0) (L : Word → ℕ → Type 0) (t : T
   good_on_want s Name ok = good_on_operand_name s (role (word text t)) (assumption (bt, ok))
   good_on_want s (Reserve True) ok = assumption (bt, ok)
   good_on_want s (Reserve False) ok = assumption (bt, ok)
-  good_on_want s Hole ok = good_cond B L (takes_hole s) _ _ (assumption (bt, ok)) (refused)
-  good_on_want s (Op Minus) ok = good_cond B L (nat_le (floor s) tightest) _ _ (assumption (bt, ok)) (refused)
-  good_on_want s (Op Not) ok = good_cond B L (nat_le (floor s) tightest) _ _ (assumption (bt, ok)) (refused)
-  good_on_want s (Op Flip) ok = good_cond B L (nat_le (floor s) tightest) _ _ (assumption (bt, ok)) (refused)
+  good_on_want s Hole ok = good_cond B L (takes_hole s) _ _ (assumption (bt, ok)) (refused text B L t bt nt)
+  good_on_want s (Op Minus) ok =
+      good_cond B L (nat_le (floor s) tightest) _ _ (assumption (bt, ok)) (refused text B L t bt nt)
+  good_on_want s (Op Not) ok =
+      good_cond B L (nat_le (floor s) tightest) _ _ (assumption (bt, ok)) (refused text B L t bt nt)
+  good_on_want s (Op Flip) ok =
+      good_cond B L (nat_le (floor s) tightest) _ _ (assumption (bt, ok)) (refused text B L t bt nt)
   good_on_want s (Mark OpenRound) ok = assumption (bt, ok)
   good_on_want s (Mark OpenBrace) ok = assumption (bt, ok)
-  good_on_want s (Reserve If) ok = good_cond B L (nat_le (floor s) 0) _ _ (assumption (bt, ok)) (refused)
-  good_on_want s k ok = refused
+  good_on_want s (Reserve If) ok =
+      good_cond B L (nat_le (floor s) 0) _ _ (assumption (bt, ok)) (refused text B L t bt nt)
+  good_on_want s k ok = refused text B L t bt nt
 
   pub good_on_negative : (x0 : List Frame) (x1 : ℕ) (x2 : Option ℤ) → GoodFrames B L x0
       → GoodMove B L (on_negative text t x0 x1 x2)
   good_on_negative s at (Some n) ok = assumption (bt, ok)
-  good_on_negative s at None ok = refused
+  good_on_negative s at None ok = refused text B L t bt nt
 
   pub good_on_minus : (x0 : List Frame) (x1 : ℕ) (x2 : ℕ) (x3 : TokenKind) → GoodFrames B L x0
       → GoodMove B L (on_minus text t x0 x1 x2 x3)
@@ -76,7 +76,7 @@ module _ (text : Word) (B : ℕ → Type 0) (L : Word → ℕ → Type 0) (t : T
   pub good_on_if : (x0 : List Frame) (x1 : ℕ) (x2 : TokenKind) → GoodFrames B L x0
       → GoodMove B L (on_if text t x0 x1 x2)
   good_on_if s at (Mark OpenRound) ok = assumption (bt, ok)
-  good_on_if s at k ok = refused
+  good_on_if s at k ok = refused text B L t bt nt
 
   pub good_on_want_then : (x0 : List Frame) (x1 : TokenKind) → GoodFrames B L x0
       → GoodMove B L (on_want_then text t x0 x1)
@@ -86,26 +86,26 @@ module _ (text : Word) (B : ℕ → Type 0) (L : Word → ℕ → Type 0) (t : T
   pub good_on_claim_round : (x0 : List Frame) (x1 : Word) (x2 : Option TypeTree) (x3 : Tree) → GoodFrames B L x0
       → GoodMove B L (on_claim_round text t x0 x1 x2 x3)
   good_on_claim_round (post_of at b in_parentheses ∷ s) w a e ok = assumption (bt, ok)
-  good_on_claim_round s w a e ok = refused
+  good_on_claim_round s w a e ok = refused text B L t bt nt
 
   pub good_on_claim_brace : (x0 : List Frame) (x1 : Word) (x2 : Option TypeTree) (x3 : Tree) → GoodFrames B L x0
       → GoodMove B L (on_claim_brace text t x0 x1 x2 x3)
   good_on_claim_brace (post_of at b in_braces ∷ s) w a e ok = assumption (bt, ok)
-  good_on_claim_brace s w a e ok = refused
+  good_on_claim_brace s w a e ok = refused text B L t bt nt
 
   pub good_on_claim_semi : (x0 : List Frame) (x1 : Word) (x2 : Option TypeTree) (x3 : Tree) → GoodFrames B L x0
       → GoodMove B L (on_claim_semi text t x0 x1 x2 x3)
   good_on_claim_semi (post_of at b in_braces ∷ s) w a e ok = assumption (bt, ok)
-  good_on_claim_semi s w a e ok = refused
+  good_on_claim_semi s w a e ok = refused text B L t bt nt
 
   pub good_on_required : (x0 : List Frame) (x1 : Tree) → GoodFrames B L x0 → GoodMove B L (on_required text t x0 x1)
   good_on_required (head_braces c ∷ s) e ok = assumption (bt, ok)
-  good_on_required s e ok = refused
+  good_on_required s e ok = refused text B L t bt nt
 
   pub good_on_measured : (x0 : List Frame) (x1 : ℕ) (x2 : List Tree) → GoodFrames B L x0 → B x1
       → GoodMove B L (on_measured text t x0 x1 x2)
   good_on_measured (head_braces c ∷ s) at es g h0 = (((g.0.0, good_late B L c.requirements at h0), g.1), tt)
-  good_on_measured s at es g h0 = refused
+  good_on_measured s at es g h0 = refused text B L t bt nt
 
   pub good_on_round_closed : (x0 : List Frame) (x1 : Tree) → GoodFrames B L x0
       → GoodMove B L (on_round_closed text t x0 x1)
@@ -118,34 +118,34 @@ module _ (text : Word) (B : ℕ → Type 0) (L : Word → ℕ → Type 0) (t : T
   good_on_round_closed (tuple_or_round ∷ s) e g = (g.1, tt)
   good_on_round_closed (in_tuple es ∷ s) e g = (g.1, tt)
   good_on_round_closed (claiming w a ∷ s) e g = good_on_claim_round s w a e g.1
-  good_on_round_closed s e g = refused
+  good_on_round_closed s e g = refused text B L t bt nt
 
   pub good_on_comma : (x0 : List Frame) (x1 : Tree) → GoodFrames B L x0 → GoodMove B L (on_comma text t x0 x1)
   good_on_comma (args at w ts es ∷ s) e ok = assumption (bt, ok)
   good_on_comma (measuring at es ∷ s) e ok = assumption (bt, ok)
   good_on_comma (tuple_or_round ∷ s) e ok = assumption (bt, ok)
   good_on_comma (in_tuple es ∷ s) e ok = assumption (bt, ok)
-  good_on_comma s e ok = refused
+  good_on_comma s e ok = refused text B L t bt nt
 
   pub good_on_else : (x0 : List Frame) (x1 : Tree) → GoodFrames B L x0 → GoodMove B L (on_else text t x0 x1)
   good_on_else (if_then at c ∷ s) e ok = assumption (bt, ok)
-  good_on_else s e ok = refused
+  good_on_else s e ok = refused text B L t bt nt
 
   pub good_on_head_closed : (x0 : List Frame) (x1 : Contracts) (x2 : Option Placed) (x3 : Tree)
       → GoodFrames B L x0 → GoodContracts B L x1 → GoodMove B L (on_head_closed text t x0 x1 x2 x3)
   good_on_head_closed (body_of h a d ∷ s) c (Some p) e g h0 = ((h0, g.1), tt)
   good_on_head_closed (body_of h a d ∷ s) c None e g h0 = (g, tt)
-  good_on_head_closed s c p e g h0 = refused
+  good_on_head_closed s c p e g h0 = refused text B L t bt nt
 
   pub good_on_match_closed : (x0 : List Frame) (x1 : CaseText) → GoodFrames B L x0
       → GoodMove B L (on_match_closed text t x0 x1)
   good_on_match_closed (cases_of at x cs ∷ s) c ok = assumption (bt, ok)
-  good_on_match_closed s c ok = refused
+  good_on_match_closed s c ok = refused text B L t bt nt
 
   pub good_on_next_case : (x0 : List Frame) (x1 : CaseText) → GoodFrames B L x0
       → GoodMove B L (on_next_case text t x0 x1)
   good_on_next_case (cases_of at x cs ∷ s) c ok = assumption (bt, ok)
-  good_on_next_case s c ok = refused
+  good_on_next_case s c ok = refused text B L t bt nt
 
   pub good_on_brace_closed : (x0 : List Frame) (x1 : Tree) → GoodFrames B L x0
       → GoodMove B L (on_brace_closed text t x0 x1)
@@ -154,12 +154,12 @@ module _ (text : Word) (B : ℕ → Type 0) (L : Word → ℕ → Type 0) (t : T
   good_on_brace_closed (arm p q ∷ s) e g = good_on_match_closed s (record { pattern = p; guard = q; body = e }) g.1
   good_on_brace_closed (claiming w a ∷ s) e g = good_on_claim_brace s w a e g.1
   good_on_brace_closed (body_of h a c ∷ s) e g = tt
-  good_on_brace_closed s e g = refused
+  good_on_brace_closed s e g = refused text B L t bt nt
 
   pub good_on_case_ended : (x0 : List Frame) (x1 : Tree) → GoodFrames B L x0
       → GoodMove B L (on_case_ended text t x0 x1)
   good_on_case_ended (arm p q ∷ s) e g = good_on_next_case s (record { pattern = p; guard = q; body = e }) g.1
-  good_on_case_ended s e g = refused
+  good_on_case_ended s e g = refused text B L t bt nt
 
   pub good_on_semi : (x0 : List Frame) (x1 : Tree) → GoodFrames B L x0 → GoodMove B L (on_semi text t x0 x1)
   good_on_semi (val_value at w a ∷ s) e ok = assumption (bt, ok)
@@ -170,7 +170,7 @@ module _ (text : Word) (B : ℕ → Type 0) (L : Word → ℕ → Type 0) (t : T
   good_on_semi (arm p g ∷ s) e ok = assumption (bt, ok)
   good_on_semi (claiming w a ∷ s) e ok = good_on_claim_semi s w a e (assumption (bt, ok))
   good_on_semi (body_of h a c ∷ s) e ok = tt
-  good_on_semi s e ok = refused
+  good_on_semi s e ok = refused text B L t bt nt
 
   pub good_on_semicolon : (x0 : List Frame) (x1 : Tree) → GoodFrames B L x0 → GoodMove B L (on_semicolon text t x0 x1)
   good_on_semicolon (if_then at c ∷ s) e ok = assumption (bt, ok)
@@ -191,7 +191,7 @@ module _ (text : Word) (B : ℕ → Type 0) (L : Word → ℕ → Type 0) (t : T
   good_on_expr_end s e Newline g = good_on_semi s e g
   good_on_expr_end s e (Reserve Else) g = good_on_else s e g
   good_on_expr_end s e (Reserve Case) g = good_on_sealed_case (seal s e) (good_seal B L s e g)
-  good_on_expr_end s e k g = refused
+  good_on_expr_end s e k g = refused text B L t bt nt
 
   pub good_on_hole_end : (x0 : List Frame) (x1 : Tree) (x2 : TokenKind) → GoodFrames B L x0
       → GoodMove B L (on_hole_end text t x0 x1 x2)
@@ -199,7 +199,7 @@ module _ (text : Word) (B : ℕ → Type 0) (L : Word → ℕ → Type 0) (t : T
   good_on_hole_end (claiming_hole ∷ s) e (Mark CloseBrace) ok = good_on_claim_brace s res None e (assumption (bt, ok))
   good_on_hole_end (claiming_hole ∷ s) e (Mark Semicolon) ok = good_on_claim_semi s res None e (assumption (bt, ok))
   good_on_hole_end (claiming_hole ∷ s) e Newline ok = good_on_claim_semi s res None e (assumption (bt, ok))
-  good_on_hole_end s e k ok = refused
+  good_on_hole_end s e k ok = refused text B L t bt nt
 
   pub good_on_end : (x0 : List Frame) (x1 : Tree) (x2 : Bool) (x3 : TokenKind) → GoodFrames B L x0
       → GoodMove B L (on_end text t x0 x1 x2 x3)
@@ -217,28 +217,28 @@ module _ (text : Word) (B : ℕ → Type 0) (L : Word → ℕ → Type 0) (t : T
   pub good_on_guard : (x0 : List Frame) (x1 : Tree) (x2 : Bool) → GoodFrames B L x0
       → GoodMove B L (on_guard text t x0 x1 x2)
   good_on_guard (guarding p ∷ s) e false ok = assumption (bt, ok)
-  good_on_guard s e h ok = refused
+  good_on_guard s e h ok = refused text B L t bt nt
 
   pub good_on_match : (x0 : List Frame) (x1 : Tree) (x2 : Bool) → GoodFrames B L x0
       → GoodMove B L (on_match text t x0 x1 x2)
-  good_on_match s e true ok = refused
-  good_on_match s e false ok = good_cond B L (nat_le (floor s) 0) _ _ (assumption (bt, ok)) (refused)
+  good_on_match s e true ok = refused text B L t bt nt
+  good_on_match s e false ok = good_cond B L (nat_le (floor s) 0) _ _ (assumption (bt, ok)) (refused text B L t bt nt)
 
   pub good_on_ensuring : (x0 : List Frame) (x1 : Tree) (x2 : Bool) → GoodFrames B L x0
       → GoodMove B L (on_ensuring text t x0 x1 x2)
   good_on_ensuring (body_of h a c ∷ s) e false ok = assumption (bt, ok)
-  good_on_ensuring s e h ok = refused
+  good_on_ensuring s e h ok = refused text B L t bt nt
 
   pub good_on_holds : (x0 : List Frame) (x1 : Tree) (x2 : Bool) → GoodFrames B L x0
       → GoodMove B L (on_holds text t x0 x1 x2)
   good_on_holds (body_of h a c ∷ s) e false ok = assumption (bt, ok)
-  good_on_holds s e h ok = refused
+  good_on_holds s e h ok = refused text B L t bt nt
 
   pub good_on_post_word : (x0 : List Frame) (x1 : Tree) (x2 : Bool) (x3 : Role) → GoodFrames B L x0
       → GoodMove B L (on_post_word text t x0 x1 x2 x3)
   good_on_post_word s e h ensuring_word ok = good_on_ensuring s e h (assumption (bt, ok))
   good_on_post_word s e h holds_word ok = good_on_holds s e h (assumption (bt, ok))
-  good_on_post_word s e h r ok = refused
+  good_on_post_word s e h r ok = refused text B L t bt nt
 
   pub good_on_post_operand : (x0 : Operand) → GoodFrames B L x0.frames → GoodMove B L (on_post_operand text t x0)
   good_on_post_operand u g = good_on_post_word u.frames u.tree u.holed (role (word text t)) g
@@ -247,7 +247,7 @@ module _ (text : Word) (B : ℕ → Type 0) (L : Word → ℕ → Type 0) (t : T
       → GoodMove B L (on_binary text t x0 x1 x2 x3)
   good_on_binary s e h (Some op) g = good_on_operator op (unwind (level op) s e h) (good_unwind B L (level op) s e
       h g)
-  good_on_binary s e h None g = refused
+  good_on_binary s e h None g = refused text B L t bt nt
 
   pub good_on_operand : (x0 : List Frame) (x1 : Tree) (x2 : Bool) (x3 : TokenKind) → GoodFrames B L x0
       → GoodMove B L (on_operand text t x0 x1 x2 x3)
@@ -272,7 +272,7 @@ module _ (text : Word) (B : ℕ → Type 0) (L : Word → ℕ → Type 0) (t : T
   pub good_on_dot : (x0 : List Frame) (x1 : Tree) (x2 : Bool) (x3 : TokenKind) → GoodFrames B L x0
       → GoodMove B L (on_dot text t x0 x1 x2 x3)
   good_on_dot s e h Name ok = good_on_dot_name s e h (role (word text t)) (assumption (bt, ok))
-  good_on_dot s e h k ok = refused
+  good_on_dot s e h k ok = refused text B L t bt nt
 
   pub good_on_have_negative : (x0 : List Frame) (x1 : Tree) (x2 : TokenKind) → GoodFrames B L x0
       → GoodMove B L (on_have_negative text t x0 x1 x2)
@@ -282,16 +282,16 @@ module _ (text : Word) (B : ℕ → Type 0) (L : Word → ℕ → Type 0) (t : T
   pub good_on_negative_field : (x0 : List Frame) (x1 : Tree) (x2 : Role) → GoodFrames B L x0
       → GoodMove B L (on_negative_field text t x0 x1 x2)
   good_on_negative_field s e plain ok = assumption (bt, ok)
-  good_on_negative_field s e r ok = refused
+  good_on_negative_field s e r ok = refused text B L t bt nt
 
   pub good_on_negative_dot : (x0 : List Frame) (x1 : Tree) (x2 : TokenKind) → GoodFrames B L x0
       → GoodMove B L (on_negative_dot text t x0 x1 x2)
   good_on_negative_dot s e Name ok = good_on_negative_field s e (role (word text t)) (assumption (bt, ok))
-  good_on_negative_dot s e k ok = refused
+  good_on_negative_dot s e k ok = refused text B L t bt nt
 
   pub good_on_match_dot : (x0 : List Frame) (x1 : Tree) → GoodFrames B L x0 → GoodMove B L (on_match_dot text t x0 x1)
   good_on_match_dot (body_of h a c ∷ s) e ok = assumption (bt, ok)
-  good_on_match_dot s e ok = refused
+  good_on_match_dot s e ok = refused text B L t bt nt
 
   pub good_on_have_matched : (x0 : List Frame) (x1 : Tree) (x2 : TokenKind) → GoodFrames B L x0
       → GoodMove B L (on_have_matched text t x0 x1 x2)
@@ -302,7 +302,7 @@ module _ (text : Word) (B : ℕ → Type 0) (L : Word → ℕ → Type 0) (t : T
   pub good_on_matched_dot : (x0 : List Frame) (x1 : Tree) (x2 : TokenKind) → GoodFrames B L x0
       → GoodMove B L (on_matched_dot text t x0 x1 x2)
   good_on_matched_dot s e Name ok = good_on_post_word s e false (role (word text t)) (assumption (bt, ok))
-  good_on_matched_dot s e k ok = refused
+  good_on_matched_dot s e k ok = refused text B L t bt nt
 
   pub good_on_name : (x0 : List Frame) (x1 : ℕ) (x2 : Word) (x3 : TokenKind) → GoodFrames B L x0
       → GoodMove B L (on_name text t x0 x1 x2 x3)
@@ -328,24 +328,24 @@ module _ (text : Word) (B : ℕ → Type 0) (L : Word → ℕ → Type 0) (t : T
   pub good_on_bound : (x0 : List Frame) (x1 : ℕ) (x2 : Option ℤ) → GoodFrames B L x0
       → GoodMove B L (on_bound text t x0 x1 x2)
   good_on_bound s at (Some n) ok = assumption (bt, ok)
-  good_on_bound s at None ok = refused
+  good_on_bound s at None ok = refused text B L t bt nt
 
   pub good_on_int_dot : (x0 : List Frame) (x1 : ℕ) (x2 : TokenKind) → GoodFrames B L x0
       → GoodMove B L (on_int_dot text t x0 x1 x2)
   good_on_int_dot s at Name ok = good_on_bound s at (bound_of (word text t)) (assumption (bt, ok))
-  good_on_int_dot s at k ok = refused
+  good_on_int_dot s at k ok = refused text B L t bt nt
 
   pub good_on_match_word : (x0 : List Frame) (x1 : ℕ) (x2 : Tree) (x3 : TokenKind) → GoodFrames B L x0
       → GoodMove B L (on_match_word text t x0 x1 x2 x3)
   good_on_match_word s at e (Mark OpenBrace) ok = assumption (bt, ok)
-  good_on_match_word s at e k ok = refused
+  good_on_match_word s at e k ok = refused text B L t bt nt
 
   pub good_on_want_case : (x0 : List Frame) (x1 : TokenKind) → GoodFrames B L x0
       → GoodMove B L (on_want_case text t x0 x1)
   good_on_want_case s (Reserve Case) ok = assumption (bt, ok)
-  good_on_want_case s k ok = refused
+  good_on_want_case s k ok = refused text B L t bt nt
 
   pub good_on_want_else : (x0 : List Frame) (x1 : Tree) (x2 : TokenKind) → GoodFrames B L x0
       → GoodMove B L (on_want_else text t x0 x1 x2)
   good_on_want_else s e (Reserve Else) ok = good_on_else s e (assumption (bt, ok))
-  good_on_want_else s e k ok = refused
+  good_on_want_else s e k ok = refused text B L t bt nt

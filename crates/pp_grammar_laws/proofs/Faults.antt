@@ -130,5 +130,5 @@ module _ (text : Word) (B : ℕ → Type 0) (L : Word → ℕ → Type 0) (t : T
   fault_good Name is = refused_name_good (role (word text t)) refl (nt is)
   fault_good _ is = bt
 
-  pub refusal_good : GoodMove B L (refuse text t)
-  refusal_good = fault_good t.kind refl
+  pub refused : GoodMove B L (refuse text t)
+  refused = fault_good t.kind refl

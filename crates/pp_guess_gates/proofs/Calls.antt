@@ -21,10 +21,12 @@ use Rattle.pp_steps.specs.Frames.{Frame, admitting, descending, measuring, resul
 use Rattle.pp_steps.specs.Guesses.{asking, comparing, comparing_if, guessing, open_call, own_call}
 use Rattle.pp_steps.specs.Piece.{Piece, after, asks, joined, plain}
 use Rattle.pp_steps.specs.Sorted.{AllSorted, Sorts}
+use Rattle.pp_steps_gates.proofs.Pieces.{IsBit}
+use Rattle.pp_steps_gates.proofs.Tables.{FrameCovers}
 use Rattle.pp_guess_gates.proofs.Demanded.{admitting_light, measuring_light}
 use Rattle.pp_guess_gates.proofs.Lists.{Answers, IsAnswered}
-use Rattle.pp_guess_gates.proofs.Measures.{FrameCovers, descending_light}
-use Rattle.pp_guess_gates.proofs.Pieces.{IsBit, IsLight, lighter, load, load_of_both, plain_light, sorted_left}
+use Rattle.pp_guess_gates.proofs.Measures.{Fits, descending_light}
+use Rattle.pp_guess_gates.proofs.Pieces.{IsLight, lighter, load, load_of_both, plain_light, sorted_left}
 use Rattle.pp_guess_gates.proofs.Pieces.{sorted_right, width_low}
 use Rattle.pp_guess_gates.proofs.Prices.{Prices, call_price, worth, worth_of_both}
 use Rattle.pp_guess_gates.proofs.Reserves.{body_visit, body_worth, left_in, left_low, measure_shapes, reserve}
@@ -38,14 +40,8 @@ module _ (p : Program) (σ : Sorts) (ψ : Prices) (n r : ℕ) where
   abbrev L : {A : Type 0} → ℕ → Piece A → ℕ
   L = load p.types σ ψ left
 
-  abbrev Bit : ℕ → Type 0
-  Bit = IsBit p.types σ ψ left
-
   abbrev pub A : List Shape → Site → Calls → Type 0
   A old site calls = Answers p.types σ ψ left old p.functions site calls
-
-  abbrev Frames : Frame → List Shape → Type 0
-  Frames = FrameCovers p.types σ ψ left
 
   -- the visit of a call of f, when its measure isn't compared
   abbrev contract_worth : Calls → Function → List Shape → ℕ
@@ -71,7 +67,7 @@ module _ (p : Program) (σ : Sorts) (ψ : Prices) (n r : ℕ) where
   -- the call leaves.
   record IsLeft (wait : ℕ) (g : FunctionId) (f : Function) (k : ℕ) (x : Piece ℕ) : Type 0 where
     out : σ x.out ≡ f.result
-    alive : Bit x.alive
+    alive : IsBit σ x.alive
     few : L k x ≤ 37 + (call_price ψ g + reserve p ψ (n - wait) g)
 
   asking_left : (wait : ℕ) (g : FunctionId) (f : Function) → slice_get p.functions g.0 ≡ Some f → (k reach : ℕ)
@@ -126,13 +122,13 @@ module _ (p : Program) (σ : Sorts) (ψ : Prices) (n r : ℕ) where
   Any i = Unit {0}
 
   module _ (calls : Calls) (its : A [] (asking p.functions 1) calls) (asked : Option CheckId) (fr : Frame)
-      (old : List Shape) (frames : Frames fr old) (g : FunctionId) (f : Function)
+      (old : List Shape) (frames : FrameCovers (Fits σ) fr old) (g : FunctionId) (f : Function)
       (is : slice_get p.functions g.0 ≡ Some f) (pre down : Option CheckId) (args : List ℕ) (hs : List Shape)
       (are : Are σ args hs (param_sorts f.params)) where
     abbrev site : Site
     site = asking p.functions 1
 
-    comparing_light : (b : Bool) (k reach : ℕ) → Bit reach
+    comparing_light : (b : Bool) (k reach : ℕ) → IsBit σ reach
         → AllSorted p.types σ k (comparing_if b asked site fr f.measure down k args reach).steps
         → IsLight p.types σ ψ left Any k (comparing_if b asked site fr f.measure down k args reach)
         (worth ψ (all_events (components p.types calls f.measure hs))
@@ -158,12 +154,12 @@ module _ (p : Program) (σ : Sorts) (ψ : Prices) (n r : ℕ) where
     -- the site of a call from the own frame
     record IsOwn (k : ℕ) (x : Piece ℕ) : Type 0 where
       out : σ x.out ≡ f.result
-      alive : Bit x.alive
+      alive : IsBit σ x.alive
       few : L k x
           ≤ 46 + (call_price ψ g + reserve p ψ (n - 0) g)
           + (contract_worth calls f hs + worth ψ (compared p.types down (measure_shapes p ψ calls f hs) old))
 
-    own_left : (k reach : ℕ) → Bit reach
+    own_left : (k reach : ℕ) → IsBit σ reach
         → AllSorted p.types σ k (own_call p.functions asked fr (Some f) k reach g pre down args).steps
         → IsOwn k (own_call p.functions asked fr (Some f) k reach g pre down args)
     own_left k reach bit m =
@@ -187,7 +183,7 @@ module _ (p : Program) (σ : Sorts) (ψ : Prices) (n r : ℕ) where
 
 -- the sites of the own frame
 module _ (p : Program) (σ : Sorts) (ψ : Prices) (r : ℕ) (asked : Option CheckId) (fr : Frame) (old : List Shape) where
-  own_zero : FrameCovers p.types σ ψ (left_in p ψ 0 r) fr old
+  own_zero : FrameCovers (Fits σ) fr old
       → A p σ ψ 0 r old (guessing p.functions asked fr) (own_calls p.types p.functions 0)
   own_zero frames k reach g pre down args hs f is are bit m =
       let calls = inner_calls p.types p.functions 0 in
@@ -207,7 +203,7 @@ module _ (p : Program) (σ : Sorts) (ψ : Prices) (r : ℕ) (asked : Option Chec
       ++ compared p.types down (measure_at p.types p.functions o hs) old)))) (sym is)
       (record { shape = refl; out = h.out; alive = h.alive; few = omega arith })
 
-  own_later : (m : ℕ) → FrameCovers p.types σ ψ (left_in p ψ (suc m) r) fr old
+  own_later : (m : ℕ) → FrameCovers (Fits σ) fr old
       → A p σ ψ (suc m) r old (guessing p.functions asked fr) (own_calls p.types p.functions (suc m))
   own_later n frames k reach g pre down args hs f is are bit m =
       let calls = inner_calls p.types p.functions n in
@@ -231,7 +227,7 @@ module _ (p : Program) (σ : Sorts) (ψ : Prices) (r : ℕ) (asked : Option Chec
       visit u.shape (u.events ++ compared p.types down u.measure old))) (sym is)
       (record { shape = refl; out = h.out; alive = h.alive; few = omega arith })
 
-  pub own_answers : (n : ℕ) → FrameCovers p.types σ ψ (left_in p ψ n r) fr old
+  pub own_answers : (n : ℕ) → FrameCovers (Fits σ) fr old
       → A p σ ψ n r old (guessing p.functions asked fr) (own_calls p.types p.functions n)
   own_answers zero frames = own_zero frames
   own_answers (suc m) frames = own_later m frames

@@ -1,13 +1,13 @@
 -- Matches: their steps weigh at most what their visits are worth.
-use Rattle.std.proofs.Common.{◌≡◌, ℕ, zero, suc, ◌+◌, ◌*◌, ◌≤◌, Bool, true, false, List, [], ◌∷◌, ◌++◌, map, length}
-use Rattle.std.proofs.Common.{Option, Some, None, refl, sym, ap, ◌∙◌, subst, arith}
+use Rattle.std.proofs.Common.{◌≡◌, ℕ, zero, suc, ◌+◌, ◌*◌, ◌≤◌, Bool, List, [], ◌∷◌, ◌++◌, map, length, Option, Some}
+use Rattle.std.proofs.Common.{None, refl, sym, ap, ◌∙◌, subst, arith}
 use Rattle.std.proofs.Math.Nat.{suc-mul}
 use Rattle.pp_prog.specs.declared.id.CheckId.{CheckId}
 use Rattle.pp_prog.specs.declared.program.Program.{Program}
 use Rattle.pp_prog.specs.declared.sort.Sort.{Sort}
 use Rattle.pp_prog.specs.declared.sort.Sort.TheVariants as sort
 use Rattle.pp_prog.specs.ExprSorts as sorts
-use Rattle.pp_prog.specs.ExprSorts.{Sorting, arm_sort, arm_with, arms_sort, guarded_sort, then_sort}
+use Rattle.pp_prog.specs.ExprSorts.{Sorting, arms_sort, guarded_sort, then_sort}
 use Rattle.pp_prog.specs.PatternSorts.{bound_sorts}
 use Rattle.pp_prog.specs.Sizes.{bits}
 use Rattle.pp_prog.proofs.PartSorts.{bool_then, sort_then}
@@ -21,16 +21,18 @@ use Rattle.pp_steps.specs.declared.step.OpenCall.{OpenCall}
 use Rattle.pp_steps.specs.declared.step.Step.TheVariants as steps
 use Rattle.pp_steps.specs.Compile.{Arm, Compiling, all_of, cases, deciding, matched, unless, when}
 use Rattle.pp_steps.specs.Patterns.{fitting}
-use Rattle.pp_steps.specs.Piece.{Piece, after, asks, bind, choice, failing, joined, plain}
+use Rattle.pp_steps.specs.Piece.{Piece, after, asks, bind, choice, joined, plain}
 use Rattle.pp_steps.specs.Sorted.{AllSorted, Sorts}
-use Rattle.pp_steps_gates.proofs.Cases.{bound_then}
+use Rattle.pp_steps_gates.proofs.ExprLevels.{ArmCovers, GuardCovers}
+use Rattle.pp_steps_gates.proofs.Aligned.{Aligned, aligned_join}
+use Rattle.pp_steps_gates.proofs.Cases.{AreBits, FirstIs, bound_then, fails_few}
+use Rattle.pp_steps_gates.proofs.Pieces.{IsBit}
 use Rattle.pp_guess_gates.proofs.Patterns.{pattern_matches}
-use Rattle.pp_guess_gates.proofs.Pieces.{Is, IsBit, IsLight, MayBe, bit_choice, choice_light, joined_light, lighter}
-use Rattle.pp_guess_gates.proofs.Pieces.{load, load_of_both, plain_light, sorted_left, sorted_one, sorted_other}
-use Rattle.pp_guess_gates.proofs.Pieces.{sorted_right}
-use Rattle.pp_guess_gates.proofs.Pieces.{unless_light, when_light}
+use Rattle.pp_guess_gates.proofs.Pieces.{Is, IsLight, MayBe, bit_choice, choice_light, joined_light, lighter, load}
+use Rattle.pp_guess_gates.proofs.Pieces.{load_of_both, plain_light, sorted_left, sorted_one, sorted_other}
+use Rattle.pp_guess_gates.proofs.Pieces.{sorted_right, unless_light, when_light}
 use Rattle.pp_guess_gates.proofs.Prices.{Prices, worth, worth_of_both, worth_of_node}
-use Rattle.pp_guess_gates.proofs.Scopes.{Are, Covers, IsOf, are_join, covered, covered_of}
+use Rattle.pp_guess_gates.proofs.Scopes.{Are, Covers, IsOf, covered, covered_of}
 
 module _ (p : Program) (σ : Sorts) (ψ : Prices) (left : OpenCall → ℕ) (old : List Shape) where
   abbrev C : Compiling → Visiting → Sorting → Type 0
@@ -39,47 +41,34 @@ module _ (p : Program) (σ : Sorts) (ψ : Prices) (left : OpenCall → ℕ) (old
   abbrev L : {A : Type 0} → ℕ → Piece A → ℕ
   L = load p.types σ ψ left
 
-  abbrev H : Sort → ℕ → Type 0
-  H = Is p.types σ ψ left
-
-  abbrev Bit : ℕ → Type 0
-  Bit = IsBit p.types σ ψ left
-
   -- ---- what decides a case
 
-  all_of_light : (ts : List ℕ) (k alive : ℕ) → Bit alive → AllSorted p.types σ k (all_of k ts alive).steps
-      → IsLight p.types σ ψ left Bit k (all_of k ts alive) (2 * length ts)
-  all_of_light [] k alive a m = plain_light p.types σ ψ left Bit k alive alive a a
+  all_of_light : (ts : List ℕ) (k alive : ℕ) → IsBit σ alive → AllSorted p.types σ k (all_of k ts alive).steps
+      → IsLight p.types σ ψ left (IsBit σ) k (all_of k ts alive) (2 * length ts)
+  all_of_light [] k alive a m = plain_light p.types σ ψ left (IsBit σ) k alive alive a a
   all_of_light (t ∷ ts) k alive a m =
       let w = when k alive t in
       let y = all_of (after k w) ts k in
       let hw = when_light p.types σ ψ left k alive t (sorted_left p.types σ k w y m) in
       let hy = all_of_light ts (after k w) k hw.out (sorted_right p.types σ k w y m) in
-      lighter p.types σ ψ left Bit k (joined w y) (2 + 2 * length ts) (2 * suc (length ts))
-      (joined_light p.types σ ψ left Bit k w y 2 (2 * length ts) hw.few hy) (one_more (length ts))
+      lighter p.types σ ψ left (IsBit σ) k (joined w y) (2 + 2 * length ts) (2 * suc (length ts))
+      (joined_light p.types σ ψ left (IsBit σ) k w y 2 (2 * length ts) hw.few hy) (one_more (length ts))
     where
       one_more : (n : ℕ) → 2 + 2 * n ≤ 2 * suc n
       one_more n = omega arith
 
-  abbrev pub GuardCovers : Option Compiling → Option Visiting → Option Sorting → Type 0
-  GuardCovers None None None = Unit {0}
-  GuardCovers (Some m) (Some v) (Some t) = C m v t
-  GuardCovers m v t = ⊥
-
-  abbrev Bits : ℕ × ℕ → Type 0
-  Bits n = Bit n.0 × Bit n.1
-
-  deciding_light : (o : Option Compiling) (v : Option Visiting) (t : Option Sorting) → GuardCovers o v t
+  deciding_light : (o : Option Compiling) (v : Option Visiting) (t : Option Sorting) → GuardCovers C o v t
       → (k : ℕ) (env : List ℕ) (reach fits : ℕ) (shapes : List Shape) (scope : List Sort) (s : Option Sort) (u : Sort)
-      → Are σ env shapes scope → Bit reach → Bit fits → guarded_sort t scope s ≡ Some u
+      → Are σ env shapes scope → IsBit σ reach → IsBit σ fits → guarded_sort t scope s ≡ Some u
       → AllSorted p.types σ k (deciding o k env reach fits).steps
-      → IsLight p.types σ ψ left Bits k (deciding o k env reach fits) (worth ψ (guard_events v old shapes) + 7)
+      → IsLight p.types σ ψ left (AreBits σ) k (deciding o k env reach fits) (worth ψ (guard_events v old shapes) + 7)
   deciding_light None None None h k env reach fits shapes scope s u are r f e m =
       let x = unless k reach fits in
       let y : Piece (ℕ × ℕ) = plain [] (fits, suc k) reach in
       let hx = unless_light p.types σ ψ left k reach fits (sorted_left p.types σ k x y m) in
-      lighter p.types σ ψ left Bits k (joined x y) (3 + 0) 7 (joined_light p.types σ ψ left Bits k x y 3 0 hx.few
-      (plain_light p.types σ ψ left Bits (after k x) (fits, suc k) reach (f, hx.out) r)) (omega arith)
+      lighter p.types σ ψ left (AreBits σ) k (joined x y) (3 + 0) 7
+      (joined_light p.types σ ψ left (AreBits σ) k x y 3 0 hx.few
+      (plain_light p.types σ ψ left (AreBits σ) (after k x) (fits, suc k) reach (f, hx.out) r)) (omega arith)
   deciding_light (Some a) (Some v) (Some t) h k env reach fits shapes scope s u are r f e m =
       let x = a k env fits in
       let n = after k x in
@@ -95,53 +84,31 @@ module _ (p : Program) (σ : Sorts) (ψ : Prices) (left : OpenCall → ℕ) (old
       (sorted_left p.types σ k x (joined w (joined z y)) m) in
       let hw = when_light p.types σ ψ left n x.alive x.out (sorted_left p.types σ n w (joined z y) mw) in
       let hz = unless_light p.types σ ψ left i x.alive x.out (sorted_left p.types σ i z y mz) in
-      let bit : Bit l = sym my.0.1 ∙ hz.out in
+      let bit : IsBit σ l = sym my.0.1 ∙ hz.out in
       let one = bit_choice p.types σ ψ left l fits (suc i) reach bit in
       let few = hx.few in
-      lighter p.types σ ψ left Bits k (joined x (joined w (joined z y))) (L k x + (2 + (3 + 2)))
+      lighter p.types σ ψ left (AreBits σ) k (joined x (joined w (joined z y))) (L k x + (2 + (3 + 2)))
       (worth ψ (v old shapes).events + 7)
-      (joined_light p.types σ ψ left Bits k x (joined w (joined z y)) (L k x) _ (le_same (L k x))
-      (joined_light p.types σ ψ left Bits n w (joined z y) 2 _ hw.few
-      (joined_light p.types σ ψ left Bits i z y 3 2 hz.few
+      (joined_light p.types σ ψ left (AreBits σ) k x (joined w (joined z y)) (L k x) _ (le_same (L k x))
+      (joined_light p.types σ ψ left (AreBits σ) n w (joined z y) 2 _ hw.few
+      (joined_light p.types σ ψ left (AreBits σ) i z y 3 2 hz.few
       (record { out = (hw.out, bit); alive = r; few = omega arith })))) (omega arith)
   deciding_light o v t h k env reach fits shapes scope s u are r f e m = absurd h
 
   -- ---- cases
 
-  -- a case, its visit and its sort are those of one pattern, with a guard and a body that are covered
-  pub record ArmCovers (a : Arm) (w : visits.Arm) (t : sorts.Arm) : Type 0 where
-    pub guard : Option Visiting
-    pub body : Visiting
-    pub visit_is : w ≡ visits.arm_step p.types (record { pattern = a.pattern; guard = guard; body = body })
-    pub pattern_is : t.pattern ≡ a.pattern
-    pub guard_covers : GuardCovers a.guard guard t.guard
-    pub body_covers : C a.body body t.body
-
-  abbrev pub AllArms : List Arm → List visits.Arm → List sorts.Arm → Type 0
-  AllArms [] [] [] = Unit {0}
-  AllArms (a ∷ xs) (w ∷ ws) (t ∷ ts) = ArmCovers a w t × AllArms xs ws ts
-  AllArms xs ws ts = ⊥
-
-  abbrev FirstIs : Sort → List Shape → Type 0
-  FirstIs u [] = Unit {0}
-  FirstIs u (h ∷ hs) = h.sort ≡ u
-
   -- The piece of cases begins at number k: its outcome has the sort u, and it weighs at most what the visits are worth,
   -- and a choice for each case.
   record AreTaken (k : ℕ) (x : Piece (Option ℕ)) (u : Sort) (vs : List Visit) : Type 0 where
     first : FirstIs u (map shape_of vs)
-    out : MayBe p.types σ ψ left u x.out
-    alive : Bit x.alive
+    out : MayBe σ u x.out
+    alive : IsBit σ x.alive
     few : L k x ≤ 3 + (worth ψ (all_events vs) + 32 * length vs)
 
   module _ (asked : Option CheckId) where
-    fails_few : (b : Bool) (reach : ℕ) → length (failing b reach) ≤ 1
-    fails_few true reach = le_same 1
-    fails_few false reach = omega arith
-
-    cases_taken : (xs : List Arm) (ws : List visits.Arm) (ts : List sorts.Arm) → AllArms xs ws ts
+    cases_taken : (xs : List Arm) (ws : List visits.Arm) (ts : List sorts.Arm) → Aligned (ArmCovers p.types C) xs ws ts
         → (check : Option CheckId) (t k : ℕ) (env : List ℕ) (reach : ℕ) (h : Shape) (s u : Sort) (shapes : List Shape)
-        (scope : List Sort) → Are σ env shapes scope → IsOf σ t h s → EachArm p s u scope ts → Bit reach
+        (scope : List Sort) → Are σ env shapes scope → IsOf σ t h s → EachArm p s u scope ts → IsBit σ reach
         → AllSorted p.types σ k (cases asked xs check t k env reach).steps
         → AreTaken k (cases asked xs check t k env reach) u (arms ws h old shapes)
     cases_taken [] [] [] all check t k env reach h s u shapes scope are of each r m =
@@ -171,7 +138,8 @@ module _ (p : Program) (σ : Sorts) (ψ : Prices) (left : OpenCall → ℕ) (old
         let hf = pattern_matches p.types σ ψ left a.pattern k t h s q.0 of bound_is
         (sorted_left p.types σ k one (joined two (joined three z)) m) in
         let h2 = all_of_light f.tests kt reach r (sorted_left p.types σ kt two (joined three z) m2) in
-        let scoped = are_join σ env shapes scope f.bound (bound p.types.ctors a.pattern h) q.0 are hf.bound in
+        let scoped = aligned_join (IsOf σ) env shapes scope f.bound (bound p.types.ctors a.pattern h) q.0 are
+        hf.bound in
         let h3 = deciding_light a.guard arm.guard c.guard arm.guard_covers kg inner reach two.out deeper (scope ++ q.0)
         (c.body (scope ++ q.0)) u scoped r h2.out q.2 (sorted_left p.types σ kg three z m3) in
         let hx = arm.body_covers l inner three.out.0 deeper (scope ++ q.0) u scoped h3.out.0
@@ -223,7 +191,7 @@ module _ (p : Program) (σ : Sorts) (ψ : Prices) (left : OpenCall → ℕ) (old
     match_sum lx ly cx cy n choices h g le = omega arith
 
     pub match_covers : (a : Compiling) (v : Visiting) (t : Sorting) → C a v t → (xs : List Arm) (ws : List visits.Arm)
-        (ts : List sorts.Arm) → AllArms xs ws ts → (check : Option CheckId)
+        (ts : List sorts.Arm) → Aligned (ArmCovers p.types C) xs ws ts → (check : Option CheckId)
         → C (λ k env reach. bind k (a k env reach) (λ n x alive. matched x (cases asked xs check x n env alive)))
         (match_visit v ws) (λ scope. then_sort (t scope) (λ s. arms_sort p.types p.functions ts s scope))
     match_covers a v t ha [] [] [] all check k env reach shapes scope u are r h m =
@@ -249,6 +217,6 @@ module _ (p : Program) (σ : Sorts) (ψ : Prices) (left : OpenCall → ℕ) (old
         let two = worth_of_both ψ (all_events vs) (node extra) in
         let three = worth_of_node ψ extra in
         covered p.types σ ψ left k (joined x z) u (match_visit v (w ∷ ws) old shapes) (L k x + L n y) hy.first
-        (joined_light p.types σ ψ left (H u) k x z (L k x) (L n y) (le_same (L k x))
+        (joined_light p.types σ ψ left (Is σ u) k x z (L k x) (L n y) (le_same (L k x))
         (record { out = hy.out; alive = hy.alive; few = le_same (L n y) })) (omega arith)
     match_covers a v t ha xs ws ts all check k env reach shapes scope u are r h m = absurd all

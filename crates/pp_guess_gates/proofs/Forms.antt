@@ -1,9 +1,8 @@
 -- The forms of expressions: their steps weigh at most what their visits are worth.
-use Rattle.std.proofs.Common.{◌≡◌, ℕ, suc, ◌+◌, max, List, [], ◌∷◌, ◌++◌, Option, Some, refl, sym, ap, ◌∙◌, arith, ◌≤◌}
+use Rattle.std.proofs.Common.{◌≡◌, ℕ, suc, ◌+◌, max, List, [], ◌∷◌, ◌++◌, Option, Some, refl, sym, ap, ◌∙◌, arith}
 use Rattle.std.proofs.lemmas.Option.{same_Some}
 use Rattle.pp_tree.specs.declared.operator.UnaryOp.{UnaryOp}
 use Rattle.pp_prog.specs.declared.id.CheckId.{CheckId}
-use Rattle.pp_prog.specs.declared.sort.Sort.{Sort}
 use Rattle.pp_prog.specs.declared.sort.Sort.TheVariants as sort
 use Rattle.pp_prog.specs.declared.types.TypeTable.{TypeTable}
 use Rattle.pp_prog.specs.ExprSorts.{Sorting, a_bool, alike, then_sort, unary_sort}
@@ -19,10 +18,11 @@ use Rattle.pp_steps.specs.Compile.{Compiling, branches, one, unless, when}
 use Rattle.pp_operators.specs.Gates.{unary_gates}
 use Rattle.pp_steps.specs.Piece.{Piece, after, asks, bind, choice, demand, joined, possible}
 use Rattle.pp_steps.specs.Sorted.{Sorts}
-use Rattle.pp_guess_gates.proofs.Pieces.{Is, IsBit, choice_light, demand_light, joined_light, load, one_light}
-use Rattle.pp_guess_gates.proofs.Pieces.{sorted_left, sorted_one, sorted_other, sorted_right, unless_light, when_light}
+use Rattle.pp_steps_gates.proofs.Aligned.{aligned_join}
+use Rattle.pp_guess_gates.proofs.Pieces.{Is, choice_light, demand_light, joined_light, load, one_light, sorted_left}
+use Rattle.pp_guess_gates.proofs.Pieces.{sorted_one, sorted_other, sorted_right, unless_light, when_light}
 use Rattle.pp_guess_gates.proofs.Prices.{Prices, worth_of_both, worth_of_node}
-use Rattle.pp_guess_gates.proofs.Scopes.{Covers, are_join, covered, covered_of}
+use Rattle.pp_guess_gates.proofs.Scopes.{Covers, IsOf, covered, covered_of}
 
 module _ (types : TypeTable) (σ : Sorts) (ψ : Prices) (left : OpenCall → ℕ) (old : List Shape) where
   abbrev C : Compiling → Visiting → Sorting → Type 0
@@ -30,12 +30,6 @@ module _ (types : TypeTable) (σ : Sorts) (ψ : Prices) (left : OpenCall → ℕ
 
   abbrev L : {A : Type 0} → ℕ → Piece A → ℕ
   L = load types σ ψ left
-
-  abbrev H : Sort → ℕ → Type 0
-  H = Is types σ ψ left
-
-  abbrev Bit : ℕ → Type 0
-  Bit = IsBit types σ ψ left
 
   -- ---- values
 
@@ -52,7 +46,7 @@ module _ (types : TypeTable) (σ : Sorts) (ψ : Prices) (left : OpenCall → ℕ
       let e = w old (shapes ++ p.shape ∷ []) in
       let hx = ha k env reach shapes scope q.0 are r q.1 (sorted_left types σ k x y m) in
       let hy = hb (after k x) (env ++ x.out ∷ []) x.alive (shapes ++ p.shape ∷ []) (scope ++ q.0 ∷ []) s
-      (are_join σ env shapes scope (x.out ∷ []) (p.shape ∷ []) (q.0 ∷ []) are
+      (aligned_join (IsOf σ) env shapes scope (x.out ∷ []) (p.shape ∷ []) (q.0 ∷ []) are
       (covered_of types σ ψ left k x q.0 p hx, tt)) hx.alive q.2 (sorted_right types σ k x y m) in
       let few_x = hx.few in
       let few_y = hy.few in
@@ -60,7 +54,7 @@ module _ (types : TypeTable) (σ : Sorts) (ψ : Prices) (left : OpenCall → ℕ
       let two = worth_of_both ψ p.events e.events in
       let three = worth_of_node ψ 0 in
       covered types σ ψ left k (joined x y) s (visit e.shape (p.events ++ e.events ++ node 0)) (L k x + L (after k x) y)
-      hy.shape (joined_light types σ ψ left (H s) k x y (L k x) (L (after k x) y) (le_same (L k x))
+      hy.shape (joined_light types σ ψ left (Is σ s) k x y (L k x) (L (after k x) y) (le_same (L k x))
       (record { out = hy.out; alive = hy.alive; few = le_same (L (after k x) y) })) (omega arith)
 
   pub unary_covers : (op : UnaryOp) (a : Compiling) (v : Visiting) (t : Sorting) → C a v t
@@ -82,8 +76,8 @@ module _ (types : TypeTable) (σ : Sorts) (ψ : Prices) (left : OpenCall → ℕ
       let node_is = worth_of_node ψ (unary_gates op) in
       covered types σ ψ left k (joined x y) s (visit (shape (unary_result op) 0) (p.events ++ node (unary_gates op)))
       (L k x + (1 + unary_gates op)) (unary_is op (t scope) s h)
-      (joined_light types σ ψ left (H s) k x y (L k x) (1 + unary_gates op) (le_same (L k x))
-      (one_light types σ ψ left (H s) (steps.Unary op x.out) n x.alive is hx.alive))
+      (joined_light types σ ψ left (Is σ s) k x y (L k x) (1 + unary_gates op) (le_same (L k x))
+      (one_light types σ ψ left (Is σ s) (steps.Unary op x.out) n x.alive is hx.alive))
       (omega arith)
 
   pub assert_covers : (asked check : Option CheckId) (a b : Compiling) (v w : Visiting) (t u : Sorting) → C a v t
@@ -111,8 +105,8 @@ module _ (types : TypeTable) (σ : Sorts) (ψ : Prices) (left : OpenCall → ℕ
       let three = worth_of_node ψ 0 in
       covered types σ ψ left k (joined x (joined d y)) s (visit e.shape (p.events ++ e.events ++ node 0))
       (L k x + (7 + L (after n d) y)) hy.shape
-      (joined_light types σ ψ left (H s) k x (joined d y) (L k x) (7 + L (after n d) y) (le_same (L k x))
-      (joined_light types σ ψ left (H s) n d y 7 (L (after n d) y) hd.few
+      (joined_light types σ ψ left (Is σ s) k x (joined d y) (L k x) (7 + L (after n d) y) (le_same (L k x))
+      (joined_light types σ ψ left (Is σ s) n d y 7 (L (after n d) y) hd.few
       (record { out = hy.out; alive = hy.alive; few = le_same (L (after n d) y) }))) (omega arith)
 
   -- ---- conditions
@@ -165,6 +159,6 @@ module _ (types : TypeTable) (σ : Sorts) (ψ : Prices) (left : OpenCall → ℕ
       covered types σ ψ left k (joined x (joined w (joined u f))) s
       (visit (shape p.shape.sort g) (o.events ++ p.events ++ e.events ++ node extra))
       (L k x + (2 + (3 + (L l y + (L j (possible z) + 35))))) hy.shape
-      (joined_light types σ ψ left (H s) k x (joined w (joined u f)) (L k x) _ (le_same (L k x))
-      (joined_light types σ ψ left (H s) n w (joined u f) 2 _ hw.few
-      (joined_light types σ ψ left (H s) i u f 3 _ hu.few hf))) (omega arith)
+      (joined_light types σ ψ left (Is σ s) k x (joined w (joined u f)) (L k x) _ (le_same (L k x))
+      (joined_light types σ ψ left (Is σ s) n w (joined u f) 2 _ hw.few
+      (joined_light types σ ψ left (Is σ s) i u f 3 _ hu.few hf))) (omega arith)

@@ -1,6 +1,6 @@
 -- Expressions in a row, constructors, fields and calls: their steps weigh at most what their visits are worth.
-use Rattle.std.proofs.Common.{◌≡◌, ℕ, ◌+◌, ◌*◌, ◌≤◌, List, [], ◌∷◌, ◌++◌, map}
-use Rattle.std.proofs.Common.{length, Option, Some, sym, ap, ◌∙◌, subst, arith, append_assoc, append-nil}
+use Rattle.std.proofs.Common.{◌≡◌, ℕ, ◌+◌, ◌*◌, ◌≤◌, List, [], ◌∷◌, ◌++◌, map, length, Option, Some, sym, ap, ◌∙◌}
+use Rattle.std.proofs.Common.{subst, arith, append_assoc, append-nil}
 use Rattle.std.proofs.lemmas.Option.{same_Some}
 use Rattle.std.specs.Prelude.{slice_get}
 use Rattle.pp_prog.specs.declared.expr.Function.{Function}
@@ -11,8 +11,7 @@ use Rattle.pp_prog.specs.declared.sort.Sort.{Sort}
 use Rattle.pp_prog.specs.declared.sort.Sort.TheVariants as sort
 use Rattle.pp_prog.specs.declared.types.Ctor.{Ctor}
 use Rattle.pp_prog.specs.declared.types.TypeTable.{TypeTable}
-use Rattle.pp_prog.specs.ExprSorts.{Sorting, a_tree, call_sort, field_sort, sorts_in}
-use Rattle.pp_prog.specs.ExprSorts.{tree_sort}
+use Rattle.pp_prog.specs.ExprSorts.{Sorting, a_tree, call_sort, field_sort, sorts_in, tree_sort}
 use Rattle.pp_prog.specs.Results.{field_result, tree_result}
 use Rattle.pp_prog.specs.Sizes.{by_sort}
 use Rattle.pp_prog.specs.Sorts.{param_sorts}
@@ -28,12 +27,13 @@ use Rattle.pp_steps.specs.declared.step.Step.TheVariants as steps
 use Rattle.pp_steps.specs.Compile.{Compiling, Site, all, all_from, one}
 use Rattle.pp_steps.specs.Piece.{Piece, after, bind, joined}
 use Rattle.pp_steps.specs.Sorted.{AllSorted, Constructs, SelectsOnly, Sorts}
+use Rattle.pp_steps_gates.proofs.Aligned.{Aligned, aligned_join}
 use Rattle.pp_steps_gates.proofs.Lists.{field_of_only, same_data}
-use Rattle.pp_guess_gates.proofs.Pieces.{Is, IsBit, joined_light, load, load_of_both, one_light, sorted_left}
-use Rattle.pp_guess_gates.proofs.Pieces.{sorted_right}
+use Rattle.pp_steps_gates.proofs.Pieces.{IsBit}
+use Rattle.pp_guess_gates.proofs.Pieces.{Is, joined_light, load, load_of_both, one_light, sorted_left, sorted_right}
 use Rattle.pp_guess_gates.proofs.Prices.{Prices, call_price, look_price, worth, worth_of_both, worth_of_look}
 use Rattle.pp_guess_gates.proofs.Prices.{worth_of_node}
-use Rattle.pp_guess_gates.proofs.Scopes.{Are, Covers, are_join, covered, covered_of}
+use Rattle.pp_guess_gates.proofs.Scopes.{Are, Covers, IsOf, covered, covered_of}
 
 module _ (types : TypeTable) (σ : Sorts) (ψ : Prices) (left : OpenCall → ℕ) (old : List Shape) where
   abbrev C : Compiling → Visiting → Sorting → Type 0
@@ -42,29 +42,20 @@ module _ (types : TypeTable) (σ : Sorts) (ψ : Prices) (left : OpenCall → ℕ
   abbrev L : {A : Type 0} → ℕ → Piece A → ℕ
   L = load types σ ψ left
 
-  abbrev H : Sort → ℕ → Type 0
-  H = Is types σ ψ left
-
   -- ---- expressions in a row
-
-  -- each expression is covered, and none is left over
-  abbrev pub AllCover : List Compiling → List Visiting → List Sorting → Type 0
-  AllCover [] [] [] = Unit {0}
-  AllCover (m ∷ ms) (v ∷ vs) (t ∷ ts) = C m v t × AllCover ms vs ts
-  AllCover ms vs ts = ⊥
 
   -- The piece begins at number k: its outcomes are of these shapes and sorts, and it weighs at most what the events are
   -- worth, less half a node for each of n expressions.
   pub record AreCovered (k : ℕ) (x : Piece (List ℕ)) (n : ℕ) (hs : List Shape) (ss : List Sort)
       (es : List Event) : Type 0 where
     pub out : Are σ x.out hs ss
-    pub alive : IsBit types σ ψ left x.alive
+    pub alive : IsBit σ x.alive
     pub few : L k x + 64 * n ≤ worth ψ es
 
-  pub all_covered : (ms : List Compiling) (vs : List Visiting) (ts : List Sorting) → AllCover ms vs ts
+  pub all_covered : (ms : List Compiling) (vs : List Visiting) (ts : List Sorting) → Aligned C ms vs ts
       → (done : List ℕ) (dh : List Shape) (ds : List Sort) → Are σ done dh ds
       → (k : ℕ) (env : List ℕ) (reach : ℕ) (shapes : List Shape) (scope ss : List Sort)
-      → Are σ env shapes scope → IsBit types σ ψ left reach → sorts_in scope ts ≡ map Some ss
+      → Are σ env shapes scope → IsBit σ reach → sorts_in scope ts ≡ map Some ss
       → AllSorted types σ k (all_from done ms k env reach).steps
       → AreCovered k (all_from done ms k env reach) (length ms) (dh ++ map shape_of (visits vs old shapes)) (ds ++ ss)
       (all_events (visits vs old shapes))
@@ -88,7 +79,8 @@ module _ (types : TypeTable) (σ : Sorts) (ψ : Prices) (left : OpenCall → ℕ
       let y = all_from (done ++ x.out ∷ []) ms n env x.alive in
       let hx = h.0 k env reach shapes scope s are r here (sorted_left types σ k x y m) in
       let hy = all_covered ms vs ts h.1 (done ++ x.out ∷ []) (dh ++ p.shape ∷ []) (ds ++ s ∷ [])
-      (are_join σ done dh ds (x.out ∷ []) (p.shape ∷ []) (s ∷ []) d (covered_of types σ ψ left k x s p hx, tt))
+      (aligned_join (IsOf σ) done dh ds (x.out ∷ []) (p.shape ∷ []) (s ∷ []) d
+      (covered_of types σ ψ left k x s p hx, tt))
       n env x.alive shapes scope ss are hx.alive rest (sorted_right types σ k x y m) in
       let hs = map shape_of (visits vs old shapes) in
       let few_x = hx.few in
@@ -105,7 +97,8 @@ module _ (types : TypeTable) (σ : Sorts) (ψ : Prices) (left : OpenCall → ℕ
 
   -- ---- constructors and fields
 
-  pub construct_covers : (c : CtorId) (ms : List Compiling) (vs : List Visiting) (ts : List Sorting) → AllCover ms vs ts
+  pub construct_covers : (c : CtorId) (ms : List Compiling) (vs : List Visiting) (ts : List Sorting)
+      → Aligned C ms vs ts
       → C (λ k env reach. bind k (all ms k env reach) (λ n xs alive. one (steps.Construct c xs) n alive))
       (λ o env. let s = tree_result (slice_get types.ctors c.0) in
       visit (shape s (cut (tallest (map shape_of (visits vs o env)) + 1)))
@@ -136,8 +129,8 @@ module _ (types : TypeTable) (σ : Sorts) (ψ : Prices) (left : OpenCall → ℕ
       covered types σ ψ left k (joined x y) s
       (visit (shape t (cut (tallest hs + 1))) (all_events ps ++ look_at t ++ node 0))
       (L k x + (1 + by_sort 0 0 (look_price ψ) (σ n))) shape_is
-      (joined_light types σ ψ left (H s) k x y (L k x) (1 + by_sort 0 0 (look_price ψ) (σ n)) (le_same (L k x))
-      (one_light types σ ψ left (H s) (steps.Construct c x.out) n x.alive is hx.alive)) (omega arith)
+      (joined_light types σ ψ left (Is σ s) k x y (L k x) (1 + by_sort 0 0 (look_price ψ) (σ n)) (le_same (L k x))
+      (one_light types σ ψ left (Is σ s) (steps.Construct c x.out) n x.alive is hx.alive)) (omega arith)
 
   pub field_covers : (functions : List Function) (i : ℕ) (a : Compiling) (v : Visiting) (t : Sorting) → C a v t
       → C (λ k env reach. bind k (a k env reach) (λ n x alive. one (steps.Field x i) n alive))
@@ -169,8 +162,8 @@ module _ (types : TypeTable) (σ : Sorts) (ψ : Prices) (left : OpenCall → ℕ
       let four = worth_of_node ψ 0 in
       covered types σ ψ left k (joined x y) s (visit w (p.events ++ look_at p.shape.sort ++ node 0))
       (L k x + (1 + by_sort 0 0 (look_price ψ) (σ x.out))) read
-      (joined_light types σ ψ left (H s) k x y (L k x) (1 + by_sort 0 0 (look_price ψ) (σ x.out)) (le_same (L k x))
-      (one_light types σ ψ left (H s) (steps.Field x.out i) n x.alive is hx.alive)) (omega arith)
+      (joined_light types σ ψ left (Is σ s) k x y (L k x) (1 + by_sort 0 0 (look_price ψ) (σ x.out)) (le_same (L k x))
+      (one_light types σ ψ left (Is σ s) (steps.Field x.out i) n x.alive is hx.alive)) (omega arith)
 
   -- ---- calls
 
@@ -178,21 +171,21 @@ module _ (types : TypeTable) (σ : Sorts) (ψ : Prices) (left : OpenCall → ℕ
   -- what the visit is worth, the price of the call, and half a node.
   pub record IsAnswered (g : FunctionId) (k : ℕ) (x : Piece ℕ) (s : Sort) (v : Visit) : Type 0 where
     pub shape : v.shape.sort ≡ s
-    pub out : H s x.out
-    pub alive : IsBit types σ ψ left x.alive
+    pub out : Is σ s x.out
+    pub alive : IsBit σ x.alive
     pub few : L k x ≤ 64 + (call_price ψ g + worth ψ v.events)
 
   -- the steps of a call of a function that stands, on arguments of its parameters' sorts, weigh at most so much
   abbrev pub Answers : List Function → Site → Calls → Type 0
   Answers functions site calls =
       (k reach : ℕ) (g : FunctionId) (pre down : Option CheckId) (args : List ℕ) (hs : List Shape) (f : Function)
-      → slice_get functions g.0 ≡ Some f → Are σ args hs (param_sorts f.params) → IsBit types σ ψ left reach
+      → slice_get functions g.0 ≡ Some f → Are σ args hs (param_sorts f.params) → IsBit σ reach
       → AllSorted types σ k (site k reach g pre down args).steps
       → IsAnswered g k (site k reach g pre down args) f.result (calls g down old hs)
 
   pub call_covers : (functions : List Function) (site : Site) (calls : Calls) → Answers functions site calls
       → (g : FunctionId) (pre down : Option CheckId) (ms : List Compiling) (vs : List Visiting) (ts : List Sorting)
-      → AllCover ms vs ts
+      → Aligned C ms vs ts
       → C (λ k env reach. bind k (all ms k env reach) (λ n xs alive. site n alive g pre down xs))
       (λ o env. let ps = visits vs o env in
       let v = calls g down o (map shape_of ps) in
@@ -216,9 +209,9 @@ module _ (types : TypeTable) (σ : Sorts) (ψ : Prices) (left : OpenCall → ℕ
       let three = worth_of_node ψ 0 in
       covered types σ ψ left k (joined x y) s (visit v.shape (all_events ps ++ node 0 ++ called g ∷ v.events))
       (L k x + L n y) (hy.shape ∙ q.3)
-      (joined_light types σ ψ left (H s) k x y (L k x) (L n y) (le_same (L k x)) (record {
+      (joined_light types σ ψ left (Is σ s) k x y (L k x) (L n y) (le_same (L k x)) (record {
         out =
-            subst (λ z. H z y.out) q.3 hy.out;
+            subst (λ z. Is σ z y.out) q.3 hy.out;
         alive = hy.alive;
         few = le_same (L n y);
       })) (omega arith)

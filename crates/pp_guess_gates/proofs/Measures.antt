@@ -1,6 +1,6 @@
 -- Measures that are compared: their steps weigh at most what the comparison is worth, and eleven for each component.
-use Rattle.std.proofs.Common.{◌≡◌, ℕ, suc, ◌+◌, ◌*◌, ◌≤◌, List, [], ◌∷◌, map, length, Option, Some, None, refl, sym, ap}
-use Rattle.std.proofs.Common.{◌∙◌, subst, arith}
+use Rattle.std.proofs.Common.{◌≡◌, ℕ, suc, ◌+◌, ◌*◌, ◌≤◌, List, [], ◌∷◌, length, Option, Some, None, sym, ◌∙◌, subst}
+use Rattle.std.proofs.Common.{arith}
 use Rattle.std.proofs.lemmas.List.{length-map}
 use Rattle.pp_tree.specs.declared.operator.BinaryOp.TheVariants.{Equal}
 use Rattle.pp_prog.specs.declared.id.CheckId.{CheckId}
@@ -16,10 +16,12 @@ use Rattle.pp_steps.specs.declared.step.Step.TheVariants as steps
 use Rattle.pp_steps.specs.Frames.{Frame, descending, falling, lower, shaped}
 use Rattle.pp_steps.specs.Piece.{Piece, after, asks, demand, joined, plain}
 use Rattle.pp_steps.specs.Sorted.{AllSorted, Sorts}
-use Rattle.pp_guess_gates.proofs.Pieces.{IsBit, IsLight, bit_choice, demand_light, joined_light, lighter, load}
-use Rattle.pp_guess_gates.proofs.Pieces.{sorted_left, sorted_right}
+use Rattle.pp_steps_gates.proofs.Pieces.{IsBit}
+use Rattle.pp_steps_gates.proofs.Tables.{FrameCovers, Row, number_of, numbers_of, shape_in, shapes_in}
+use Rattle.pp_guess_gates.proofs.Pieces.{IsLight, bit_choice, demand_light, joined_light, lighter, load, sorted_left}
+use Rattle.pp_guess_gates.proofs.Pieces.{sorted_right}
 use Rattle.pp_guess_gates.proofs.Prices.{Prices, worth, worth_of_both}
-use Rattle.pp_guess_gates.proofs.Scopes.{Are}
+use Rattle.pp_guess_gates.proofs.Scopes.{IsOf}
 
 module _ (types : TypeTable) (ψ : Prices) where
   -- the product that a compared tree weighs is at least that of trees without bits and nodes
@@ -41,46 +43,18 @@ module _ (types : TypeTable) (ψ : Prices) where
   component_fits (sort.Tree d) new old =
       let least = least_product (bits types new (sort.Tree d)) (nodes types old (sort.Tree d)) in omega arith
 
+-- the number has the sort of the shape
+abbrev pub Fits : Sorts → ℕ → Shape → Type 0
+Fits σ n h = σ n ≡ h.sort
+
+pub shape_fits : (σ : Sorts) (n : ℕ) (h : Shape) (s : Sort) → IsOf σ n h s → Fits σ n h
+shape_fits σ n h s a = a.has ∙ sym a.shape
+
 module _ (types : TypeTable) (σ : Sorts) (ψ : Prices) (left : OpenCall → ℕ) where
   abbrev L : {A : Type 0} → ℕ → Piece A → ℕ
   L = load types σ ψ left
 
-  abbrev Bit : ℕ → Type 0
-  Bit = IsBit types σ ψ left
-
-  -- a number with its shape
-  pub record Row : Type 0 where
-    pub number : ℕ
-    pub shape : Shape
-    pub has : σ number ≡ shape.sort
-
-  abbrev pub number_of : Row → ℕ
-  number_of r = r.number
-
-  abbrev pub shape_in : Row → Shape
-  shape_in r = r.shape
-
-  abbrev pub numbers_of : List Row → List ℕ
-  numbers_of = map number_of
-
-  abbrev pub shapes_in : List Row → List Shape
-  shapes_in = map shape_in
-
-  -- numbers and their shapes, at one place each
-  pub record IsTable (ns : List ℕ) (hs : List Shape) : Type 0 where
-    pub rows : List Row
-    pub numbers : numbers_of rows ≡ ns
-    pub shapes : shapes_in rows ≡ hs
-
-  pub table_of : (ns : List ℕ) (hs : List Shape) (ss : List Sort) → Are σ ns hs ss → IsTable ns hs
-  table_of [] [] [] a = record { rows = []; numbers = refl; shapes = refl }
-  table_of (n ∷ ns) (h ∷ hs) (s ∷ ss) a =
-      let t = table_of ns hs ss a.1 in
-      let row : Row = record { number = n; shape = h; has = a.0.has ∙ sym a.0.shape } in
-      record { rows = row ∷ t.rows; numbers = ap (λ z. n ∷ z) t.numbers; shapes = ap (λ z. h ∷ z) t.shapes }
-  table_of ns hs ss a = absurd a
-
-  row_fits : (x y : Row)
+  row_fits : (x y : Row (Fits σ))
       → by_sort 1024 0 (λ d. 194 + ψ.compare) (σ x.number) + by_sort 64 1 (λ d. 64) (σ x.number)
       ≤ worth ψ (component_events types x.shape.sort x.shape.height y.shape.height) + 2
   row_fits x y =
@@ -88,9 +62,9 @@ module _ (types : TypeTable) (σ : Sorts) (ψ : Prices) (left : OpenCall → ℕ
       ≤ worth ψ (component_events types x.shape.sort x.shape.height y.shape.height) + 2) (sym x.has)
       (component_fits types ψ x.shape.sort x.shape.height y.shape.height)
 
-  falling_light : (new old : List Row) (k alive : ℕ) → Bit alive
+  falling_light : (new old : List (Row (Fits σ))) (k alive : ℕ) → IsBit σ alive
       → AllSorted types σ k (falling (numbers_of new) (numbers_of old) k alive).steps
-      → IsLight types σ ψ left Bit k (falling (numbers_of new) (numbers_of old) k alive)
+      → IsLight types σ ψ left (IsBit σ) k (falling (numbers_of new) (numbers_of old) k alive)
       (worth ψ (comparison types (shapes_in new) (shapes_in old)) + (8 * length new + 1))
   falling_light [] old k alive a m = record { out = m.0; alive = a; few = omega arith }
   falling_light (x ∷ xs) [] k alive a m = record { out = m.0; alive = a; few = omega arith }
@@ -110,7 +84,7 @@ module _ (types : TypeTable) (σ : Sorts) (ψ : Prices) (left : OpenCall → ℕ
       let mq = sorted_right types σ k p (joined q l) m in
       let ml = sorted_right types σ i q l mq in
       let hq = falling_light new ys i alive a (sorted_left types σ i q l mq) in
-      let bit : Bit (suc j) = sym ml.1.0.1 ∙ m.0.1 in
+      let bit : IsBit σ (suc j) = sym ml.1.0.1 ∙ m.0.1 in
       let one = bit_choice types σ ψ left (suc j) k k j bit in
       let fits = row_fits x y in
       let es = component_events types x.shape.sort x.shape.height y.shape.height in
@@ -118,15 +92,16 @@ module _ (types : TypeTable) (σ : Sorts) (ψ : Prices) (left : OpenCall → ℕ
       let few_p : L k p ≤ worth ψ es + 4 = omega arith in
       let few_l : L j l ≤ 4 = omega arith in
       let few_q = hq.few in
-      lighter types σ ψ left Bit k (joined p (joined q l))
+      lighter types σ ψ left (IsBit σ) k (joined p (joined q l))
       (worth ψ es + 4 + (worth ψ (comparison types (shapes_in new) (shapes_in ys)) + (8 * length new + 1) + 4))
       (worth ψ (comparison types (shapes_in (x ∷ new)) (shapes_in (y ∷ ys))) + (8 * length (x ∷ new) + 1))
-      (joined_light types σ ψ left Bit k p (joined q l) (worth ψ es + 4) _ few_p
-      (joined_light types σ ψ left Bit i q l _ 4 few_q (record { out = bit; alive = a; few = few_l }))) (omega arith)
+      (joined_light types σ ψ left (IsBit σ) k p (joined q l) (worth ψ es + 4) _ few_p
+      (joined_light types σ ψ left (IsBit σ) i q l _ 4 few_q (record { out = bit; alive = a; few = few_l })))
+      (omega arith)
 
-  shaped_light : (new old : List ℕ) (k test alive : ℕ) → Bit test → Bit alive
+  shaped_light : (new old : List ℕ) (k test alive : ℕ) → IsBit σ test → IsBit σ alive
       → AllSorted types σ k (shaped new old k test alive).steps
-      → IsLight types σ ψ left Bit k (shaped new old k test alive) (3 * length new + 1)
+      → IsLight types σ ψ left (IsBit σ) k (shaped new old k test alive) (3 * length new + 1)
   shaped_light [] [] k test alive t a m = record { out = t; alive = a; few = omega arith }
   shaped_light [] (y ∷ ys) k test alive t a m = record { out = m.0; alive = a; few = omega arith }
   shaped_light (x ∷ xs) [] k test alive t a m = record { out = m.0; alive = a; few = omega arith }
@@ -134,12 +109,12 @@ module _ (types : TypeTable) (σ : Sorts) (ψ : Prices) (left : OpenCall → ℕ
       let p : Piece ℕ = plain (steps.IsAlike x y ∷ steps.Both test k ∷ []) (suc k) alive in
       let q = shaped xs ys (after k p) (suc k) alive in
       let hq = shaped_light xs ys (after k p) (suc k) alive m.1.0.2 a (sorted_right types σ k p q m) in
-      lighter types σ ψ left Bit k (joined p q) (3 + (3 * length xs + 1)) (3 * suc (length xs) + 1)
-      (joined_light types σ ψ left Bit k p q 3 (3 * length xs + 1) (le_same 3) hq) (omega arith)
+      lighter types σ ψ left (IsBit σ) k (joined p q) (3 + (3 * length xs + 1)) (3 * suc (length xs) + 1)
+      (joined_light types σ ψ left (IsBit σ) k p q 3 (3 * length xs + 1) (le_same 3) hq) (omega arith)
 
-  lower_light : (new old : List Row) (k alive : ℕ) → Bit alive
+  lower_light : (new old : List (Row (Fits σ))) (k alive : ℕ) → IsBit σ alive
       → AllSorted types σ k (lower (numbers_of new) (numbers_of old) k alive).steps
-      → IsLight types σ ψ left Bit k (lower (numbers_of new) (numbers_of old) k alive)
+      → IsLight types σ ψ left (IsBit σ) k (lower (numbers_of new) (numbers_of old) k alive)
       (worth ψ (comparison types (shapes_in new) (shapes_in old)) + (11 * length new + 2))
   lower_light new old k alive a m =
       let p = falling (numbers_of new) (numbers_of old) k alive in
@@ -149,19 +124,14 @@ module _ (types : TypeTable) (σ : Sorts) (ψ : Prices) (left : OpenCall → ℕ
       (sorted_right types σ k p q m) in
       let count = length-map new number_of in
       let most = worth ψ (comparison types (shapes_in new) (shapes_in old)) in
-      lighter types σ ψ left Bit k (joined p q) (most + (8 * length new + 1) + (3 * length (numbers_of new) + 1))
+      lighter types σ ψ left (IsBit σ) k (joined p q) (most + (8 * length new + 1) + (3 * length (numbers_of new) + 1))
       (most + (11 * length new + 2))
-      (joined_light types σ ψ left Bit k p q _ (3 * length (numbers_of new) + 1) hp.few hq) (omega arith)
+      (joined_light types σ ψ left (IsBit σ) k p q _ (3 * length (numbers_of new) + 1) hp.few hq) (omega arith)
 
-  -- the numbers of a frame's measure, if there are any, are those of the shapes
-  abbrev pub FrameCovers : Frame → List Shape → Type 0
-  FrameCovers None hs = Unit {0}
-  FrameCovers (Some ns) hs = IsTable ns hs
-
-  compared_light : (asked : Option CheckId) (c : CheckId) (new old : List Row) (k alive : ℕ) → Bit alive
+  compared_light : (asked : Option CheckId) (c : CheckId) (new old : List (Row (Fits σ))) (k alive : ℕ) → IsBit σ alive
       → AllSorted types σ k
       (descending asked (Some c) (Some (numbers_of old)) (Some (numbers_of new)) k alive).steps
-      → IsLight types σ ψ left Bit k
+      → IsLight types σ ψ left (IsBit σ) k
       (descending asked (Some c) (Some (numbers_of old)) (Some (numbers_of new)) k alive)
       (worth ψ (comparison types (shapes_in new) (shapes_in old)) + (11 * length (shapes_in new) + 9))
   compared_light asked c new old k alive a m =
@@ -172,13 +142,14 @@ module _ (types : TypeTable) (σ : Sorts) (ψ : Prices) (left : OpenCall → ℕ
       (sorted_right types σ k p d m) in
       let count = length-map new shape_in in
       let most = worth ψ (comparison types (shapes_in new) (shapes_in old)) in
-      lighter types σ ψ left Bit k (joined p d) (most + (11 * length new + 2) + 7)
-      (most + (11 * length (shapes_in new) + 9)) (joined_light types σ ψ left Bit k p d _ 7 hp.few hd) (omega arith)
+      lighter types σ ψ left (IsBit σ) k (joined p d) (most + (11 * length new + 2) + 7)
+      (most + (11 * length (shapes_in new) + 9)) (joined_light types σ ψ left (IsBit σ) k p d _ 7 hp.few hd)
+      (omega arith)
 
-  pub descending_light : (asked check : Option CheckId) (old new : Frame) (oh nh : List Shape) → FrameCovers old oh
-      → FrameCovers new nh → (k alive : ℕ) → Bit alive
+  pub descending_light : (asked check : Option CheckId) (old new : Frame) (oh nh : List Shape)
+      → FrameCovers (Fits σ) old oh → FrameCovers (Fits σ) new nh → (k alive : ℕ) → IsBit σ alive
       → AllSorted types σ k (descending asked check old new k alive).steps
-      → IsLight types σ ψ left Bit k (descending asked check old new k alive)
+      → IsLight types σ ψ left (IsBit σ) k (descending asked check old new k alive)
       (worth ψ (compared types check nh oh) + (11 * length nh + 9))
   descending_light asked None old new oh nh o n k alive a m = record { out = a; alive = a; few = omega arith }
   descending_light asked (Some c) None new oh nh o n k alive a m = record { out = a; alive = a; few = omega arith }
@@ -191,12 +162,12 @@ module _ (types : TypeTable) (σ : Sorts) (ψ : Prices) (left : OpenCall → ℕ
       let sorted_both = subst
       (λ z. AllSorted types σ k (descending asked (Some c) (Some (numbers_of o.rows)) (Some z) k alive).steps)
       (sym n.numbers) sorted in
-      subst (λ z. IsLight types σ ψ left Bit k (descending asked (Some c) (Some z) (Some ns) k alive) (most nh oh))
-      o.numbers
-      (subst (λ z. IsLight types σ ψ left Bit k
+      subst (λ z. IsLight types σ ψ left (IsBit σ) k (descending asked (Some c) (Some z) (Some ns) k alive)
+      (most nh oh)) o.numbers
+      (subst (λ z. IsLight types σ ψ left (IsBit σ) k
       (descending asked (Some c) (Some (numbers_of o.rows)) (Some z) k alive) (most nh oh)) n.numbers
-      (subst (λ z. IsLight types σ ψ left Bit k
+      (subst (λ z. IsLight types σ ψ left (IsBit σ) k
       (descending asked (Some c) (Some (numbers_of o.rows)) (Some (numbers_of n.rows)) k alive) (most nh z)) o.shapes
-      (subst (λ z. IsLight types σ ψ left Bit k
+      (subst (λ z. IsLight types σ ψ left (IsBit σ) k
       (descending asked (Some c) (Some (numbers_of o.rows)) (Some (numbers_of n.rows)) k alive)
       (most z (shapes_in o.rows))) n.shapes (compared_light asked c n.rows o.rows k alive a sorted_both))))

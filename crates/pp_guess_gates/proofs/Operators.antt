@@ -18,17 +18,18 @@ use Rattle.pp_prog.specs.ExprSorts.{Sorting, binary_sort, gives}
 use Rattle.pp_prog.specs.Sizes.{by_sort}
 use Rattle.pp_prog.proofs.PartSorts.{binary_parts, logic_parts}
 use Rattle.pp_estimate.specs.declared.shape.Shape.{Shape}
-use Rattle.pp_estimate.specs.Visits.{Visiting, binary_extra, class_extra, node, shape, visit}
+use Rattle.pp_estimate.specs.Visits.{Visiting, binary_extra, class_extra, node, shape}
 use Rattle.pp_estimate_laws.proofs.Numbers.{le_same}
 use Rattle.pp_steps.specs.declared.step.OpenCall.{OpenCall}
 use Rattle.pp_steps.specs.declared.step.Step.TheVariants as steps
 use Rattle.pp_steps.specs.Compile.{Compiling, binary, one, quotient, skipping, unless, when}
 use Rattle.pp_steps.specs.Piece.{Piece, after, asks, bind, demand, joined, plain}
 use Rattle.pp_steps.specs.Sorted.{AllSorted, IsSorted, Sorts}
-use Rattle.pp_steps_gates.proofs.Operators.{bits_within, le_more, operated_binary, result_is}
+use Rattle.pp_steps_gates.proofs.Operators.{bits_within, le_more, operated_binary, result_is, visited}
+use Rattle.pp_steps_gates.proofs.Pieces.{IsBit}
 use Rattle.pp_guess_gates.specs.Measure.{class_gates, operator_gates}
 use Rattle.pp_operators.specs.Gates.{number_gates}
-use Rattle.pp_guess_gates.proofs.Pieces.{Is, IsBit, IsLight, choice_light, demand_light, joined_light, lighter, load}
+use Rattle.pp_guess_gates.proofs.Pieces.{Is, IsLight, choice_light, demand_light, joined_light, lighter, load}
 use Rattle.pp_guess_gates.proofs.Pieces.{one_light, sorted_left, sorted_one, sorted_right, unless_light, when_light}
 use Rattle.pp_guess_gates.proofs.Prices.{Prices, worth, worth_of_both, worth_of_node}
 use Rattle.pp_guess_gates.proofs.Scopes.{Are, Covers, IsCovered, covered}
@@ -58,22 +59,10 @@ module _ (types : TypeTable) (σ : Sorts) (ψ : Prices) (left : OpenCall → ℕ
   abbrev L : {A : Type 0} → ℕ → Piece A → ℕ
   L = load types σ ψ left
 
-  abbrev H : Sort → ℕ → Type 0
-  H = Is types σ ψ left
-
-  abbrev Bit : ℕ → Type 0
-  Bit = IsBit types σ ψ left
-
-  -- the visit of an operator on two values
-  abbrev visited : BinaryOp → Visiting → Visiting → Visiting
-  visited op v w o env =
-      visit (shape (gives op (v o env).shape.sort) 0)
-      ((v o env).events ++ (w o env).events ++ node (binary_extra types op (v o env).shape (w o env).shape))
-
   -- the result of the step of an operator on numbers of these sorts
   module _ (op : BinaryOp) (x y n : ℕ) (o q : Option Sort) (s a b : Sort) where
-    step_has : binary_sort op o q ≡ Some s → o ≡ Some a → q ≡ Some b → H a x → H b y
-        → IsSorted types σ (steps.Binary op x y) (σ n) → H s n
+    step_has : binary_sort op o q ≡ Some s → o ≡ Some a → q ≡ Some b → Is σ a x → Is σ b y
+        → IsSorted types σ (steps.Binary op x y) (σ n) → Is σ s n
     step_has h oa qb hx hy made = same_Some (σ n) s
         (sym (operated_binary op (Some (σ x)) (Some (σ y)) (σ n) made)
         ∙ ap (λ z. binary_sort op (Some z) (Some (σ y))) hx
@@ -83,7 +72,7 @@ module _ (types : TypeTable) (σ : Sorts) (ψ : Prices) (left : OpenCall → ℕ
   module _ (op : BinaryOp) (a b : Compiling) (v w : Visiting) (t u : Sorting) (ha : C a v t) (hb : C b w u) where
     -- an operator that is one step
     plain_covers : C (λ k env reach. bind k (a k env reach) (λ n x alive. bind n (b n env alive)
-        (λ m y going. one (steps.Binary op x y) m going))) (visited op v w)
+        (λ m y going. one (steps.Binary op x y) m going))) (visited types op v w)
         (λ scope. binary_sort op (t scope) (u scope))
     plain_covers k env reach shapes scope s are r h m =
         let q = binary_parts op (t scope) (u scope) s h in
@@ -108,14 +97,15 @@ module _ (types : TypeTable) (σ : Sorts) (ψ : Prices) (left : OpenCall → ℕ
         let one_is = worth_of_both ψ (p.events ++ e.events) (node extra) in
         let two_is = worth_of_both ψ p.events e.events in
         let three = worth_of_node ψ extra in
-        covered types σ ψ left k (joined x (joined y z)) s (visited op v w old shapes) (L k x + (L n y + (1 + gates)))
+        covered types σ ψ left k (joined x (joined y z)) s (visited types op v w old shapes)
+        (L k x + (L n y + (1 + gates)))
         (result_is op (t scope) (u scope) p.shape.sort q.0.0 s q.0.1 hx.shape h)
-        (joined_light types σ ψ left (H s) k x (joined y z) (L k x) (L n y + (1 + gates)) (le_same (L k x))
-        (joined_light types σ ψ left (H s) n y z (L n y) (1 + gates) (le_same (L n y))
-        (one_light types σ ψ left (H s) (steps.Binary op x.out y.out) i y.alive is hy.alive))) (omega arith)
+        (joined_light types σ ψ left (Is σ s) k x (joined y z) (L k x) (L n y + (1 + gates)) (le_same (L k x))
+        (joined_light types σ ψ left (Is σ s) n y z (L n y) (1 + gates) (le_same (L n y))
+        (one_light types σ ψ left (Is σ s) (steps.Binary op x.out y.out) i y.alive is hy.alive))) (omega arith)
 
     quotient_covers : (asked check : Option CheckId) → C (λ k env reach. bind k (a k env reach) (λ n x alive.
-        bind n (b n env alive) (λ m y going. quotient asked op check m going x y))) (visited op v w)
+        bind n (b n env alive) (λ m y going. quotient asked op check m going x y))) (visited types op v w)
         (λ scope. binary_sort op (t scope) (u scope))
     quotient_covers asked check k env reach shapes scope s are r h m =
         let q = binary_parts op (t scope) (u scope) s h in
@@ -153,22 +143,22 @@ module _ (types : TypeTable) (σ : Sorts) (ψ : Prices) (left : OpenCall → ℕ
         let one_is = worth_of_both ψ (p.events ++ e.events) (node extra) in
         let two_is = worth_of_both ψ p.events e.events in
         let three = worth_of_node ψ extra in
-        covered types σ ψ left k (joined x (joined y (joined f (joined d z)))) s (visited op v w old shapes)
+        covered types σ ψ left k (joined x (joined y (joined f (joined d z)))) s (visited types op v w old shapes)
         (L k x + (L n y + (67 + (7 + (1 + gates)))))
         (result_is op (t scope) (u scope) p.shape.sort q.0.0 s q.0.1 hx.shape h)
-        (joined_light types σ ψ left (H s) k x (joined y (joined f (joined d z))) (L k x) _ (le_same (L k x))
-        (joined_light types σ ψ left (H s) n y (joined f (joined d z)) (L n y) _ (le_same (L n y))
-        (joined_light types σ ψ left (H s) i f (joined d z) 67 _ few_f
-        (joined_light types σ ψ left (H s) j d z 7 (1 + gates) hd.few
-        (one_light types σ ψ left (H s) (steps.Binary op x.out y.out) l d.alive is hd.alive))))) (omega arith)
+        (joined_light types σ ψ left (Is σ s) k x (joined y (joined f (joined d z))) (L k x) _ (le_same (L k x))
+        (joined_light types σ ψ left (Is σ s) n y (joined f (joined d z)) (L n y) _ (le_same (L n y))
+        (joined_light types σ ψ left (Is σ s) i f (joined d z) 67 _ few_f
+        (joined_light types σ ψ left (Is σ s) j d z 7 (1 + gates) hd.few
+        (one_light types σ ψ left (Is σ s) (steps.Binary op x.out y.out) l d.alive is hd.alive))))) (omega arith)
 
   -- ---- operators that may skip their right side
 
   -- the right side begins at number n, where its number `taken` tells whether it is reached
   skip_light : (b : Compiling) (w : Visiting) (u : Sorting) → C b w u → (n : ℕ) (env : List ℕ) (taken x alive : ℕ)
-      (shapes : List Shape) (scope : List Sort) → Are σ env shapes scope → Bit taken → Bit alive
-      → H sort.Bool x → u scope ≡ Some sort.Bool → AllSorted types σ n (skipping b n env taken x alive).steps
-      → IsLight types σ ψ left (H sort.Bool) n (skipping b n env taken x alive) (worth ψ (w old shapes).events)
+      (shapes : List Shape) (scope : List Sort) → Are σ env shapes scope → IsBit σ taken → IsBit σ alive
+      → Is σ sort.Bool x → u scope ≡ Some sort.Bool → AllSorted types σ n (skipping b n env taken x alive).steps
+      → IsLight types σ ψ left (Is σ sort.Bool) n (skipping b n env taken x alive) (worth ψ (w old shapes).events)
   skip_light b w u hb n env taken x alive shapes scope are bit live hx is m =
       let y = b n env taken in
       let z : Piece (Option ℕ) = plain [] (Some x) alive in
@@ -181,7 +171,8 @@ module _ (types : TypeTable) (σ : Sorts) (ψ : Prices) (left : OpenCall → ℕ
 
   module _ (a b : Compiling) (v w : Visiting) (t u : Sorting) (ha : C a v t) (hb : C b w u) where
     module _ (k : ℕ) (env : List ℕ) (reach : ℕ) (shapes : List Shape) (scope : List Sort) (s : Sort)
-        (are : Are σ env shapes scope) (r : Bit reach) (h : class_sort class.Logic (t scope) (u scope) ≡ Some s) where
+        (are : Are σ env shapes scope) (r : IsBit σ reach)
+        (h : class_sort class.Logic (t scope) (u scope) ≡ Some s) where
       abbrev x : Piece ℕ
       x = a k env reach
 
@@ -191,10 +182,10 @@ module _ (types : TypeTable) (σ : Sorts) (ψ : Prices) (left : OpenCall → ℕ
       -- what goes on after the left side, with a step that tells whether the right side is reached
       skip_covers : (op : BinaryOp) → binary_extra types op (v old shapes).shape (w old shapes).shape ≡ 0
           → gives op (v old shapes).shape.sort ≡ sort.Bool → (f : Piece ℕ)
-          → (hx : IsCovered types σ ψ left k x sort.Bool (v old shapes)) → IsLight types σ ψ left Bit n f 3
+          → (hx : IsCovered types σ ψ left k x sort.Bool (v old shapes)) → IsLight types σ ψ left (IsBit σ) n f 3
           → AllSorted types σ (after n f) (skipping b (after n f) env f.out x.out x.alive).steps
           → IsCovered types σ ψ left k (joined x (joined f (skipping b (after n f) env f.out x.out x.alive))) s
-          (visited op v w old shapes)
+          (visited types op v w old shapes)
       skip_covers op none result f hx hf m =
           let q = logic_parts (t scope) (u scope) s h in
           let p = v old shapes in
@@ -207,13 +198,13 @@ module _ (types : TypeTable) (σ : Sorts) (ψ : Prices) (left : OpenCall → ℕ
           let one_is = worth_of_both ψ (p.events ++ e.events) (node extra) in
           let two_is = worth_of_both ψ p.events e.events in
           let three = worth_of_node ψ extra in
-          covered types σ ψ left k (joined x (joined f z)) s (visited op v w old shapes)
+          covered types σ ψ left k (joined x (joined f z)) s (visited types op v w old shapes)
           (L k x + (3 + worth ψ e.events)) (result ∙ q.2)
-          (subst (λ c. IsLight types σ ψ left (H c) k (joined x (joined f z)) (L k x + (3 + worth ψ e.events))) q.2
-          (joined_light types σ ψ left (H sort.Bool) k x (joined f z) (L k x) _ (le_same (L k x))
-          (joined_light types σ ψ left (H sort.Bool) n f z 3 (worth ψ e.events) hf.few hz))) (omega arith)
+          (subst (λ c. IsLight types σ ψ left (Is σ c) k (joined x (joined f z)) (L k x + (3 + worth ψ e.events))) q.2
+          (joined_light types σ ψ left (Is σ sort.Bool) k x (joined f z) (L k x) _ (le_same (L k x))
+          (joined_light types σ ψ left (Is σ sort.Bool) n f z 3 (worth ψ e.events) hf.few hz))) (omega arith)
 
-    and_covers : (asked check : Option CheckId) → C (binary asked AndAlso a b check) (visited AndAlso v w)
+    and_covers : (asked check : Option CheckId) → C (binary asked AndAlso a b check) (visited types AndAlso v w)
         (λ scope. class_sort class.Logic (t scope) (u scope))
     and_covers asked check k env reach shapes scope s are r h m =
         let q = logic_parts (t scope) (u scope) s h in
@@ -224,11 +215,11 @@ module _ (types : TypeTable) (σ : Sorts) (ψ : Prices) (left : OpenCall → ℕ
         let mf = sorted_right types σ k c (joined f z) m in
         skip_covers k env reach shapes scope s are r h AndAlso refl refl f
         (ha k env reach shapes scope sort.Bool are r q.0 (sorted_left types σ k c (joined f z) m))
-        (lighter types σ ψ left Bit i f 2 3
+        (lighter types σ ψ left (IsBit σ) i f 2 3
         (when_light types σ ψ left i c.alive c.out (sorted_left types σ i f z mf)) (omega arith))
         (sorted_right types σ i f z mf)
 
-    or_covers : (asked check : Option CheckId) → C (binary asked OrElse a b check) (visited OrElse v w)
+    or_covers : (asked check : Option CheckId) → C (binary asked OrElse a b check) (visited types OrElse v w)
         (λ scope. class_sort class.Logic (t scope) (u scope))
     or_covers asked check k env reach shapes scope s are r h m =
         let q = logic_parts (t scope) (u scope) s h in
@@ -243,7 +234,7 @@ module _ (types : TypeTable) (σ : Sorts) (ψ : Prices) (left : OpenCall → ℕ
 
   pub binary_covers : (asked : Option CheckId) (op : BinaryOp) (check : Option CheckId) (a b : Compiling)
       (v w : Visiting) (t u : Sorting) → C a v t → C b w u
-      → C (binary asked op a b check) (visited op v w) (λ scope. binary_sort op (t scope) (u scope))
+      → C (binary asked op a b check) (visited types op v w) (λ scope. binary_sort op (t scope) (u scope))
   binary_covers asked AndAlso check a b v w t u ha hb = and_covers a b v w t u ha hb asked check
   binary_covers asked OrElse check a b v w t u ha hb = or_covers a b v w t u ha hb asked check
   binary_covers asked Div check a b v w t u ha hb = quotient_covers Div a b v w t u ha hb asked check

@@ -1,16 +1,13 @@
 -- Patterns: their steps and tests weigh at most what their events are worth.
-use Rattle.std.proofs.Common.{◌≡◌, ℕ, suc, ◌+◌, ◌*◌, ◌≤◌, List, [], ◌∷◌, ◌++◌}
-use Rattle.std.proofs.Common.{map, length, Option, Some, None, refl, sym, ap, ◌∙◌, subst, arith, length-append}
+use Rattle.std.proofs.Common.{◌≡◌, ℕ, suc, ◌+◌, ◌*◌, ◌≤◌, List, [], ◌∷◌, ◌++◌, map, length, Option, Some, None, refl}
+use Rattle.std.proofs.Common.{sym, ap, ◌∙◌, subst, arith, length-append}
 use Rattle.std.proofs.lemmas.Option.{same_Some}
 use Rattle.std.proofs.Math.Nat.{add-zero, zero-add}
 use Rattle.std.specs.Prelude.{slice_get}
 use Rattle.pp_list.proofs.With.{With, elements}
-use Rattle.pp_prog.proofs.Induction.{each_pattern, pattern_under}
 use Rattle.pp_list.specs.Joined.{joined}
 use Rattle.pp_prog.specs.declared.expr.Pattern.{Pattern}
-use Rattle.pp_prog.specs.declared.expr.Pattern.TheFolds.{fold-roll-Pattern, map-Pattern}
 use Rattle.pp_prog.specs.declared.expr.Pattern.TheOpen as pattern
-use Rattle.pp_prog.specs.declared.expr.Pattern.TheViews.{roll-Pattern}
 use Rattle.pp_prog.specs.declared.id.CtorId.{CtorId}
 use Rattle.pp_prog.specs.declared.sort.Sort.{Sort}
 use Rattle.pp_prog.specs.declared.types.Ctor.{Ctor}
@@ -22,16 +19,17 @@ use Rattle.pp_prog.specs.Sizes.{by_sort}
 use Rattle.pp_sound.proofs.Binding.{bind_then, none_binds, tree_binds}
 use Rattle.pp_estimate.specs.declared.shape.Shape.{Shape}
 use Rattle.pp_estimate.specs.Events.{Event}
-use Rattle.pp_estimate.specs.Visits.{Binding, bind_each, bind_step, bound, look_at, node, part, pattern_events}
-use Rattle.pp_estimate.specs.Visits.{pattern_step}
+use Rattle.pp_estimate.specs.Visits.{Binding, bind_each, bound, look_at, node, part, pattern_events}
 use Rattle.pp_steps.proofs.Counting.{add_suc}
 use Rattle.pp_steps.specs.declared.step.OpenCall.{OpenCall}
-use Rattle.pp_steps.specs.Patterns.{Fitting, Matching, fit_fields, fitting, fitting_step}
+use Rattle.pp_steps.specs.Patterns.{Fitting, Matching, fit_fields, fitting}
 use Rattle.pp_steps.specs.Sorted.{AllSorted, Distinguishes, Selects, Sorts}
+use Rattle.pp_steps_gates.proofs.PatternLevels.{PatternCovers, PatternLevelCovers, pattern_by_levels}
+use Rattle.pp_steps_gates.proofs.Aligned.{aligned_join}
 use Rattle.pp_guess_gates.proofs.Operators.{equal_low}
 use Rattle.pp_guess_gates.proofs.Pieces.{sorted_first, sorted_rest, weight, weight_of_both}
 use Rattle.pp_guess_gates.proofs.Prices.{Prices, look_price, worth, worth_of_both, worth_of_look}
-use Rattle.pp_guess_gates.proofs.Scopes.{Are, IsOf, are_join}
+use Rattle.pp_guess_gates.proofs.Scopes.{Are, IsOf}
 
 module _ (types : TypeTable) (σ : Sorts) (ψ : Prices) (left : OpenCall → ℕ) where
   -- The steps of a pattern begin at number k: what they bind is of these shapes and sorts, and its steps and tests
@@ -40,14 +38,13 @@ module _ (types : TypeTable) (σ : Sorts) (ψ : Prices) (left : OpenCall → ℕ
     pub bound : Are σ f.bound hs ss
     pub few : weight types σ ψ left k f.steps + 2 * length f.tests + less ≤ worth ψ es
 
-  abbrev pub Matches : Pattern → Type 0
-  Matches p =
-      (k t : ℕ) (h : Shape) (s : Sort) (l : List Sort) → IsOf σ t h s → bound_sorts types.ctors p s ≡ Some l
-      → AllSorted types σ k (fitting p k t).steps
-      → IsMatched 16 k (fitting p k t) (bound types.ctors p h) l (pattern_events types.ctors p)
+  abbrev Matches : Matching → Binding → List Event → sorts.Binding → Type 0
+  Matches f b es g =
+      (k t : ℕ) (h : Shape) (s : Sort) (l : List Sort) → IsOf σ t h s → g s ≡ Some l
+      → AllSorted types σ k (f k t).steps → IsMatched 16 k (f k t) (b h) l es
 
   fields_match : (c : CtorId) (k : Ctor) → slice_get types.ctors c.0 ≡ Some k
-      → (ps : List (With Matches)) (j : ℕ) (ss : List Sort)
+      → (ps : List (With (PatternCovers types Matches))) (j : ℕ) (ss : List Sort)
       → ((i : ℕ) → slice_get k.fields (j + i) ≡ slice_get ss i) → (n t : ℕ) (h : Shape) (l : List Sort)
       → bind_fields (map (bound_sorts types.ctors) (elements ps)) ss ≡ Some l
       → AllSorted types σ n (fit_fields c j (map fitting (elements ps)) n t).steps
@@ -87,17 +84,11 @@ module _ (types : TypeTable) (σ : Sorts) (ψ : Prices) (left : OpenCall → ℕ
         bound = subst (λ z. Are σ (x.bound ++ y.bound)
             (bound types.ctors p.0 w ++ bind_each h (map (bound types.ctors) (elements ps)) ss) z)
             (same_Some (here.0 ++ rest.0) l rest.2)
-            (are_join σ x.bound (bound types.ctors p.0 w) here.0 y.bound _ rest.0 hx.bound hy.bound);
+            (aligned_join (IsOf σ) x.bound (bound types.ctors p.0 w) here.0 y.bound _ rest.0 hx.bound hy.bound);
         few = omega arith;
       }
 
-  pattern_level : (y : pattern.Pattern-F (With Matches)) (k t : ℕ) (h : Shape) (s : Sort) (l : List Sort) → IsOf σ t h s
-      → sorts.bind_step types.ctors (map-Pattern Pattern sorts.Binding (bound_sorts types.ctors) (pattern_under y)) s ≡
-      Some l
-      → let f = fitting_step (map-Pattern Pattern Matching fitting (pattern_under y)) k t in
-      AllSorted types σ k f.steps
-      → IsMatched 16 k f (bind_step types.ctors (map-Pattern Pattern Binding (bound types.ctors) (pattern_under y)) h) l
-      (pattern_step types.ctors (map-Pattern Pattern (List Event) (pattern_events types.ctors) (pattern_under y)))
+  pattern_level : (y : pattern.Pattern-F (With (PatternCovers types Matches))) → PatternLevelCovers types Matches y
   pattern_level pattern.Any k t h s l of e m =
       let same : [] ≡ l = same_Some [] l e in
       record { bound = subst (λ z. Are σ [] [] z) same tt; few = omega arith }
@@ -140,21 +131,5 @@ module _ (types : TypeTable) (σ : Sorts) (ψ : Prices) (left : OpenCall → ℕ
         few = omega arith;
       }
 
-  at_pattern : (y : pattern.Pattern-F (With Matches)) → Matches (roll-Pattern (pattern_under y))
-  at_pattern y k t h s l of e m =
-      let z = pattern_under y in
-      let one = fold-roll-Pattern Matching fitting_step z in
-      let two = fold-roll-Pattern Binding (bind_step types.ctors) z in
-      let three = fold-roll-Pattern (List Event) (pattern_step types.ctors) z in
-      let four = fold-roll-Pattern sorts.Binding (sorts.bind_step types.ctors) z in
-      subst (λ (f : Matching). IsMatched 16 k (f k t) (bound types.ctors (roll-Pattern z) h) l
-      (pattern_events types.ctors (roll-Pattern z))) (sym one)
-      (subst (λ (b : Binding). IsMatched 16 k (fitting_step (map-Pattern Pattern Matching fitting z) k t) (b h) l
-      (pattern_events types.ctors (roll-Pattern z))) (sym two)
-      (subst (λ (es : List Event). IsMatched 16 k (fitting_step (map-Pattern Pattern Matching fitting z) k t)
-      (bind_step types.ctors (map-Pattern Pattern Binding (bound types.ctors) z) h) l es) (sym three)
-      (pattern_level y k t h s l of (ap (λ (b : sorts.Binding). b s) (sym four) ∙ e)
-      (subst (λ (f : Matching). AllSorted types σ k (f k t).steps) one m))))
-
-  pub pattern_matches : (p : Pattern) → Matches p
-  pattern_matches = each_pattern Matches at_pattern
+  pub pattern_matches : (p : Pattern) → PatternCovers types Matches p
+  pattern_matches = pattern_by_levels types Matches pattern_level

@@ -15,8 +15,18 @@ use Rattle.pp_steps.specs.Compile.{one, unless, when}
 use Rattle.pp_operators.specs.Gates.{unary_gates}
 use Rattle.pp_steps.specs.Piece.{Piece, after, choice, demand, joined, pick_step, picked, plain}
 use Rattle.pp_steps.specs.Sorted.{AllSorted, Sorts}
+use Rattle.pp_steps_gates.proofs.Pieces.{IsBit}
 use Rattle.pp_guess_gates.specs.Measure.{operator_gates}
 use Rattle.pp_guess_gates.proofs.Prices.{Prices, look_price}
+
+-- the number has the sort
+abbrev pub Is : Sorts → Sort → ℕ → Type 0
+Is σ s n = σ n ≡ s
+
+-- the number has the sort, if there is one
+abbrev pub MayBe : Sorts → Sort → Option ℕ → Type 0
+MayBe σ s None = Unit {0}
+MayBe σ s (Some n) = Is σ s n
 
 module _ (types : TypeTable) (σ : Sorts) where
   pub sorted_first : (k : ℕ) (xs ys : List Step) → AllSorted types σ k (xs ++ ys) → AllSorted types σ k xs
@@ -96,22 +106,11 @@ module _ (types : TypeTable) (σ : Sorts) (ψ : Prices) (left : OpenCall → ℕ
       let f = length-append x.fails y.fails in
       omega arith
 
-  abbrev pub Is : Sort → ℕ → Type 0
-  Is s n = σ n ≡ s
-
-  -- the number has the sort, if there is one
-  abbrev pub MayBe : Sort → Option ℕ → Type 0
-  MayBe s None = Unit {0}
-  MayBe s (Some n) = Is s n
-
-  abbrev pub IsBit : ℕ → Type 0
-  IsBit n = σ n ≡ sort.Bool
-
   -- The piece begins at number k: its outcome is one of R, a truth value tells whether it has one, and it weighs at
   -- most so much.
   pub record IsLight {A : Type 0} (R : A → Type 0) (k : ℕ) (x : Piece A) (most : ℕ) : Type 0 where
     pub out : R x.out
-    pub alive : IsBit x.alive
+    pub alive : IsBit σ x.alive
     pub few : load k x ≤ most
 
   pub joined_light : {A B : Type 0} (S : B → Type 0) (k : ℕ) (x : Piece A) (y : Piece B) (a b : ℕ)
@@ -127,36 +126,36 @@ module _ (types : TypeTable) (σ : Sorts) (ψ : Prices) (left : OpenCall → ℕ
 
   -- ---- some steps
 
-  pub one_light : (R : ℕ → Type 0) (s : Step) (k alive : ℕ) → R k → IsBit alive
+  pub one_light : (R : ℕ → Type 0) (s : Step) (k alive : ℕ) → R k → IsBit σ alive
       → IsLight R k (one s k alive) (weigh k s)
   one_light R s k alive r a = record { out = r; alive = a; few = omega arith }
 
-  pub plain_light : {A : Type 0} (R : A → Type 0) (k : ℕ) (out : A) (alive : ℕ) → R out → IsBit alive
+  pub plain_light : {A : Type 0} (R : A → Type 0) (k : ℕ) (out : A) (alive : ℕ) → R out → IsBit σ alive
       → IsLight R k (plain [] out alive) 0
   plain_light R k out alive r a = record { out = r; alive = a; few = le_same 0 }
 
   pub when_light : (k alive test : ℕ) → AllSorted types σ k (when k alive test).steps
-      → IsLight IsBit k (when k alive test) 2
+      → IsLight (IsBit σ) k (when k alive test) 2
   when_light k alive test m = record { out = m.0.2; alive = m.0.0; few = le_same 2 }
 
   pub unless_light : (k alive test : ℕ) → AllSorted types σ k (unless k alive test).steps
-      → IsLight IsBit k (unless k alive test) 3
+      → IsLight (IsBit σ) k (unless k alive test) 3
   unless_light k alive test m = record { out = m.1.0.2; alive = m.1.0.0; few = le_same 3 }
 
   pub demand_light : (b : Bool) (k alive test : ℕ) → AllSorted types σ k (demand b k alive test).steps
-      → IsLight IsBit k (demand b k alive test) 7
+      → IsLight (IsBit σ) k (demand b k alive test) 7
   demand_light true k alive test m = record { out = m.0.1; alive = m.0.2; few = le_same 7 }
   demand_light false k alive test m = record { out = m.0.1; alive = m.0.2; few = omega arith }
 
   -- ---- choices
 
   -- a choice between truth values
-  pub bit_choice : (k : ℕ) (c a b : ℕ) → IsBit k → weigh k (steps.Choose c a b) ≡ 2
+  pub bit_choice : (k : ℕ) (c a b : ℕ) → IsBit σ k → weigh k (steps.Choose c a b) ≡ 2
   bit_choice k c a b e = ap (λ t. 1 + width t) e
 
-  pick_light : (s : Sort) (k taken a : ℕ) (o : Option ℕ) → Is s a → MayBe s o
+  pick_light : (s : Sort) (k taken a : ℕ) (o : Option ℕ) → Is σ s a → MayBe σ s o
       → AllSorted types σ k (pick_step taken a o)
-      → Is s (picked k a o) × (weight k (pick_step taken a o) ≤ 33)
+      → Is σ s (picked k a o) × (weight k (pick_step taken a o) ≤ 33)
   pick_light s k taken a None x y m = (x, omega arith)
   pick_light s k taken a (Some b) x y m = (sym m.0.1 ∙ x, let low = width_low (σ k) in omega arith)
 
@@ -167,11 +166,11 @@ module _ (types : TypeTable) (σ : Sorts) (ψ : Prices) (left : OpenCall → ℕ
     abbrev tail : List Step
     tail = steps.Choose taken x.alive y.alive ∷ pick_step taken x.out y.out
 
-    choice_here : Is s x.out → IsBit x.alive → MayBe s y.out → AllSorted types σ k (choice last taken x y).steps
-        → IsLight (Is s) k (choice last taken x y) (load k x + (load (after k x) y + 35))
+    choice_here : Is σ s x.out → IsBit σ x.alive → MayBe σ s y.out → AllSorted types σ k (choice last taken x y).steps
+        → IsLight (Is σ s) k (choice last taken x y) (load k x + (load (after k x) y + 35))
     choice_here a b c m =
         let t = sorted_rest types σ (after k x) y.steps tail (sorted_rest types σ k x.steps (y.steps ++ tail) m) in
-        let bit : IsBit last = sym t.0.1 ∙ b in
+        let bit : IsBit σ last = sym t.0.1 ∙ b in
         let p = pick_light s (suc last) taken x.out y.out a c t.1 in
         let one = bit_choice last taken x.alive y.alive bit in
         let few = p.1 in
@@ -180,9 +179,9 @@ module _ (types : TypeTable) (σ : Sorts) (ψ : Prices) (left : OpenCall → ℕ
         let g = length-append x.fails y.fails in
         record { out = p.0; alive = bit; few = omega arith }
 
-    pub choice_light : (n : ℕ) → last ≡ n → Is s x.out → IsBit x.alive → MayBe s y.out
+    pub choice_light : (n : ℕ) → last ≡ n → Is σ s x.out → IsBit σ x.alive → MayBe σ s y.out
         → AllSorted types σ k (choice n taken x y).steps
-        → IsLight (Is s) k (choice n taken x y) (load k x + (load (after k x) y + 35))
+        → IsLight (Is σ s) k (choice n taken x y) (load k x + (load (after k x) y + 35))
     choice_light n e a b c m =
-        subst (λ i. IsLight (Is s) k (choice i taken x y) (load k x + (load (after k x) y + 35))) e
+        subst (λ i. IsLight (Is σ s) k (choice i taken x y) (load k x + (load (after k x) y + 35))) e
         (choice_here a b c (subst (λ i. AllSorted types σ k (choice i taken x y).steps) (sym e) m))

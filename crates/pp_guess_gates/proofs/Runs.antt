@@ -27,15 +27,17 @@ use Rattle.pp_steps.specs.Piece.{Piece, after, asks, joined}
 use Rattle.pp_steps.specs.Sorted.{AllSorted, Sorts}
 use Rattle.pp_guess_steps.proofs.OwnFrame.{base}
 use Rattle.pp_guess_steps.proofs.OwnFrame as own
+use Rattle.pp_steps_gates.proofs.Aligned.{aligned_join}
+use Rattle.pp_steps_gates.proofs.Pieces.{Any, IsBit}
 use Rattle.pp_guess_gates.proofs.Calls.{own_answers}
 use Rattle.pp_guess_gates.proofs.Demanded.{demand_covered, measuring_light}
 use Rattle.pp_guess_gates.proofs.Exprs.{expr_covers}
 use Rattle.pp_guess_gates.proofs.Lists.{Answers}
-use Rattle.pp_guess_gates.proofs.Pieces.{IsBit, IsLight, bit_choice, load, load_of_both, plain_light, sorted_left}
+use Rattle.pp_guess_gates.proofs.Pieces.{IsLight, bit_choice, load, load_of_both, plain_light, sorted_left}
 use Rattle.pp_guess_gates.proofs.Pieces.{sorted_first, sorted_rest, sorted_right, weight, weight_of_both, width_low}
 use Rattle.pp_guess_gates.proofs.Prices.{Prices, worth, worth_of_both}
 use Rattle.pp_guess_gates.proofs.Reserves.{left_in}
-use Rattle.pp_guess_gates.proofs.Scopes.{Are, are_join, covered_of}
+use Rattle.pp_guess_gates.proofs.Scopes.{Are, IsOf, covered_of}
 
 module _ (p : Program) (σ : Sorts) (ψ : Prices) (left : OpenCall → ℕ) where
   -- whether one of the numbers is true weighs at most a choice for each
@@ -47,7 +49,7 @@ module _ (p : Program) (σ : Sorts) (ψ : Prices) (left : OpenCall → ℕ) wher
       let z = any_of (y ∷ ks) k alive in
       let c = one (steps.Choose x x z.out) (after k z) alive in
       let mc = sorted_right p.types σ k z c m in
-      let bit : IsBit p.types σ ψ left (after k z) = sym mc.0.1 ∙ mc.0.0 in
+      let bit : IsBit σ (after k z) = sym mc.0.1 ∙ mc.0.0 in
       let one_is = bit_choice p.types σ ψ left (after k z) x x z.out bit in
       let few = any_few (y ∷ ks) k alive (sorted_left p.types σ k z c m) in
       let sum_is = weight_of_both p.types σ ψ left k z.steps c.steps in
@@ -68,18 +70,12 @@ module _ (p : Program) (σ : Sorts) (ψ : Prices) (left : OpenCall → ℕ) wher
   abbrev L : {A : Type 0} → ℕ → Piece A → ℕ
   L = load p.types σ ψ left
 
-  abbrev Bit : ℕ → Type 0
-  Bit = IsBit p.types σ ψ left
-
   abbrev A : List Shape → Site → Calls → Type 0
   A old site calls = Answers p.types σ ψ left old p.functions site calls
 
-  abbrev Any : ℕ → Type 0
-  Any n = Unit {0}
-
   allowing_light : (asked : Option CheckId) (site : Site) (calls : Calls) → A [] site calls → (o : Option Expr)
       (k : ℕ) (args : List ℕ) (reach : ℕ) (hs : List Shape) (scope : List Sort) → Are σ args hs scope
-      → Bit reach → is_sorted_pre p.types p.functions o scope ≡ true
+      → IsBit σ reach → is_sorted_pre p.types p.functions o scope ≡ true
       → AllSorted p.types σ k (allowing asked site o k args reach).steps
       → IsLight p.types σ ψ left Any k (allowing asked site o k args reach) (worth ψ (pre_events p.types calls o hs))
   allowing_light asked site calls its None k args reach hs scope are r is m =
@@ -92,7 +88,7 @@ module _ (p : Program) (σ : Sorts) (ψ : Prices) (left : OpenCall → ℕ) wher
   finishing_light : (asked : Option CheckId) (site : Site) (calls : Calls) (old : List Shape) → A old site calls
       → (o : Option (CheckId × Expr)) (k : ℕ) (args : List ℕ) (v reach : ℕ) (hs : List Shape) (h : Shape)
       (scope : List Sort) → Are σ (args ++ v ∷ []) (hs ++ h ∷ []) scope
-      → Bit reach → is_sorted_post p.types p.functions o scope ≡ true
+      → IsBit σ reach → is_sorted_post p.types p.functions o scope ≡ true
       → AllSorted p.types σ k (finishing asked site o k (args ++ v ∷ []) reach).steps
       → IsLight p.types σ ψ left Any k (finishing asked site o k (args ++ v ∷ []) reach)
       (worth ψ (post_events p.types calls o old hs h))
@@ -109,7 +105,7 @@ module _ (p : Program) (σ : Sorts) (ψ : Prices) (n r : ℕ) where
   leaves = left_in p ψ n r
 
   running_light : (asked : Option CheckId) (i : ℕ) (f : Function) → IsWhole p i f → (k : ℕ) (args : List ℕ)
-      (reach : ℕ) (hs : List Shape) → Are σ args hs (param_sorts f.params) → IsBit p.types σ ψ leaves reach
+      (reach : ℕ) (hs : List Shape) → Are σ args hs (param_sorts f.params) → IsBit σ reach
       → AllSorted p.types σ k (running (guessing p.functions asked) asked f k args reach).steps
       → load p.types σ ψ leaves k (running (guessing p.functions asked) asked f k args reach) + 64
       ≤ worth ψ (frame p.types (own_calls p.types p.functions n) f hs).events
@@ -138,7 +134,7 @@ module _ (p : Program) (σ : Sorts) (ψ : Prices) (n r : ℕ) where
       (param_sorts f.params) f.result are hy.alive w.body_sorted (sorted_left p.types σ j b z mb) in
       let hz = finishing_light p σ ψ leaves asked (sites y.out) calls ns its f.post l args b.out b.alive hs v.shape
       (param_sorts f.params ++ f.result ∷ [])
-      (are_join σ args hs (param_sorts f.params) (b.out ∷ []) (v.shape ∷ []) (f.result ∷ []) are
+      (aligned_join (IsOf σ) args hs (param_sorts f.params) (b.out ∷ []) (v.shape ∷ []) (f.result ∷ []) are
       (covered_of p.types σ ψ leaves j b f.result v hb, tt)) hb.alive w.post_sorted
       (sorted_right p.types σ j b z mb) in
       let few_x = hx.few in

@@ -1,17 +1,18 @@
 -- Numbers in scope, each with the sort of the shape at its place; and what it means that the steps of an expression
 -- weigh at most what its visit is worth.
-use Rattle.std.proofs.Common.{◌≡◌, ℕ, zero, suc, ◌+◌, ◌≤◌, List, [], ◌∷◌, ◌++◌, Some, None, subst, arith}
-use Rattle.std.specs.Prelude.{slice_get, slice_index_or}
+use Rattle.std.proofs.Common.{◌≡◌, ℕ, ◌+◌, ◌≤◌, List, Some, arith}
 use Rattle.pp_prog.specs.declared.sort.Sort.{Sort}
 use Rattle.pp_prog.specs.declared.types.TypeTable.{TypeTable}
 use Rattle.pp_prog.specs.ExprSorts.{Sorting}
 use Rattle.pp_estimate.specs.declared.shape.Shape.{Shape}
-use Rattle.pp_estimate.specs.Visits.{Visit, Visiting, shape_at}
+use Rattle.pp_estimate.specs.Visits.{Visit, Visiting}
 use Rattle.pp_steps.specs.declared.step.OpenCall.{OpenCall}
 use Rattle.pp_steps.specs.Compile.{Compiling}
 use Rattle.pp_steps.specs.Piece.{Piece}
 use Rattle.pp_steps.specs.Sorted.{AllSorted, Sorts}
-use Rattle.pp_guess_gates.proofs.Pieces.{Is, IsBit, IsLight, load}
+use Rattle.pp_steps_gates.proofs.Aligned.{Aligned}
+use Rattle.pp_steps_gates.proofs.Pieces.{IsBit}
+use Rattle.pp_guess_gates.proofs.Pieces.{Is, IsLight, load}
 use Rattle.pp_guess_gates.proofs.Prices.{Prices, worth}
 
 -- ---- scopes
@@ -22,25 +23,9 @@ module _ (σ : Sorts) where
     pub has : σ n ≡ s
     pub shape : h.sort ≡ s
 
-  -- so has each, and none is left over
-  abbrev pub Are : List ℕ → List Shape → List Sort → Type 0
-  Are [] [] [] = Unit {0}
-  Are (n ∷ ns) (h ∷ hs) (s ∷ ss) = IsOf n h s × Are ns hs ss
-  Are ns hs ss = ⊥
-
-  pub are_join : (a : List ℕ) (b : List Shape) (c : List Sort) (d : List ℕ) (e : List Shape) (f : List Sort)
-      → Are a b c → Are d e f → Are (a ++ d) (b ++ e) (c ++ f)
-  are_join [] [] [] d e f h g = g
-  are_join (n ∷ a) (x ∷ b) (s ∷ c) d e f h g = (h.0, are_join a b c d e f h.1 g)
-  are_join a b c d e f h g = absurd h
-
-  pub are_at : (ns : List ℕ) (hs : List Shape) (ss : List Sort) (i : ℕ) (s : Sort) → Are ns hs ss
-      → slice_get ss i ≡ Some s → IsOf (slice_index_or ns i 0) (shape_at hs i) s
-  are_at [] [] [] i s a is = let no : None ≡ Some s = is in cc
-  are_at (n ∷ ns) (h ∷ hs) (t ∷ ss) zero s a is =
-      let same : t ≡ s = (let both : Some t ≡ Some s = is in cc) in subst (λ u. IsOf n h u) same a.0
-  are_at (n ∷ ns) (h ∷ hs) (t ∷ ss) (suc i) s a is = are_at ns hs ss i s a.1 is
-  are_at ns hs ss i s a is = absurd a
+-- so has each, and none is left over
+abbrev pub Are : Sorts → List ℕ → List Shape → List Sort → Type 0
+Are σ = Aligned (IsOf σ)
 
 -- ---- expressions
 
@@ -50,11 +35,11 @@ module _ (types : TypeTable) (σ : Sorts) (ψ : Prices) (left : OpenCall → ℕ
   pub record IsCovered (k : ℕ) (x : Piece ℕ) (s : Sort) (v : Visit) : Type 0 where
     pub shape : v.shape.sort ≡ s
     pub out : σ x.out ≡ s
-    pub alive : IsBit types σ ψ left x.alive
+    pub alive : IsBit σ x.alive
     pub few : load types σ ψ left k x + 64 ≤ worth ψ v.events
 
   pub covered : (k : ℕ) (x : Piece ℕ) (s : Sort) (v : Visit) (most : ℕ) → v.shape.sort ≡ s
-      → IsLight types σ ψ left (Is types σ ψ left s) k x most → most + 64 ≤ worth ψ v.events → IsCovered k x s v
+      → IsLight types σ ψ left (Is σ s) k x most → most + 64 ≤ worth ψ v.events → IsCovered k x s v
   covered k x s v most e h le =
       let few = h.few in record { shape = e; out = h.out; alive = h.alive; few = omega arith }
 
@@ -66,5 +51,5 @@ module _ (types : TypeTable) (σ : Sorts) (ψ : Prices) (left : OpenCall → ℕ
     abbrev pub Covers : Compiling → Visiting → Sorting → Type 0
     Covers m v t =
         (k : ℕ) (env : List ℕ) (reach : ℕ) (shapes : List Shape) (scope : List Sort) (s : Sort)
-        → Are σ env shapes scope → IsBit types σ ψ left reach → t scope ≡ Some s
+        → Are σ env shapes scope → IsBit σ reach → t scope ≡ Some s
         → AllSorted types σ k (m k env reach).steps → IsCovered k (m k env reach) s (v old shapes)

@@ -24,16 +24,18 @@ use Rattle.pp_steps.specs.Frames.{result_of}
 use Rattle.pp_steps.specs.Guesses.{Standing, asking, holding, implying, params_of, unfolded_call, unfolded_of}
 use Rattle.pp_steps.specs.Piece.{Piece, after, demand, joined, plain}
 use Rattle.pp_steps.specs.Sorted.{AllSorted, Sorts}
+use Rattle.pp_steps_gates.proofs.Aligned.{aligned_join}
+use Rattle.pp_steps_gates.proofs.Pieces.{IsBit}
 use Rattle.pp_guess_gates.proofs.Calls.{A, asking_answers}
 use Rattle.pp_guess_steps.proofs.Sorting.{IsCallSorted}
 use Rattle.pp_guess_gates.proofs.Demanded.{demand_covered}
 use Rattle.pp_guess_gates.proofs.Exprs.{expr_covers}
 use Rattle.pp_guess_gates.proofs.Operators.{equal_low}
-use Rattle.pp_guess_gates.proofs.Pieces.{IsBit, IsLight, demand_light, load, load_of_both, plain_light, sorted_left}
+use Rattle.pp_guess_gates.proofs.Pieces.{IsLight, demand_light, load, load_of_both, plain_light, sorted_left}
 use Rattle.pp_guess_gates.proofs.Pieces.{sorted_right}
 use Rattle.pp_guess_gates.proofs.Prices.{Prices, worth}
 use Rattle.pp_guess_gates.proofs.Reserves.{body_visit, body_worth, left_in, measure_shapes, reserve, worth_left}
-use Rattle.pp_guess_gates.proofs.Scopes.{Are, are_join}
+use Rattle.pp_guess_gates.proofs.Scopes.{Are, IsOf}
 
 -- numbers of these sorts, with the shapes of arguments without height
 pub are_flat : (σ : Sorts) (ns : List ℕ) (ss : List Sort) → map σ ns ≡ ss → Are σ ns (shapes_to 0 ss) ss
@@ -52,18 +54,15 @@ module _ (p : Program) (σ : Sorts) (ψ : Prices) (n r : ℕ) where
   abbrev L : {A : Type 0} → ℕ → Piece A → ℕ
   L = load p.types σ ψ left
 
-  abbrev Bit : ℕ → Type 0
-  Bit = IsBit p.types σ ψ left
-
   holding_light : (site : Site) (calls : Calls) (old : List Shape) → A p σ ψ n r old site calls
       → (o : Option (CheckId × Expr)) (k : ℕ) (values : List ℕ) (reach : ℕ) (args : List Shape) (h : Shape)
-      (scope : List Sort) → Are σ values (args ++ h ∷ []) scope → Bit reach
+      (scope : List Sort) → Are σ values (args ++ h ∷ []) scope → IsBit σ reach
       → is_sorted_post p.types p.functions o scope ≡ true
       → AllSorted p.types σ k (holding site o k values reach).steps
-      → IsLight p.types σ ψ left Bit k (holding site o k values reach)
+      → IsLight p.types σ ψ left (IsBit σ) k (holding site o k values reach)
       (worth ψ (post_events p.types calls o old args h))
   holding_light site calls old its None k values reach args h scope are bit is m =
-      plain_light p.types σ ψ left Bit k reach reach bit bit
+      plain_light p.types σ ψ left (IsBit σ) k reach reach bit bit
   holding_light site calls old its (Some post) k values reach args h scope are bit is m =
       demand_covered p σ ψ left None site calls old its false post.1 k values reach (args ++ h ∷ []) scope are bit
       (has_the_sort_is p.types p.functions sort.Bool (sort_of p.types p.functions post.1 scope) is) m
@@ -114,7 +113,7 @@ module _ (p : Program) (σ : Sorts) (ψ : Prices) (n r : ℕ) where
         let result : σ c.result ≡ f.result = s.result ∙ s.labels.result ∙ ap result_of is in
         let hz = holding_light site calls ns (its ns) f.post t (c.call.args ++ c.result ∷ []) d.alive hs v.shape
         (param_sorts f.params ++ f.result ∷ [])
-        (are_join σ c.call.args hs (param_sorts f.params) (c.result ∷ []) (v.shape ∷ []) (f.result ∷ []) args
+        (aligned_join (IsOf σ) c.call.args hs (param_sorts f.params) (c.result ∷ []) (v.shape ∷ []) (f.result ∷ []) args
         (record { has = result; shape = hx.shape }, tt)) hd.alive w.post_sorted
         (sorted_left p.types σ t z e m4) in
         let low = equal_low (σ x.out) in

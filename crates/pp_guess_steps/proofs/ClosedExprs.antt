@@ -33,11 +33,13 @@ IsSimpleOf q (steps.Open s) = q.Opens s
 IsSimpleOf q s = Unit {0}
 
 module _ (q : Conditions) (P : List Step → Type 0) (join : (xs ys : List Step) → P xs → P ys → P (xs ++ ys))
-    (none : P []) (simple : (s : Step) → IsSimpleOf q s → P (s ∷ []))
-    (pats : (p : Pattern) (k t : ℕ) → P (fitting p k t).steps) where
-  more : (s : Step) (ss : List Step) → IsSimpleOf q s → P ss → P (s ∷ ss)
+    (none : P []) (simple : (s : Step) → IsSimpleOf q s → P (s ∷ [])) where
+  pub more : (s : Step) (ss : List Step) → IsSimpleOf q s → P ss → P (s ∷ ss)
   more s ss i h = join (s ∷ []) ss (simple s i) h
 
+module _ (q : Conditions) (P : List Step → Type 0) (join : (xs ys : List Step) → P xs → P ys → P (xs ++ ys))
+    (none : P []) (simple : (s : Step) → IsSimpleOf q s → P (s ∷ []))
+    (pats : (p : Pattern) (k t : ℕ) → P (fitting p k t).steps) where
   -- the steps of what an expression is
   abbrev pub Closed : Compiling → Type 0
   Closed m = (k : ℕ) (env : List ℕ) (reach : ℕ) → P (m k env reach).steps
@@ -64,11 +66,12 @@ module _ (q : Conditions) (P : List Step → Type 0) (join : (xs ys : List Step)
 
   pub demand_closed : (b : Bool) (k alive test : ℕ) → P (demand b k alive test).steps
   demand_closed true k alive test =
-      more (steps.Both alive test) _ tt (more (steps.Not test) _ tt (simple (steps.Both alive (suc k)) tt))
+      more q P join none simple (steps.Both alive test) _ tt
+      (more q P join none simple (steps.Not test) _ tt (simple (steps.Both alive (suc k)) tt))
   demand_closed false k alive test = simple (steps.Both alive test) tt
 
   unless_closed : (k alive test : ℕ) → P (unless k alive test).steps
-  unless_closed k alive test = more (steps.Not test) _ tt (simple (steps.Both alive k) tt)
+  unless_closed k alive test = more q P join none simple (steps.Not test) _ tt (simple (steps.Both alive k) tt)
 
   pub all_closed : (ms : List Compiling) → AllClosed ms → (done : List ℕ) (k : ℕ) (env : List ℕ) (reach : ℕ)
       → P (all_from done ms k env reach).steps
@@ -89,7 +92,7 @@ module _ (q : Conditions) (P : List Step → Type 0) (join : (xs ys : List Step)
   choice_closed : (k taken : ℕ) (x : Piece ℕ) (y : Piece (Option ℕ)) → P x.steps → P y.steps
       → P (choice k taken x y).steps
   choice_closed k taken x y hx hy = join x.steps _ hx (join y.steps _ hy
-      (more (steps.Choose taken x.alive y.alive) _ tt (pick_closed taken x.out y.out)))
+      (more q P join none simple (steps.Choose taken x.alive y.alive) _ tt (pick_closed taken x.out y.out)))
 
   skip_closed : (b : Compiling) → Closed b → (k : ℕ) (env : List ℕ) (taken out alive : ℕ)
       → P (skipping b k env taken out alive).steps
@@ -100,7 +103,8 @@ module _ (q : Conditions) (P : List Step → Type 0) (join : (xs ys : List Step)
       → P (quotient asked op check k alive x y).steps
   quotient_closed asked op check k alive x y =
       join (steps.Int (pos 0) ∷ steps.Binary Equal y k ∷ steps.Not (suc k) ∷ []) _
-      (more (steps.Int (pos 0)) _ tt (more (steps.Binary Equal y k) _ tt (simple (steps.Not (suc k)) tt)))
+      (more q P join none simple (steps.Int (pos 0)) _ tt
+      (more q P join none simple (steps.Binary Equal y k) _ tt (simple (steps.Not (suc k)) tt)))
       (join (demand (asks asked check) (k + 3) alive (suc (suc k))).steps _
       (demand_closed (asks asked check) (k + 3) alive (suc (suc k))) (simple (steps.Binary op x y) tt))
 

@@ -1,7 +1,7 @@
 -- The steps of a pattern satisfy a predicate that joins and is true of constants, comparisons, looks at a constructor
 -- and fields of constructors.
-use Rattle.std.proofs.Common.{ℕ, suc, ◌+◌, List, [], ◌∷◌, ◌++◌, length, map, sym, subst}
-use Rattle.pp_list.proofs.With.{With, elements}
+use Rattle.std.proofs.Common.{ℕ, suc, ◌+◌, List, [], ◌∷◌, ◌++◌, length, sym, subst}
+use Rattle.pp_list.proofs.With.{With}
 use Rattle.pp_prog.proofs.Induction.{each_pattern, pattern_under}
 use Rattle.pp_tree.specs.declared.operator.BinaryOp.TheVariants.{Equal}
 use Rattle.pp_prog.specs.declared.expr.Pattern.{Pattern}
@@ -12,6 +12,7 @@ use Rattle.pp_prog.specs.declared.id.CtorId.{CtorId}
 use Rattle.pp_steps.specs.declared.step.Step.{Step}
 use Rattle.pp_steps.specs.declared.step.Step.TheVariants as steps
 use Rattle.pp_steps.specs.Patterns.{Matching, fit_fields, fitting, fitting_step}
+use Rattle.pp_steps_exist.proofs.Matches.{inner_of}
 
 -- a step that a pattern may leave
 abbrev pub IsPatternStep : Step → Type 0
@@ -26,9 +27,6 @@ module _ (P : List Step → Type 0) (join : (xs ys : List Step) → P xs → P y
     (one : (s : Step) → IsPatternStep s → P (s ∷ [])) where
   abbrev Fits : Pattern → Type 0
   Fits p = (k t : ℕ) → P (fitting p k t).steps
-
-  abbrev inner_of : List (With Fits) → List Matching
-  inner_of ps = map fitting (elements ps)
 
   fields_fit : (c : CtorId) (ps : List (With Fits)) (j k t : ℕ) → P (fit_fields c j (inner_of ps) k t).steps
   fields_fit c [] j k t = none

@@ -26,16 +26,14 @@ use Rattle.pp_steps.specs.Patterns.{fitting}
 use Rattle.pp_steps.specs.Piece.{after, asks, demand, plain}
 use Rattle.pp_steps_run.specs.Told.{AllOf}
 use Rattle.pp_guess_steps.proofs.Conditions.{CalledHold, Conditions, FunctionHolds, MaybeOf, PostHolds}
-use Rattle.pp_guess_steps.proofs.ClosedExprs.{AllClosed, IsSimpleOf, all_closed, demand_closed, expr_closed}
+use Rattle.pp_guess_steps.proofs.ClosedExprs.{AllClosed, IsSimpleOf, all_closed, demand_closed, expr_closed, more}
 
 module _ (q : Conditions) (P : List Step → Type 0) (join : (xs ys : List Step) → P xs → P ys → P (xs ++ ys))
     (none : P []) (simple : (s : Step) → IsSimpleOf q s → P (s ∷ [])) where
-  more : (s : Step) (ss : List Step) → IsSimpleOf q s → P ss → P (s ∷ ss)
-  more s ss i h = join (s ∷ []) ss (simple s i) h
-
   implying_closed : (k a b : ℕ) → P (implying k a b).steps
   implying_closed k a b =
-      more (steps.Not b) _ tt (more (steps.Both a k) _ tt (simple (steps.Not (suc k)) tt))
+      more q P join none simple (steps.Not b) _ tt (more q P join none simple (steps.Both a k) _ tt
+      (simple (steps.Not (suc k)) tt))
 
   equal_closed : (k : ℕ) (xs ys : List ℕ) (test : ℕ) → P (equal_all k xs ys test).steps
   equal_closed k [] [] test = none
@@ -43,7 +41,8 @@ module _ (q : Conditions) (P : List Step → Type 0) (join : (xs ys : List Step)
   equal_closed k (x ∷ xs) [] test = simple (steps.Bool false) tt
   equal_closed k (x ∷ xs) (y ∷ ys) test =
       join (steps.Binary Equal x y ∷ steps.Both test k ∷ []) _
-      (more (steps.Binary Equal x y) _ tt (simple (steps.Both test k) tt)) (equal_closed (k + 2) xs ys (suc k))
+      (more q P join none simple (steps.Binary Equal x y) _ tt (simple (steps.Both test k) tt))
+      (equal_closed (k + 2) xs ys (suc k))
 
   alike_closed : (b : Bool) (k : ℕ) (c d : Standing) (near : ℕ) → P (answering_alike b k c d near).steps
   alike_closed false k c d near = none
@@ -54,7 +53,7 @@ module _ (q : Conditions) (P : List Step → Type 0) (join : (xs ys : List Step)
   answers_closed : (k : ℕ) (c d : Standing) (near : ℕ) → P (equal_answers k c d near).steps
   answers_closed k c d near =
       join (steps.Both near c.has ∷ steps.Both k d.has ∷ steps.Binary Equal c.result d.result ∷ []) _
-      (more (steps.Both near c.has) _ tt (more (steps.Both k d.has) _ tt
+      (more q P join none simple (steps.Both near c.has) _ tt (more q P join none simple (steps.Both k d.has) _ tt
       (simple (steps.Binary Equal c.result d.result) tt)))
       (join (implying (k + 3) (suc k) (suc (suc k))).steps _ (implying_closed (k + 3) (suc k) (suc (suc k))) none)
 
@@ -66,7 +65,7 @@ module _ (q : Conditions) (P : List Step → Type 0) (join : (xs ys : List Step)
       let y = answering_alike (nat_eq c.call.wait d.call.wait) m c d (suc n) in
       join x.steps _ (equal_closed k c.call.args d.call.args true_one)
       (join (steps.Both x.out c.call.reach ∷ steps.Both n d.call.reach ∷ []) _
-      (more (steps.Both x.out c.call.reach) _ tt (simple (steps.Both n d.call.reach) tt))
+      (more q P join none simple (steps.Both x.out c.call.reach) _ tt (simple (steps.Both n d.call.reach) tt))
       (join y.steps _ (alike_closed (nat_eq c.call.wait d.call.wait) m c d (suc n))
       (join (equal_answers (after m y) c d (suc n)).steps _ (answers_closed (after m y) c d (suc n)) none)))
 

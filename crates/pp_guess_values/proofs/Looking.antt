@@ -1,9 +1,9 @@
 -- In the steps of a guess run, who reads a field of a constructor asked before whether the tree has it.
-use Rattle.std.proofs.Common.{◌≡◌, ℕ, zero, suc, ◌+◌, Bool, true, false, ◌||◌, nat_eq, List, [], ◌∷◌, ◌++◌, length, map}
+use Rattle.std.proofs.Common.{◌≡◌, ℕ, zero, suc, ◌+◌, Bool, true, false, ◌||◌, nat_eq, List, [], ◌∷◌, ◌++◌, length}
 use Rattle.std.proofs.Common.{Some, refl, sym, subst, ◌⊎◌, inl, inr}
 use Rattle.std.specs.Prelude.{slice_get}
 use Rattle.std.proofs.lemmas.Bool.{eq-eqb, eqb-true}
-use Rattle.pp_list.proofs.With.{With, elements}
+use Rattle.pp_list.proofs.With.{With}
 use Rattle.pp_prog.proofs.Induction.{each_pattern, pattern_under}
 use Rattle.pp_prog.specs.declared.expr.Function.{Function}
 use Rattle.pp_prog.specs.declared.expr.Pattern.{Pattern}
@@ -20,6 +20,7 @@ use Rattle.pp_steps.specs.Patterns.{Matching, fit_fields, fitting, fitting_step}
 use Rattle.pp_build.specs.StepGates.{is_seen}
 use Rattle.pp_guess_steps.proofs.ClosedAlways.{IsSimple, guess_closed}
 use Rattle.pp_guess_values.specs.LooksBefore.{LooksBefore}
+use Rattle.pp_steps_exist.proofs.Matches.{inner_of}
 
 -- ---- lists
 
@@ -102,9 +103,6 @@ simple_looks (steps.Answer c) h asked = absurd h
 
 abbrev Fits : Pattern → Type 0
 Fits p = (k t : ℕ) → Looks (fitting p k t).steps
-
-abbrev inner_of : List (With Fits) → List Matching
-inner_of ps = map fitting (elements ps)
 
 -- the fields of a constructor that was asked for
 fields_look : (c : CtorId) (ps : List (With Fits)) (j k t : ℕ) (asked : List ℕ) → is_seen asked t ≡ true

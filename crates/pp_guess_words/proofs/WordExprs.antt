@@ -206,7 +206,8 @@ module _ (p : Program) (start : ℕ) where
   level (layer.Call g args pre down) scope s h word words within =
       let f = call_sort_is (slice_get p.functions g.0) (sorts_in scope (map Sorted args)) s h in (
         within g.0 (Contains-append_right (joined (map calls args)) (g.0 ∷ []) g.0 head),
-        exprs_hold args scope (param_sorts f.0.params) f.2 words (within_left (joined (map calls args)) (g.0 ∷ []) within),
+        exprs_hold args scope (param_sorts f.0.params) f.2 words
+            (within_left (joined (map calls args)) (g.0 ∷ []) within),
       )
     where
       head : Contains (g.0 ∷ []) g.0

@@ -16,7 +16,8 @@ use Rattle.pp_prog.specs.declared.sort.Sort.TheVariants as sort
 use Rattle.pp_prog.specs.Cone.{IsWordFunction, is_word}
 use Rattle.pp_prog.specs.ExprSorts.{a_bool, an_int}
 use Rattle.pp_prog.specs.ExprSorts.{unary_sort}
-use Rattle.pp_prog.proofs.PartSorts.{bits_parts, bool_then, equality_parts, int_then, order_parts, shift_parts, sum_parts}
+use Rattle.pp_prog.proofs.PartSorts.{bits_parts, bool_then, equality_parts, int_then, order_parts, shift_parts}
+use Rattle.pp_prog.proofs.PartSorts.{sum_parts}
 use Rattle.pp_steps.proofs.Counting.{zero_plus}
 use Rattle.pp_steps.specs.declared.step.Step.{Step}
 use Rattle.pp_steps.specs.declared.step.Step.TheVariants as steps

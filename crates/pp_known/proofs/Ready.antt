@@ -25,8 +25,7 @@ use Rattle.pp_typed.specs.WellSorted.{IsDef}
 use Rattle.pp_typed.specs.declared.sort.GenericSort.{GenericSort}
 use Rattle.pp_typed.specs.declared.typed.Typed.{Typed}
 use Rattle.pp_typed.specs.declared.typed.TypedDef.{TypedDef}
-use Rattle.pp_validity.proofs.Carried.{IsGrouped}
-use Rattle.pp_validity.proofs.Known.{HasTypes}
+use Rattle.pp_validity.proofs.Known.{HasTypes, IsGrouped}
 use Rattle.pp_validity.proofs.Whole.{IsReady}
 use Rattle.pp_validity.proofs.Within.{Within}
 

@@ -8,7 +8,8 @@ use Rattle.pp_declared.proofs.Steps.{all_first, all_rest}
 use Rattle.pp_declared.specs.Declares.{AreCtors, IsCtor, class_names, more_ctors, no_ctors, param_types, typed_root}
 use Rattle.pp_declared.specs.Listed.{ClassIn, DeclIn, DefIn, defs_of, ctor_of, ctors_of, decls_in, roots_of}
 use Rattle.pp_ordinary.proofs.Listed.{IfClass, IfDef, each_def, each_root, OfDecl, OfEachUnit, each_decl}
-use Rattle.pp_line_contents.proofs.Spans.{Every, every_of}
+use Rattle.pp_tokens.proofs.Every.{Every}
+use Rattle.pp_line_contents.proofs.Spans.{every_of}
 use Rattle.pp_ordinary.specs.Spelled.{EachSpells, Spells}
 use Rattle.pp_plain_names.proofs.Names.{declared_names_are_words, declared_objects_are_bare, declared_params_are_words}
 use Rattle.pp_plain_names.specs.Laws.{IsBareObject, IsWord, declared_name}

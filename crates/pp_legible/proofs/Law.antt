@@ -15,7 +15,8 @@ use Rattle.pp_legible.specs.Laws.{ProgramsAreLegible}
 use Rattle.pp_instances.specs.Order.{member_of}
 use Rattle.pp_instances.specs.declared.member.Decl.TheVariants as kind
 use Rattle.pp_instances.specs.declared.member.Member.{Member}
-use Rattle.pp_line_contents.proofs.Spans.{Every, every_contained}
+use Rattle.pp_tokens.proofs.Every.{Every}
+use Rattle.pp_line_contents.proofs.Spans.{every_contained}
 use Rattle.pp_line_contents.specs.Laws.{HasNoColon, HasNoMark, HasNoNewline, IsLegible, IsSmallPlace}
 use Rattle.pp_members.proofs.Proper.{members_are_proper}
 use Rattle.pp_mono.specs.Concrete.{IsConcrete, function_members, root_members}

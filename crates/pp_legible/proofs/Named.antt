@@ -8,7 +8,8 @@ use Rattle.pp_instances.specs.Names.{root_name}
 use Rattle.pp_instances.specs.declared.member.Decl.{Decl}
 use Rattle.pp_instances.specs.declared.member.Decl.TheVariants.{Function, Root}
 use Rattle.pp_instances.specs.declared.member.Member.{Member}
-use Rattle.pp_line_contents.proofs.Spans.{Every, every_append, every_contained, every_of}
+use Rattle.pp_tokens.proofs.Every.{Every}
+use Rattle.pp_line_contents.proofs.Spans.{every_append, every_contained, every_of}
 use Rattle.pp_line_contents.specs.Laws.{HasNoColon}
 use Rattle.pp_plain_names.proofs.Names.{no_mark}
 use Rattle.pp_plain_names.specs.Laws.{IsWord}

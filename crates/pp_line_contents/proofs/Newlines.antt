@@ -6,7 +6,8 @@ use Rattle.std.specs.Fmt.{digit_glyph, digits, digits_onto, signed_decimal}
 use Rattle.std.specs.List.{concat, list_all}
 use Rattle.std.specs.Prelude.{slice_get}
 use Rattle.std.proofs.lemmas.Bool.{and_parts}
-use Rattle.pp_line_contents.proofs.Spans.{Every, every_append, every_contained, every_of}
+use Rattle.pp_tokens.proofs.Every.{Every}
+use Rattle.pp_line_contents.proofs.Spans.{every_append, every_contained, every_of}
 use Rattle.pp_line_contents.specs.Contents.{Content, Prints, depending, failed, left_open, valid}
 use Rattle.pp_line_contents.specs.Laws.{CountsEndOnce, HasNoNewline, IsLegible, IsOneLine, LinesEndOnce}
 use Rattle.pp_print.specs.Lines.{check_text, kind_text, place_text, reason_text, round_text}

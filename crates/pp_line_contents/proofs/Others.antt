@@ -5,7 +5,8 @@ use Rattle.std.specs.Prelude.{reverse}
 use Rattle.std.proofs.lemmas.Fmt.{decimal_injective}
 use Rattle.std.proofs.lemmas.Grind.{reverse_onto}
 use Rattle.std.proofs.lemmas.List.{append_cancel_right, reverse-append, reverse-reverse}
-use Rattle.pp_line_contents.proofs.Spans.{Every, one_span, rest_same}
+use Rattle.pp_tokens.proofs.Every.{Every}
+use Rattle.pp_line_contents.proofs.Spans.{one_span, rest_same}
 use Rattle.pp_line_contents.proofs.Words.{IsDigit, digits}
 use Rattle.pp_line_contents.specs.Contents.{IsSmall}
 

@@ -1,11 +1,8 @@
 -- Where two texts are equal, what stands before the first mark is equal, and so is the rest.
-use Rattle.std.proofs.Common.{◌≡◌, ◌∙◌, ℕ, zero, suc, List, [], ◌∷◌, ◌++◌, get_or, drop, refl, sym, ap, subst, arith}
+use Rattle.std.proofs.Common.{◌≡◌, ◌∙◌, ℕ, suc, List, [], ◌∷◌, ◌++◌, get_or, drop, refl, sym, ap, subst, arith}
 use Rattle.std.specs.Prelude.{All, Contains}
 use Rattle.std.proofs.lemmas.List.Elements.{All-contains}
-
-abbrev pub Every : {X : Type 0} → (X → Type 0) → List X → Type 0
-Every P [] = Unit {0}
-Every P (c ∷ cs) = P c × Every P cs
+use Rattle.pp_tokens.proofs.Every.{Every, all_of}
 
 -- it doesn't go on with such a byte
 abbrev pub Stops : (ℕ → Type 0) → List ℕ → Type 0
@@ -38,11 +35,6 @@ every_of P (x ∷ xs) h =
 pub every_append : {X : Type 0} (P : X → Type 0) (xs ys : List X) → Every P xs → Every P ys → Every P (xs ++ ys)
 every_append P [] ys h k = k
 every_append P (x ∷ xs) ys h k = (h.0, every_append P xs ys h.1 k)
-
-all_of : {X : Type 0} (P : X → Type 0) (xs : List X) → Every P xs → All P xs
-all_of P [] h k d lt = absurd (omega arith)
-all_of P (x ∷ xs) h zero d lt = h.0
-all_of P (x ∷ xs) h (suc k) d lt = all_of P xs h.1 k d (omega arith)
 
 pub of_all : {X : Type 0} (P : X → Type 0) (xs : List X) → All P xs → Every P xs
 of_all P [] h = tt

@@ -6,7 +6,8 @@ use Rattle.std.proofs.lemmas.List.{append_cancel_left, length-append}
 use Rattle.pp_line_contents.proofs.Law.{lines_tell_contents}
 use Rattle.pp_line_contents.proofs.Newlines.{NotNewline, counts_end_once, lines_end_once}
 use Rattle.pp_line_contents.proofs.Others.{no_blank}
-use Rattle.pp_line_contents.proofs.Spans.{Every, every_append, every_of, of_all, one_span, rest_same}
+use Rattle.pp_tokens.proofs.Every.{Every}
+use Rattle.pp_line_contents.proofs.Spans.{every_append, every_of, of_all, one_span, rest_same}
 use Rattle.pp_line_contents.proofs.Tails.{AreFrom, from_first, from_rest, from_start}
 use Rattle.pp_line_contents.proofs.Words.{one_decimal}
 use Rattle.pp_line_contents.specs.Contents.{Content, Prints}

@@ -7,7 +7,8 @@ use Rattle.std.specs.Str.Parse.{AllDigits}
 use Rattle.std.proofs.lemmas.Fmt.{decimal_injective, decimal_is_IsNumeral}
 use Rattle.std.proofs.lemmas.List.{append_cancel_left}
 use Rattle.std.proofs.lemmas.Str.Parse.{digit_from_value}
-use Rattle.pp_line_contents.proofs.Spans.{Every, Stops, first_same, one_span, rest_same}
+use Rattle.pp_tokens.proofs.Every.{Every}
+use Rattle.pp_line_contents.proofs.Spans.{Stops, first_same, one_span, rest_same}
 use Rattle.pp_line_contents.specs.Contents.{IsSmall, IsSmallRound}
 use Rattle.pp_line_contents.specs.Laws.{IsSmallPlace}
 use Rattle.pp_print.specs.Lines.{check_text, kind_text, place_text, reason_text, round_text}

@@ -5,7 +5,7 @@ use Rattle.std.specs.Option.{option_map}
 use Rattle.std.proofs.lemmas.List.{map-append}
 use Rattle.pp_list.proofs.With.{With, elements}
 use Rattle.pp_prog.proofs.Induction.{case_under, each_expr, under}
-use Rattle.pp_prog.specs.Listing.{sites_in_case}
+use Rattle.pp_prog.specs.Listing.{beside, case_beside, sites_in_case}
 use Rattle.pp_prog.specs.ExprSorts.{sort_of}
 use Rattle.pp_prog.specs.Listing.{CaseSites, Site, Sites, assertion, at_sort, case_sites, function_sites, matching}
 use Rattle.pp_prog.specs.Listing.{division_site, measure, measure_sites, operator_site, postcondition, post_sites}
@@ -31,6 +31,7 @@ use Rattle.pp_translation.specs.Bare.{bare, bare_case, bare_function, bare_post,
 use Rattle.pp_translation.specs.Exprs.{unnumbered}
 use Rattle.pp_mono_laws.proofs.BareSorts.{bares, sort_of_bare}
 use Rattle.pp_mono_laws.proofs.Slots.{bare_of_case, blank}
+use Rattle.pp_mono_laws.proofs.Slotted.{case_parts, site_parts}
 
 division_blank : (b : Bool) (n : Option CheckId) → division_site b None ∷ [] ≡ map blank (division_site b n ∷ [])
 division_blank true n = refl
@@ -71,18 +72,6 @@ module _ (types : TypeTable) (fs : List Function) where
   abbrev bare_in_case : Case → CaseSites
   bare_in_case = sites_in_case types gs
 
-  abbrev beside : Expr → Expr × Sites
-  beside x = (x, In x)
-
-  abbrev case_beside : Case → Case × CaseSites
-  case_beside c = (c, in_case c)
-
-  abbrev bare_beside : Expr → Expr × Sites
-  bare_beside x = (x, Bare x)
-
-  abbrev bare_case_beside : Case → Case × CaseSites
-  bare_case_beside c = (c, bare_in_case c)
-
   abbrev P : Expr → Type 0
   P e = (scope : List Sort) → Bare (bare e) scope ≡ map blank (In e scope)
 
@@ -97,44 +86,39 @@ module _ (types : TypeTable) (fs : List Function) where
   Q c = SameSites c × SamePattern c
 
   bare_sites : (ys : List (With P)) (scope : List Sort)
-      → sites_of_all (map bare_beside (map bare (elements ys))) scope
-      ≡ map blank (sites_of_all (map beside (elements ys)) scope)
+      → sites_of_all (map (beside types gs) (map bare (elements ys))) scope
+      ≡ map blank (sites_of_all (map (beside types fs) (elements ys)) scope)
   bare_sites [] scope = refl
   bare_sites (y ∷ ys) scope =
-      both_blank (In y.0 scope) (sites_of_all (map beside (elements ys)) scope) (y.1 scope) (bare_sites ys scope)
+      both_blank (In y.0 scope) (sites_of_all (map (beside types fs) (elements ys)) scope) (y.1 scope)
+      (bare_sites ys scope)
 
   each_case : (ys : List (With Q)) (s : Sort) (scope : List Sort)
-      → sites_of_cases (map bare_case_beside (map bare_of_case (elements ys))) s scope
-      ≡ map blank (sites_of_cases (map case_beside (elements ys)) s scope)
+      → sites_of_cases (map (case_beside types gs) (map bare_of_case (elements ys))) s scope
+      ≡ map blank (sites_of_cases (map (case_beside types fs) (elements ys)) s scope)
   each_case [] s scope = refl
   each_case (y ∷ ys) s scope =
-      both_blank (in_case y.0 s scope) (sites_of_cases (map case_beside (elements ys)) s scope)
+      both_blank (in_case y.0 s scope) (sites_of_cases (map (case_beside types fs) (elements ys)) s scope)
       (y.1.0 s scope) (each_case ys s scope)
 
   each_pattern : (ys : List (With Q))
-      → unguarded (map bare_case_beside (map bare_of_case (elements ys)))
-      ≡ unguarded (map case_beside (elements ys))
+      → unguarded (map (case_beside types gs) (map bare_of_case (elements ys)))
+      ≡ unguarded (map (case_beside types fs) (elements ys))
   each_pattern [] = refl
   each_pattern (y ∷ ys) =
-      y.1.1 (unguarded (map bare_case_beside (map bare_of_case (elements ys))))
+      y.1.1 (unguarded (map (case_beside types gs) (map bare_of_case (elements ys))))
       ∙ ap (unless_guarded y.0.guard y.0.pattern) (each_pattern ys)
-
-  abbrev site_parts : layer.Expr-F Expr Case → layer.Expr-F (Expr × Sites) (Case × CaseSites)
-  site_parts = map-Expr Expr Case (Expr × Sites) (Case × CaseSites) beside case_beside
-
-  abbrev bare_parts : layer.Expr-F Expr Case → layer.Expr-F (Expr × Sites) (Case × CaseSites)
-  bare_parts = map-Expr Expr Case (Expr × Sites) (Case × CaseSites) bare_beside bare_case_beside
 
   opened : (y : layer.Expr-F Expr Case) (e : Expr) (scope : List Sort) → roll-Expr y ≡ e
       → Bare e scope
-      ≡ site_step types gs (bare_parts y) scope
+      ≡ site_step types gs (site_parts types gs y) scope
   opened y e scope is =
       ap (λ z. Bare z scope) (sym is)
       ∙ ap (λ (f : Sites). f scope) (para-roll-Expr Sites CaseSites (site_step types gs) (case_sites types gs) y)
 
   level : (y : layer.Expr-F (With P) (With Q)) (scope : List Sort)
       → Bare (bare_step (map-Expr Expr Case Expr Case bare bare_of_case (under y))) scope
-      ≡ map blank (site_step types fs (site_parts (under y)) scope)
+      ≡ map blank (site_step types fs (site_parts types fs (under y)) scope)
   level (layer.Int n) scope = opened (layer.Int n) _ scope (prog.rolls-Int n)
   level (layer.Bool b) scope = opened (layer.Bool b) _ scope (prog.rolls-Bool b)
   level (layer.Var i) scope = opened (layer.Var i) _ scope (prog.rolls-Var i)
@@ -155,15 +139,16 @@ module _ (types : TypeTable) (fs : List Function) where
       (both_blank (In c.0 scope) (In a.0 scope) (c.1 scope) (a.1 scope)) (b.1 scope)
   level (layer.Match e cases check) scope =
       let cs = map bare_of_case (elements cases) in
-      let ds = map case_beside (elements cases) in
+      let ds = map (case_beside types fs) (elements cases) in
       let go : Sort → List Site =
-      λ s. matching s (unguarded (map bare_case_beside cs)) None ∷ sites_of_cases (map bare_case_beside cs) s scope in
+      λ s. matching s (unguarded (map (case_beside types gs) cs)) None ∷ sites_of_cases (map (case_beside types gs) cs)
+      s scope in
       let from : Sort → List Site = λ s. matching s (unguarded ds) check ∷ sites_of_cases ds s scope in
       opened (layer.Match (bare e.0) cs None) _ scope (prog.rolls-Match (bare e.0) cs None)
       ∙ both_blank (In e.0 scope) (at_sort (sort_of types fs e.0 scope) from) (e.1 scope)
       (ap (λ f. at_sort (f scope) go) (sort_of_bare types fs e.0)
       ∙ at_blank (sort_of types fs e.0 scope) go from
-      (λ s. ap (λ l. matching s l None ∷ sites_of_cases (map bare_case_beside cs) s scope) (each_pattern cases)
+      (λ s. ap (λ l. matching s l None ∷ sites_of_cases (map (case_beside types gs) cs) s scope) (each_pattern cases)
       ∙ ap (λ l. matching s (unguarded ds) None ∷ l) (each_case cases s scope)))
   level (layer.Val a b) scope =
       let go : Sort → List Site = λ s. Bare (bare b.0) (scope ++ s ∷ []) in
@@ -180,7 +165,7 @@ module _ (types : TypeTable) (fs : List Function) where
   level (layer.Call g args pre down) scope =
       let es = map bare (elements args) in
       opened (layer.Call g es None None) _ scope (prog.rolls-Call g es None None)
-      ∙ both_blank (sites_of_all (map beside (elements args)) scope)
+      ∙ both_blank (sites_of_all (map (beside types fs) (elements args)) scope)
       (precondition g pre ∷ measure g down ∷ [])
       (bare_sites args scope) refl
 
@@ -191,13 +176,10 @@ module _ (types : TypeTable) (fs : List Function) where
       ∙ sym (ap (λ (f : Sites). map blank (f scope))
       (para-roll-Expr Sites CaseSites (site_step types fs) (case_sites types fs) z))
 
-  abbrev case_parts : layer.Case-F Expr Case → layer.Case-F (Expr × Sites) (Case × CaseSites)
-  case_parts = map-Case Expr Case (Expr × Sites) (Case × CaseSites) beside case_beside
-
   at_parts : (p : Pattern) (o : Option (With P)) (b : With P) (s : Sort) (scope : List Sort)
       → let z = case_under Q (record { pattern = p; guard = o; body = b }) in
       bare_in_case (bare_case (map-Case Expr Case Expr Case bare bare_of_case z)) s scope
-      ≡ map blank (case_sites types fs (case_parts z) s scope)
+      ≡ map blank (case_sites types fs (case_parts types fs z) s scope)
   at_parts p None b s scope =
       ap (λ (f : CaseSites). f s scope)
       (para-roll-Case Sites CaseSites (site_step types gs) (case_sites types gs)

@@ -6,7 +6,7 @@ use Rattle.std.proofs.lemmas.List.{map-append}
 use Rattle.pp_list.proofs.With.{With, elements}
 use Rattle.pp_prog.proofs.Induction.{case_under, each_expr, under}
 use Rattle.pp_prog.specs.ExprSorts.{case_sorts}
-use Rattle.pp_prog.specs.Listing.{sites_in_case}
+use Rattle.pp_prog.specs.Listing.{beside, case_beside, sites_in_case}
 use Rattle.pp_list.specs.Joined.{joined}
 use Rattle.pp_prog.specs.ExprSorts.{Arm, Sorting, alike, arm_sort, arm_step, arm_with, arms_like, arms_sort, field_sort}
 use Rattle.pp_prog.specs.ExprSorts.{is_sorted, is_sorted_measure, is_sorted_post, is_sorted_pre, sort_of, sort_step}
@@ -59,11 +59,12 @@ module _ (types : TypeTable) (fs : List Function) where
   abbrev in_case : Case → CaseSites
   in_case = sites_in_case types fs
 
-  abbrev beside : Expr → Expr × Sites
-  beside x = (x, In x)
+  -- one level, with the sites of the parts beside them
+  abbrev pub site_parts : layer.Expr-F Expr Case → layer.Expr-F (Expr × Sites) (Case × CaseSites)
+  site_parts = map-Expr Expr Case (Expr × Sites) (Case × CaseSites) (beside types fs) (case_beside types fs)
 
-  abbrev case_beside : Case → Case × CaseSites
-  case_beside c = (c, in_case c)
+  abbrev pub case_parts : layer.Case-F Expr Case → layer.Case-F (Expr × Sites) (Case × CaseSites)
+  case_parts = map-Case Expr Case (Expr × Sites) (Case × CaseSites) (beside types fs) (case_beside types fs)
 
   abbrev P : Expr → Type 0
   P e = (scope : List Sort) (s : Sort) → S e scope ≡ Some s → map slot_of (In e scope) ≡ slots e
@@ -73,18 +74,18 @@ module _ (types : TypeTable) (fs : List Function) where
       → map slot_of (in_case c s scope) ≡ case_slots c
 
   exprs_slotted : (ys : List (With P)) (scope ts : List Sort) → sorts_in scope (map S (elements ys)) ≡ map Some ts
-      → map slot_of (sites_of_all (map beside (elements ys)) scope)
+      → map slot_of (sites_of_all (map (beside types fs) (elements ys)) scope)
       ≡ joined (map slots (elements ys))
   exprs_slotted [] scope ts h = refl
   exprs_slotted (y ∷ ys) scope [] h = cc
   exprs_slotted (y ∷ ys) scope (t ∷ ts) h =
       let one : S y.0 scope ≡ Some t = cc in
       let more : sorts_in scope (map S (elements ys)) ≡ map Some ts = cc in
-      both_slotted (In y.0 scope) (sites_of_all (map beside (elements ys)) scope) (y.1 scope t one)
+      both_slotted (In y.0 scope) (sites_of_all (map (beside types fs) (elements ys)) scope) (y.1 scope t one)
       (exprs_slotted ys scope ts more)
 
   abbrev in_cases : List (With Q) → Sort → List Sort → List Site
-  in_cases ys s scope = sites_of_cases (map case_beside (elements ys)) s scope
+  in_cases ys s scope = sites_of_cases (map (case_beside types fs) (elements ys)) s scope
 
   abbrev slots_in : List (With Q) → Slots
   slots_in ys = joined (map case_slots (elements ys))
@@ -109,9 +110,6 @@ module _ (types : TypeTable) (fs : List Function) where
 
   abbrev sort_parts : layer.Expr-F Expr Case → layer.Expr-F Sorting Arm
   sort_parts = map-Expr Expr Case Sorting Arm S arm_of
-
-  abbrev site_parts : layer.Expr-F Expr Case → layer.Expr-F (Expr × Sites) (Case × CaseSites)
-  site_parts = map-Expr Expr Case (Expr × Sites) (Case × CaseSites) beside case_beside
 
   abbrev slot_parts : layer.Expr-F Expr Case → layer.Expr-F Slots Slots
   slot_parts = map-Expr Expr Case Slots Slots slots case_slots
@@ -140,7 +138,7 @@ module _ (types : TypeTable) (fs : List Function) where
       (both_slotted (In c.0 scope) (In a.0 scope) (c.1 scope _ t.0) (a.1 scope s both.0)) (b.1 scope s both.1)
   level (layer.Match e cases check) scope s h =
       let arms = map arm_of (elements cases) in
-      let cs = map case_beside (elements cases) in
+      let cs = map (case_beside types fs) (elements cases) in
       let go : Sort → List Site = λ u. matching u (unguarded cs) check ∷ sites_of_cases cs u scope in
       let t = sort_then (S e.0 scope) (λ u. arms_sort types fs arms u scope) s h in
       both_slotted (In e.0 scope) (at_sort (S e.0 scope) go) (e.1 scope t.0 t.1)
@@ -155,7 +153,7 @@ module _ (types : TypeTable) (fs : List Function) where
       both_slotted (In c.0 scope) _ (c.1 scope _ t.0) (ap (λ l. Some check ∷ l) (e.1 scope s t.1))
   level (layer.Call g args pre down) scope s h =
       let k = call_sort_is (slice_get fs g.0) (sorts_in scope (map S (elements args))) s h in
-      both_slotted (sites_of_all (map beside (elements args)) scope) _
+      both_slotted (sites_of_all (map (beside types fs) (elements args)) scope) _
       (exprs_slotted args scope (param_sorts k.0.params) k.2) refl
 
   at_level : (y : layer.Expr-F (With P) (With Q)) → P (roll-Expr (under y))
@@ -182,9 +180,6 @@ module _ (types : TypeTable) (fs : List Function) where
       let t = bool_then (S g.0 (scope ++ bound)) (S b.0 (scope ++ bound)) u h in
       both_slotted (In g.0 (scope ++ bound)) (In b.0 (scope ++ bound))
       (g.1 (scope ++ bound) _ t.0) (b.1 (scope ++ bound) u t.1)
-
-  abbrev case_parts : layer.Case-F Expr Case → layer.Case-F (Expr × Sites) (Case × CaseSites)
-  case_parts = map-Case Expr Case (Expr × Sites) (Case × CaseSites) beside case_beside
 
   at_parts : (p : Pattern) (o : Option (With P)) (b : With P) (s : Sort) (scope : List Sort) (u : Sort)
       → let z = case_under Q (record { pattern = p; guard = o; body = b }) in

@@ -6,8 +6,8 @@ use Rattle.pp_list.proofs.With.{With}
 use Rattle.pp_prog.proofs.Induction.{case_under, each_expr, under}
 use Rattle.pp_prog.specs.declared.expr.Case.{Case}
 use Rattle.pp_prog.specs.declared.expr.Expr.{Expr}
-use Rattle.pp_prog.specs.declared.expr.Expr.TheFolds.{fold-roll-Case, fold-roll-Expr, map-Case}
-use Rattle.pp_prog.specs.declared.expr.Expr.TheFolds.{para-roll-Case, para-roll-Expr}
+use Rattle.pp_prog.specs.declared.expr.Expr.TheFolds.{fold-roll-Case, fold-roll-Expr, map-Case, para-roll-Case}
+use Rattle.pp_prog.specs.declared.expr.Expr.TheFolds.{para-roll-Expr}
 use Rattle.pp_prog.specs.declared.expr.Expr.TheOpen as layer
 use Rattle.pp_prog.specs.declared.expr.Expr.TheViews.{roll-Case, roll-Expr}
 use Rattle.pp_prog.specs.declared.expr.Pattern.{Pattern}
@@ -22,8 +22,7 @@ use Rattle.pp_prog.specs.Fits.{fit}
 use Rattle.pp_prog.specs.Listing.{CaseSites, Sites, case_sites, guard_sites, site_step, with_bound}
 use Rattle.pp_prog.specs.PatternSorts.{bound_sorts}
 use Rattle.pp_prog.specs.Values.{IsBelow}
-use Rattle.pp_eval.specs.Meaning.{CallMeaning, Frame, Meaning, attempt, attempt_with}
-use Rattle.pp_eval.specs.Meaning.{meaning_step, taken}
+use Rattle.pp_eval.specs.Meaning.{CallMeaning, Frame, Meaning, attempt, attempt_with, meaning_step, taken}
 use Rattle.pp_eval.specs.Meaning as mean
 use Rattle.pp_eval.specs.Part.{Part}
 use Rattle.pp_prog.proofs.ValueSorts.{Has, Have, have_more}
@@ -36,7 +35,8 @@ use Rattle.pp_plain_laws.proofs.Patterns.{pattern_marked}
 use Rattle.pp_plain_laws.proofs.Scope.{IsClean, clean_then, clean_value, more_in_scope, truth_clean}
 use Rattle.pp_plain_laws.proofs.Setting.{Setting, below_trans, Sorted, Placed, Meant, Looked, SortedArm, PlacedArm}
 use Rattle.pp_plain_laws.proofs.Setting.{MeantArm, LookedArm, found_in, carried_by, InScope, IsLive, IsExpr, IsCase}
-use Rattle.pp_plain_laws.proofs.Levels.{level_clean, level_few, level_variable, looked}
+use Rattle.pp_plain_laws.proofs.Levels.{level_few, level_variable, looked}
+use Rattle.pp_plain_laws.proofs.LevelsClean.{level_clean}
 
 module _ (x : Setting) where
   abbrev p : Program

@@ -3,6 +3,7 @@ pub mod Patterns
 pub mod Scope
 pub mod Setting
 pub mod Levels
+pub mod LevelsClean
 pub mod Cleaning
 pub mod Comparing
 pub mod CallsClean

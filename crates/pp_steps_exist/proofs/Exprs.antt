@@ -1,6 +1,6 @@
 -- The steps of expressions, of calls and of a run look at earlier ones alone.
-use Rattle.std.proofs.Common.{ℕ, zero, suc, ◌+◌, ◌<◌, ◌≤◌, false, List, [], ◌∷◌, ◌++◌, length, map, Option, Some}
-use Rattle.std.proofs.Common.{None, sym, subst, arith}
+use Rattle.std.proofs.Common.{ℕ, zero, suc, ◌+◌, ◌<◌, ◌≤◌, false, List, [], ◌∷◌, ◌++◌, length, map, Option, Some, None}
+use Rattle.std.proofs.Common.{sym, subst, arith}
 use Rattle.std.specs.Prelude.{slice_get}
 use Rattle.pp_list.proofs.With.{With, elements}
 use Rattle.pp_prog.proofs.Induction.{case_under, each_expr, under}
@@ -16,13 +16,14 @@ use Rattle.pp_prog.specs.declared.id.CheckId.{CheckId}
 use Rattle.pp_steps.proofs.Counting.{first_two, less_suc, plus_zero, self_less}
 use Rattle.pp_steps.specs.declared.step.Step.TheVariants as steps
 use Rattle.pp_steps.specs.Compile.{Arm, Compiling, Site, all, arm, arm_step, compile, compile_step, one}
-use Rattle.pp_steps.specs.Frames.{Frame, admitting, allowing, any_of, descending, entering, falling, finishing, inlined}
-use Rattle.pp_steps.specs.Frames.{lower, measuring, running, shaped, starting, stopped}
+use Rattle.pp_steps.specs.Frames.{Frame, admitting, allowing, any_of, descending, entering, falling, finishing}
+use Rattle.pp_steps.specs.Frames.{inlined, lower, measuring, running, shaped, starting, stopped}
 use Rattle.pp_steps.specs.Piece.{Piece, after, asks, demand, joined, plain}
 use Rattle.pp_steps.specs.Reads.{Below}
-use Rattle.pp_steps_exist.proofs.Forms.{Scope, AllArms, AllStay, ArmStays, SiteStays, Stays, all_within, assert_stays}
-use Rattle.pp_steps_exist.proofs.Forms.{below_end, below_more, binary_stays, call_stays, construct_stays, if_stays}
-use Rattle.pp_steps_exist.proofs.Forms.{map_stays, match_stays, val_stays, variable_below}
+use Rattle.pp_steps_exist.proofs.Forms.{Scope, AllStay, SiteStays, Stays, all_within, assert_stays, below_end}
+use Rattle.pp_steps_exist.proofs.Forms.{below_more, binary_stays, call_stays, construct_stays, if_stays, map_stays}
+use Rattle.pp_steps_exist.proofs.Forms.{val_stays, variable_below}
+use Rattle.pp_steps_exist.proofs.Matches.{AllArms, ArmStays, match_stays}
 use Rattle.pp_steps_exist.proofs.Within.{IsWithin, LessOne, at_most, below_later, demand_within, joined_within}
 use Rattle.pp_steps_exist.proofs.Within.{one_within, plain_within, up}
 

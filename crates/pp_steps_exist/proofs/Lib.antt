@@ -1,5 +1,6 @@
 pub mod Within
 pub mod Forms
+pub mod Matches
 pub mod Exprs
 pub mod Solve
 pub mod Laws

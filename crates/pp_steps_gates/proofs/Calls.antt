@@ -31,10 +31,11 @@ use Rattle.pp_steps.specs.Piece.{Piece, after, asks, bind, demand, joined, plain
 use Rattle.pp_steps.specs.Sorted.{Sorts}
 use Rattle.pp_steps_gates.proofs.Exprs.{expr_covers, list_covers}
 use Rattle.pp_steps_gates.proofs.Lists.{Answers, IsAnswered, all_covered}
-use Rattle.pp_steps_gates.proofs.Measures.{FrameCovers, descending_few, table_of}
-use Rattle.pp_steps_gates.proofs.Pieces.{IsBit, IsFew, IsMade, demand_few, fewer, joined_few, load, load_of_both}
+use Rattle.pp_steps_gates.proofs.Measures.{Fits, descending_few, shape_fits}
+use Rattle.pp_steps_gates.proofs.Pieces.{Any, IsBit, IsFew, IsMade, demand_few, fewer, joined_few, load, load_of_both}
 use Rattle.pp_steps_gates.proofs.Pieces.{made_left, made_right, plain_few}
-use Rattle.pp_steps_gates.proofs.Scopes.{Are}
+use Rattle.pp_steps_gates.proofs.Scopes.{Are, IsOf}
+use Rattle.pp_steps_gates.proofs.Tables.{FrameCovers, table_of}
 
 -- an unknown value without a height
 open_small : (types : TypeTable) (s : Sort) → open_gates types 0 s ≤ 32
@@ -61,23 +62,20 @@ module _ (p : Program) (σ : Sorts) (η : Heights) (low : (i : ℕ) → η i ≤
   abbrev L : {A : Type 0} → ℕ → Piece A → ℕ
   L = load p.types σ η
 
-  abbrev Bit : ℕ → Type 0
-  Bit = IsBit p.types σ η
-
   abbrev A : List Shape → Site → Calls → Type 0
   A old site calls = Answers p.types σ η old p.functions site calls
 
   abbrev Frames : Frame → List Shape → Type 0
-  Frames = FrameCovers p.types σ η
+  Frames = FrameCovers (Fits p.types σ η)
 
   -- ---- conditions and measure lists
 
   -- an expression that is demanded takes at most twice what its visit costs
   pub demand_covered : (asked : Option CheckId) (site : Site) (calls : Calls) (old : List Shape) → A old site calls
       → (b : Bool) (e : Expr) (k : ℕ) (env : List ℕ) (reach : ℕ) (hs : List Shape) (scope : List Sort)
-      → Are p.types σ η env hs scope → Bit reach → sort_of p.types p.functions e scope ≡ Some sort.Bool
+      → Are p.types σ η env hs scope → IsBit σ reach → sort_of p.types p.functions e scope ≡ Some sort.Bool
       → IsMade p.types σ η k (bind k (compile asked site e k env reach) (λ n x alive. demand b n alive x)).steps
-      → IsFew p.types σ η Bit k (bind k (compile asked site e k env reach) (λ n x alive. demand b n alive x))
+      → IsFew p.types σ η (IsBit σ) k (bind k (compile asked site e k env reach) (λ n x alive. demand b n alive x))
       (2 * cost (visit_of p.types calls e old hs).events)
   demand_covered asked site calls old its b e k env reach hs scope are r is m =
       let x = compile asked site e k env reach in
@@ -87,15 +85,12 @@ module _ (p : Program) (σ : Sorts) (η : Heights) (low : (i : ℕ) → η i ≤
       (made_left p.types σ η k x y m) in
       let hy = demand_few p.types σ η b (after k x) x.alive x.out (made_right p.types σ η k x y m) in
       let few = hx.few in
-      fewer p.types σ η Bit k (joined x y) (L k x + 3) (2 * cost v.events)
-      (joined_few p.types σ η Bit k x y (L k x) 3 (le_same (L k x)) hy) (omega arith)
-
-  abbrev Any : ℕ → Type 0
-  Any n = Unit {0}
+      fewer p.types σ η (IsBit σ) k (joined x y) (L k x + 3) (2 * cost v.events)
+      (joined_few p.types σ η (IsBit σ) k x y (L k x) 3 (le_same (L k x)) hy) (omega arith)
 
   admitting_few : (asked : Option CheckId) (site : Site) (calls : Calls) → A [] site calls → (o : Option Expr)
       (check : Option CheckId) (k : ℕ) (args : List ℕ) (reach : ℕ) (hs : List Shape) (scope : List Sort)
-      → Are p.types σ η args hs scope → Bit reach → is_sorted_pre p.types p.functions o scope ≡ true
+      → Are p.types σ η args hs scope → IsBit σ reach → is_sorted_pre p.types p.functions o scope ≡ true
       → IsMade p.types σ η k (admitting asked site o check k args reach).steps
       → IsFew p.types σ η Any k (admitting asked site o check k args reach)
       (2 * cost (pre_events p.types calls o hs))
@@ -110,12 +105,12 @@ module _ (p : Program) (σ : Sorts) (η : Heights) (low : (i : ℕ) → η i ≤
   -- most twice what the components cost, less a node's weight for each.
   pub record IsMeasured (k : ℕ) (x : Piece Frame) (vs : List Visit) : Type 0 where
     pub out : Frames x.out (map shape_of vs)
-    pub alive : Bit x.alive
+    pub alive : IsBit σ x.alive
     pub few : L k x + 64 * length (map shape_of vs) ≤ 2 * cost (all_events vs)
 
   pub measuring_few : (asked : Option CheckId) (site : Site) (calls : Calls) → A [] site calls → (es : List Expr)
       (k : ℕ) (args : List ℕ) (reach : ℕ) (hs : List Shape) (scope : List Sort) → Are p.types σ η args hs scope
-      → Bit reach → is_sorted_measure p.types p.functions es scope ≡ true
+      → IsBit σ reach → is_sorted_measure p.types p.functions es scope ≡ true
       → IsMade p.types σ η k (measuring asked site es k args reach).steps
       → IsMeasured k (measuring asked site es k args reach) (components p.types calls es hs)
   measuring_few asked site calls its [] k args reach hs scope are r is m =
@@ -136,7 +131,12 @@ module _ (p : Program) (σ : Sorts) (η : Heights) (low : (i : ℕ) → η i ≤
       let two = length-map ws (in_env [] hs) in
       let three = length-map (e ∷ es) (visit_of p.types calls) in
       let four = length-map (e ∷ es) (compile asked site) in
-      record { out = table_of p.types σ η x.out (map shape_of vs) q.0 hx.out; alive = hx.alive; few = omega arith }
+      record {
+        out = table_of (Fits p.types σ η) (IsOf p.types σ η) (shape_fits p.types σ η) x.out (map shape_of vs) q.0
+            hx.out;
+        alive = hx.alive;
+        few = omega arith;
+      }
 
   -- ---- calls without fuel
 
@@ -172,7 +172,7 @@ module _ (p : Program) (σ : Sorts) (η : Heights) (low : (i : ℕ) → η i ≤
       (its : (fr : Frame) (hs : List Shape) → Frames fr hs → A hs (inner fr) calls) (asked : Option CheckId)
       (fr : Frame) (old : List Shape) (frames : Frames fr old) (f : Function) (i : ℕ)
       (w : IsWhole p i f) (k reach : ℕ) (pre down : Option CheckId) (args : List ℕ) (hs : List Shape)
-      (are : Are p.types σ η args hs (param_sorts f.params)) (r : Bit reach) where
+      (are : Are p.types σ η args hs (param_sorts f.params)) (r : IsBit σ reach) where
     abbrev entered_visit : Visit
     entered_visit =
         let g = frame p.types calls f hs in visit g.shape (g.events ++ compared p.types down g.measure old)

@@ -7,7 +7,7 @@ use Rattle.pp_prog.specs.declared.program.Program.{Program}
 use Rattle.pp_prog.specs.declared.sort.Sort.{Sort}
 use Rattle.pp_prog.specs.declared.sort.Sort.TheVariants as sort
 use Rattle.pp_prog.specs.ExprSorts as sorts
-use Rattle.pp_prog.specs.ExprSorts.{Sorting, arm_sort, arm_with, arms_sort, guarded_sort, then_sort}
+use Rattle.pp_prog.specs.ExprSorts.{Sorting, arm_with, arms_sort, guarded_sort, then_sort}
 use Rattle.pp_prog.specs.PatternSorts.{bound_sorts}
 use Rattle.pp_prog.specs.Sizes.{bits}
 use Rattle.pp_estimate.specs.declared.shape.Shape.{Shape}
@@ -29,13 +29,27 @@ use Rattle.pp_steps_gates.proofs.Patterns.{pattern_matches}
 use Rattle.pp_steps_gates.proofs.Pieces.{Has, IsBit, IsFew, IsMade, MayHave, bit_choice, choice_few, fewer, joined_few}
 use Rattle.pp_steps_gates.proofs.Pieces.{load, load_of_both, made_left, made_one, made_other, made_right, plain_few}
 use Rattle.pp_steps_gates.proofs.Pieces.{unless_few, when_few}
-use Rattle.pp_steps_gates.proofs.Scopes.{Are, Covers, IsOf, are_join, cost_of_node, covered, covered_of, has_more}
+use Rattle.pp_steps_gates.proofs.Scopes.{Are, Covers, IsOf, cost_of_node, covered, covered_of, has_more}
+use Rattle.pp_steps_gates.proofs.ExprLevels.{ArmCovers, GuardCovers}
+use Rattle.pp_steps_gates.proofs.Aligned.{Aligned, aligned_join}
 
 -- the sorts that a case's pattern binds, with the sort of its guard and its body
 pub bound_then : (a : sorts.Arm) (scope : List Sort) (o : Option (List Sort)) (u : Sort) → arm_with a scope o ≡ Some u
     → (l : List Sort) × (o ≡ Some l) × (guarded_sort a.guard (scope ++ l) (a.body (scope ++ l)) ≡ Some u)
 bound_then a scope None u h = let no : None ≡ Some u = h in cc
 bound_then a scope (Some l) u h = (l, refl, h)
+
+abbrev pub AreBits : Sorts → ℕ × ℕ → Type 0
+AreBits σ n = IsBit σ n.0 × IsBit σ n.1
+
+-- the first shape, if there is one, has the sort
+abbrev pub FirstIs : Sort → List Shape → Type 0
+FirstIs u [] = Unit {0}
+FirstIs u (h ∷ hs) = h.sort ≡ u
+
+pub fails_few : (b : Bool) (reach : ℕ) → length (failing b reach) ≤ 1
+fails_few true reach = le_same 1
+fails_few false reach = omega arith
 
 module _ (p : Program) (σ : Sorts) (η : Heights) (old : List Shape) where
   abbrev C : Compiling → Visiting → Sorting → Type 0
@@ -47,44 +61,33 @@ module _ (p : Program) (σ : Sorts) (η : Heights) (old : List Shape) where
   abbrev H : Sort → ℕ → ℕ → Type 0
   H = Has p.types σ η
 
-  abbrev Bit : ℕ → Type 0
-  Bit = IsBit p.types σ η
-
   -- ---- what decides a case
 
-  all_of_few : (ts : List ℕ) (k alive : ℕ) → Bit alive → IsMade p.types σ η k (all_of k ts alive).steps
-      → IsFew p.types σ η Bit k (all_of k ts alive) (length ts)
-  all_of_few [] k alive a m = plain_few p.types σ η Bit k alive alive a a
+  all_of_few : (ts : List ℕ) (k alive : ℕ) → IsBit σ alive → IsMade p.types σ η k (all_of k ts alive).steps
+      → IsFew p.types σ η (IsBit σ) k (all_of k ts alive) (length ts)
+  all_of_few [] k alive a m = plain_few p.types σ η (IsBit σ) k alive alive a a
   all_of_few (t ∷ ts) k alive a m =
       let w = when k alive t in
       let y = all_of (after k w) ts k in
       let hw = when_few p.types σ η k alive t (made_left p.types σ η k w y m) in
       let hy = all_of_few ts (after k w) k hw.out (made_right p.types σ η k w y m) in
-      fewer p.types σ η Bit k (joined w y) (1 + length ts) (suc (length ts))
-      (joined_few p.types σ η Bit k w y 1 (length ts) hw.few hy) (one_more (length ts))
+      fewer p.types σ η (IsBit σ) k (joined w y) (1 + length ts) (suc (length ts))
+      (joined_few p.types σ η (IsBit σ) k w y 1 (length ts) hw.few hy) (one_more (length ts))
     where
       one_more : (n : ℕ) → 1 + n ≤ suc n
       one_more n = omega arith
 
-  abbrev pub GuardCovers : Option Compiling → Option Visiting → Option Sorting → Type 0
-  GuardCovers None None None = Unit {0}
-  GuardCovers (Some m) (Some v) (Some t) = C m v t
-  GuardCovers m v t = ⊥
-
-  abbrev Bits : ℕ × ℕ → Type 0
-  Bits n = Bit n.0 × Bit n.1
-
-  deciding_few : (o : Option Compiling) (v : Option Visiting) (t : Option Sorting) → GuardCovers o v t
+  deciding_few : (o : Option Compiling) (v : Option Visiting) (t : Option Sorting) → GuardCovers C o v t
       → (k : ℕ) (env : List ℕ) (reach fits : ℕ) (shapes : List Shape) (scope : List Sort) (s : Option Sort) (u : Sort)
-      → Are p.types σ η env shapes scope → Bit reach → Bit fits → guarded_sort t scope s ≡ Some u
+      → Are p.types σ η env shapes scope → IsBit σ reach → IsBit σ fits → guarded_sort t scope s ≡ Some u
       → IsMade p.types σ η k (deciding o k env reach fits).steps
-      → IsFew p.types σ η Bits k (deciding o k env reach fits) (2 * cost (guard_events v old shapes) + 3)
+      → IsFew p.types σ η (AreBits σ) k (deciding o k env reach fits) (2 * cost (guard_events v old shapes) + 3)
   deciding_few None None None h k env reach fits shapes scope s u are r f e m =
       let x = unless k reach fits in
       let y : Piece (ℕ × ℕ) = plain [] (fits, suc k) reach in
       let hx = unless_few p.types σ η k reach fits (made_left p.types σ η k x y m) in
-      fewer p.types σ η Bits k (joined x y) (1 + 0) 3 (joined_few p.types σ η Bits k x y 1 0 hx.few
-      (plain_few p.types σ η Bits (after k x) (fits, suc k) reach (f, hx.out) r)) (omega arith)
+      fewer p.types σ η (AreBits σ) k (joined x y) (1 + 0) 3 (joined_few p.types σ η (AreBits σ) k x y 1 0 hx.few
+      (plain_few p.types σ η (AreBits σ) (after k x) (fits, suc k) reach (f, hx.out) r)) (omega arith)
   deciding_few (Some a) (Some v) (Some t) h k env reach fits shapes scope s u are r f e m =
       let x = a k env fits in
       let n = after k x in
@@ -100,57 +103,35 @@ module _ (p : Program) (σ : Sorts) (η : Heights) (old : List Shape) where
       (made_left p.types σ η k x (joined w (joined z y)) m) in
       let hw = when_few p.types σ η n x.alive x.out (made_left p.types σ η n w (joined z y) mw) in
       let hz = unless_few p.types σ η i x.alive x.out (made_left p.types σ η i z y mz) in
-      let bit : Bit l = sym my.0.0.1 ∙ hz.out in
+      let bit : IsBit σ l = sym my.0.0.1 ∙ hz.out in
       let one = bit_choice p.types σ η (σ l) (max (η (suc i)) (η reach)) bit in
       let few = hx.few in
-      fewer p.types σ η Bits k (joined x (joined w (joined z y))) (L k x + (1 + (1 + 1)))
+      fewer p.types σ η (AreBits σ) k (joined x (joined w (joined z y))) (L k x + (1 + (1 + 1)))
       (2 * cost (v old shapes).events + 3)
-      (joined_few p.types σ η Bits k x (joined w (joined z y)) (L k x) _ (le_same (L k x))
-      (joined_few p.types σ η Bits n w (joined z y) 1 _ hw.few
-      (joined_few p.types σ η Bits i z y 1 1 hz.few
+      (joined_few p.types σ η (AreBits σ) k x (joined w (joined z y)) (L k x) _ (le_same (L k x))
+      (joined_few p.types σ η (AreBits σ) n w (joined z y) 1 _ hw.few
+      (joined_few p.types σ η (AreBits σ) i z y 1 1 hz.few
       (record { out = (hw.out, bit); alive = r; few = omega arith })))) (omega arith)
   deciding_few o v t h k env reach fits shapes scope s u are r f e m = absurd h
 
   -- ---- cases
-
-  -- a case, its visit and its sort are those of one pattern, with a guard and a body that are covered
-  pub record ArmCovers (a : Arm) (w : visits.Arm) (t : sorts.Arm) : Type 0 where
-    pub guard : Option Visiting
-    pub body : Visiting
-    pub visit_is : w ≡ visits.arm_step p.types (record { pattern = a.pattern; guard = guard; body = body })
-    pub pattern_is : t.pattern ≡ a.pattern
-    pub guard_covers : GuardCovers a.guard guard t.guard
-    pub body_covers : C a.body body t.body
-
-  abbrev pub AllArms : List Arm → List visits.Arm → List sorts.Arm → Type 0
-  AllArms [] [] [] = Unit {0}
-  AllArms (a ∷ xs) (w ∷ ws) (t ∷ ts) = ArmCovers a w t × AllArms xs ws ts
-  AllArms xs ws ts = ⊥
-
-  abbrev FirstIs : Sort → List Shape → Type 0
-  FirstIs u [] = Unit {0}
-  FirstIs u (h ∷ hs) = h.sort ≡ u
 
   -- The piece of cases begins at number k: its outcome has the sort u and at most the height `most`, and it takes at
   -- most twice what the visits cost, and a choice for each case.
   record AreTaken (k : ℕ) (x : Piece (Option ℕ)) (u : Sort) (most : ℕ) (vs : List Visit) : Type 0 where
     first : FirstIs u (map shape_of vs)
     out : MayHave p.types σ η u most x.out
-    alive : Bit x.alive
+    alive : IsBit σ x.alive
     few : L k x ≤ 1 + (2 * cost (all_events vs) + length vs * (32 + bits p.types most u))
 
   module _ (asked : Option CheckId) where
-    fails_few : (b : Bool) (reach : ℕ) → length (failing b reach) ≤ 1
-    fails_few true reach = le_same 1
-    fails_few false reach = omega arith
-
     one_product : (b : ℕ) → 0 ≤ 0 * b
     one_product b = omega arith
 
-    cases_taken : (xs : List Arm) (ws : List visits.Arm) (ts : List sorts.Arm) → AllArms xs ws ts
+    cases_taken : (xs : List Arm) (ws : List visits.Arm) (ts : List sorts.Arm) → Aligned (ArmCovers p.types C) xs ws ts
         → (check : Option CheckId) (t k : ℕ) (env : List ℕ) (reach : ℕ) (h : Shape) (s u : Sort) (shapes : List Shape)
         (scope : List Sort) (most : ℕ) → Are p.types σ η env shapes scope → IsOf p.types σ η t h s
-        → EachArm p s u scope ts → tallest (map shape_of (arms ws h old shapes)) ≤ most → Bit reach
+        → EachArm p s u scope ts → tallest (map shape_of (arms ws h old shapes)) ≤ most → IsBit σ reach
         → IsMade p.types σ η k (cases asked xs check t k env reach).steps
         → AreTaken k (cases asked xs check t k env reach) u most (arms ws h old shapes)
     cases_taken [] [] [] all check t k env reach h s u shapes scope most are of each le r m =
@@ -181,7 +162,8 @@ module _ (p : Program) (σ : Sorts) (η : Heights) (old : List Shape) where
         let hf = pattern_matches p.types σ η a.pattern k t h s q.0 of bound_is
         (made_left p.types σ η k one (joined two (joined three z)) m) in
         let h2 = all_of_few f.tests kt reach r (made_left p.types σ η kt two (joined three z) m2) in
-        let scoped = are_join p.types σ η env shapes scope f.bound (bound p.types.ctors a.pattern h) q.0 are hf.bound in
+        let scoped = aligned_join (IsOf p.types σ η) env shapes scope f.bound (bound p.types.ctors a.pattern h) q.0
+        are hf.bound in
         let h3 = deciding_few a.guard arm.guard c.guard arm.guard_covers kg inner reach two.out deeper (scope ++ q.0)
         (c.body (scope ++ q.0)) u scoped r h2.out q.2 (made_left p.types σ η kg three z m3) in
         let hx = arm.body_covers l inner three.out.0 deeper (scope ++ q.0) u scoped h3.out.0
@@ -235,7 +217,7 @@ module _ (p : Program) (σ : Sorts) (η : Heights) (old : List Shape) where
     match_sum lx ly cx cy choices h g = omega arith
 
     pub match_covers : (a : Compiling) (v : Visiting) (t : Sorting) → C a v t → (xs : List Arm) (ws : List visits.Arm)
-        (ts : List sorts.Arm) → AllArms xs ws ts → (check : Option CheckId)
+        (ts : List sorts.Arm) → Aligned (ArmCovers p.types C) xs ws ts → (check : Option CheckId)
         → C (λ k env reach. bind k (a k env reach) (λ n x alive. matched x (cases asked xs check x n env alive)))
         (match_visit v ws) (λ scope. then_sort (t scope) (λ s. arms_sort p.types p.functions ts s scope))
     match_covers a v t ha [] [] [] all check k env reach shapes scope u are r h m =

@@ -23,9 +23,10 @@ use Rattle.pp_operators.specs.Gates.{unary_gates}
 use Rattle.pp_steps.specs.Gates.{Heights}
 use Rattle.pp_steps.specs.Piece.{Piece, after, asks, bind, choice, demand, joined, possible}
 use Rattle.pp_steps.specs.Sorted.{Sorts}
-use Rattle.pp_steps_gates.proofs.Pieces.{Has, IsBit, choice_few, demand_few, joined_few, load, made_left, made_one}
+use Rattle.pp_steps_gates.proofs.Pieces.{Has, choice_few, demand_few, joined_few, load, made_left, made_one}
 use Rattle.pp_steps_gates.proofs.Pieces.{made_other, made_right, one_few, unless_few, when_few}
-use Rattle.pp_steps_gates.proofs.Scopes.{Covers, are_join, cost_of_node, covered, covered_of, has_more}
+use Rattle.pp_steps_gates.proofs.Scopes.{Covers, IsOf, cost_of_node, covered, covered_of, has_more}
+use Rattle.pp_steps_gates.proofs.Aligned.{aligned_join}
 
 module _ (types : TypeTable) (σ : Sorts) (η : Heights) (old : List Shape) where
   abbrev C : Compiling → Visiting → Sorting → Type 0
@@ -36,9 +37,6 @@ module _ (types : TypeTable) (σ : Sorts) (η : Heights) (old : List Shape) wher
 
   abbrev H : Sort → ℕ → ℕ → Type 0
   H = Has types σ η
-
-  abbrev Bit : ℕ → Type 0
-  Bit = IsBit types σ η
 
   -- ---- values
 
@@ -55,7 +53,7 @@ module _ (types : TypeTable) (σ : Sorts) (η : Heights) (old : List Shape) wher
       let e = w old (shapes ++ p.shape ∷ []) in
       let hx = ha k env reach shapes scope q.0 are r q.1 (made_left types σ η k x y m) in
       let hy = hb (after k x) (env ++ x.out ∷ []) x.alive (shapes ++ p.shape ∷ []) (scope ++ q.0 ∷ []) s
-      (are_join types σ η env shapes scope (x.out ∷ []) (p.shape ∷ []) (q.0 ∷ []) are
+      (aligned_join (IsOf types σ η) env shapes scope (x.out ∷ []) (p.shape ∷ []) (q.0 ∷ []) are
       (covered_of types σ η k x q.0 p hx, tt)) hx.alive q.2 (made_right types σ η k x y m) in
       let few_x = hx.few in
       let few_y = hy.few in

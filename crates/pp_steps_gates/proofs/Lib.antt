@@ -1,11 +1,15 @@
-mod Pieces
-mod Scopes
+pub mod Aligned
+pub mod Pieces
+pub mod Scopes
 mod Forms
 pub mod Lists
 pub mod Operators
+pub mod PatternLevels
 mod Patterns
+pub mod ExprLevels
 pub mod Cases
 mod Exprs
+pub mod Tables
 mod Measures
 pub mod Calls
 mod Runs

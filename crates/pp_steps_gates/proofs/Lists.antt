@@ -36,8 +36,9 @@ use Rattle.pp_steps.specs.Piece.{Piece, after, bind, joined}
 use Rattle.pp_steps.specs.Sorted.{Constructs, SelectsOnly, Sorts}
 use Rattle.pp_steps_gates.proofs.Pieces.{Has, IsBit, IsMade, joined_few, load, load_of_both, made_left, made_right}
 use Rattle.pp_steps_gates.proofs.Pieces.{one_few}
-use Rattle.pp_steps_gates.proofs.Scopes.{Are, Covers, are_as_high, are_join, cost_of_look, cost_of_node, covered}
+use Rattle.pp_steps_gates.proofs.Scopes.{Are, Covers, IsOf, are_as_high, cost_of_look, cost_of_node, covered}
 use Rattle.pp_steps_gates.proofs.Scopes.{covered_of}
+use Rattle.pp_steps_gates.proofs.Aligned.{Aligned, aligned_join}
 
 pub same_data : (a b : DataId) (s : Sort) → s ≡ sort.Tree a → s ≡ sort.Tree b → a ≡ b
 same_data a b s h g = cc
@@ -65,24 +66,18 @@ module _ (types : TypeTable) (σ : Sorts) (η : Heights) (old : List Shape) wher
 
   -- ---- expressions in a row
 
-  -- each expression is covered, and none is left over
-  abbrev pub AllCover : List Compiling → List Visiting → List Sorting → Type 0
-  AllCover [] [] [] = Unit {0}
-  AllCover (m ∷ ms) (v ∷ vs) (t ∷ ts) = C m v t × AllCover ms vs ts
-  AllCover ms vs ts = ⊥
-
   -- The piece begins at number k: its outcomes are of these shapes and sorts, and it takes at most twice what the
   -- events cost, less a node's weight for each of n expressions.
   pub record AreCovered (k : ℕ) (x : Piece (List ℕ)) (n : ℕ) (hs : List Shape) (ss : List Sort)
       (es : List Event) : Type 0 where
     pub out : Are types σ η x.out hs ss
-    pub alive : IsBit types σ η x.alive
+    pub alive : IsBit σ x.alive
     pub few : L k x + 64 * n ≤ 2 * cost es
 
-  pub all_covered : (ms : List Compiling) (vs : List Visiting) (ts : List Sorting) → AllCover ms vs ts
+  pub all_covered : (ms : List Compiling) (vs : List Visiting) (ts : List Sorting) → Aligned C ms vs ts
       → (done : List ℕ) (dh : List Shape) (ds : List Sort) → Are types σ η done dh ds
       → (k : ℕ) (env : List ℕ) (reach : ℕ) (shapes : List Shape) (scope ss : List Sort)
-      → Are types σ η env shapes scope → IsBit types σ η reach → sorts_in scope ts ≡ map Some ss
+      → Are types σ η env shapes scope → IsBit σ reach → sorts_in scope ts ≡ map Some ss
       → IsMade types σ η k (all_from done ms k env reach).steps
       → AreCovered k (all_from done ms k env reach) (length ms) (dh ++ map shape_of (visits vs old shapes)) (ds ++ ss)
       (all_events (visits vs old shapes))
@@ -106,7 +101,8 @@ module _ (types : TypeTable) (σ : Sorts) (η : Heights) (old : List Shape) wher
       let y = all_from (done ++ x.out ∷ []) ms n env x.alive in
       let hx = h.0 k env reach shapes scope s are r here (made_left types σ η k x y m) in
       let hy = all_covered ms vs ts h.1 (done ++ x.out ∷ []) (dh ++ p.shape ∷ []) (ds ++ s ∷ [])
-      (are_join types σ η done dh ds (x.out ∷ []) (p.shape ∷ []) (s ∷ []) d (covered_of types σ η k x s p hx, tt))
+      (aligned_join (IsOf types σ η) done dh ds (x.out ∷ []) (p.shape ∷ []) (s ∷ []) d
+      (covered_of types σ η k x s p hx, tt))
       n env x.alive shapes scope ss are hx.alive rest (made_right types σ η k x y m) in
       let hs = map shape_of (visits vs old shapes) in
       let few_x = hx.few in
@@ -124,7 +120,7 @@ module _ (types : TypeTable) (σ : Sorts) (η : Heights) (old : List Shape) wher
   -- ---- constructors and fields
 
   pub construct_covers : ((i : ℕ) → η i ≤ top) → (c : CtorId) (ms : List Compiling) (vs : List Visiting)
-      (ts : List Sorting) → AllCover ms vs ts
+      (ts : List Sorting) → Aligned C ms vs ts
       → C (λ k env reach. bind k (all ms k env reach) (λ n xs alive. one (steps.Construct c xs) n alive))
       (λ o env. let s = tree_result (slice_get types.ctors c.0) in
       visit (shape s (cut (tallest (map shape_of (visits vs o env)) + 1)))
@@ -204,20 +200,20 @@ module _ (types : TypeTable) (σ : Sorts) (η : Heights) (old : List Shape) wher
   pub record IsAnswered (k : ℕ) (x : Piece ℕ) (s : Sort) (v : Visit) : Type 0 where
     pub shape : v.shape.sort ≡ s
     pub out : H s v.shape.height x.out
-    pub alive : IsBit types σ η x.alive
+    pub alive : IsBit σ x.alive
     pub few : L k x ≤ 2 * cost v.events
 
   -- the steps of a call of a function that stands, on arguments of its parameters' sorts, take at most so much
   abbrev pub Answers : List Function → Site → Calls → Type 0
   Answers functions site calls =
       (k reach : ℕ) (g : FunctionId) (pre down : Option CheckId) (args : List ℕ) (hs : List Shape) (f : Function)
-      → slice_get functions g.0 ≡ Some f → Are types σ η args hs (param_sorts f.params) → IsBit types σ η reach
+      → slice_get functions g.0 ≡ Some f → Are types σ η args hs (param_sorts f.params) → IsBit σ reach
       → IsMade types σ η k (site k reach g pre down args).steps
       → IsAnswered k (site k reach g pre down args) f.result (calls g down old hs)
 
   pub call_covers : (functions : List Function) (site : Site) (calls : Calls) → Answers functions site calls
       → (g : FunctionId) (pre down : Option CheckId) (ms : List Compiling) (vs : List Visiting) (ts : List Sorting)
-      → AllCover ms vs ts
+      → Aligned C ms vs ts
       → C (λ k env reach. bind k (all ms k env reach) (λ n xs alive. site n alive g pre down xs))
       (λ o env. let ps = visits vs o env in
       let v = calls g down o (map shape_of ps) in

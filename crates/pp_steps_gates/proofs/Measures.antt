@@ -1,7 +1,7 @@
 -- Measures that are compared: their steps take at most twice what the comparison costs, and four gates for each
 -- component.
-use Rattle.std.proofs.Common.{◌≡◌, ℕ, suc, false, ◌+◌, ◌*◌, ◌≤◌, max, min, List, [], ◌∷◌, map, length, Option, Some}
-use Rattle.std.proofs.Common.{None, refl, sym, ap, ◌∙◌, subst, arith}
+use Rattle.std.proofs.Common.{◌≡◌, ℕ, suc, false, ◌+◌, ◌*◌, ◌≤◌, max, min, List, [], ◌∷◌, length, Option, Some, None}
+use Rattle.std.proofs.Common.{sym, ◌∙◌, subst, arith}
 use Rattle.std.proofs.lemmas.List.{length-map}
 use Rattle.std.proofs.Math.Nat.{min-le_left}
 use Rattle.pp_tree.specs.declared.operator.BinaryOp.TheVariants.{Equal}
@@ -24,7 +24,8 @@ use Rattle.pp_steps.specs.Sorted.{Sorts}
 use Rattle.pp_steps_gates.proofs.Operators.{equality_fits}
 use Rattle.pp_steps_gates.proofs.Pieces.{Has, IsBit, IsFew, IsMade, bit_choice, demand_few, fewer, joined_few, load}
 use Rattle.pp_steps_gates.proofs.Pieces.{made_left, made_right, one_few, plain_few}
-use Rattle.pp_steps_gates.proofs.Scopes.{Are}
+use Rattle.pp_steps_gates.proofs.Scopes.{IsOf}
+use Rattle.pp_steps_gates.proofs.Tables.{FrameCovers, Row, number_of, numbers_of, shape_in, shapes_in}
 
 module _ (types : TypeTable) where
   pub product_more : (a b m : ℕ) → a ≤ b → a ≤ b * (1 + m)
@@ -60,43 +61,14 @@ module _ (types : TypeTable) (σ : Sorts) (η : Heights) where
   abbrev L : {A : Type 0} → ℕ → Piece A → ℕ
   L = load types σ η
 
-  abbrev Bit : ℕ → Type 0
-  Bit = IsBit types σ η
+  -- the number has the sort and at most the height of the shape
+  abbrev pub Fits : ℕ → Shape → Type 0
+  Fits n h = Has types σ η h.sort h.height n
 
-  -- a number with its shape
-  pub record Row : Type 0 where
-    pub number : ℕ
-    pub shape : Shape
-    pub has : Has types σ η shape.sort shape.height number
+  pub shape_fits : (n : ℕ) (h : Shape) (s : Sort) → IsOf types σ η n h s → Fits n h
+  shape_fits n h s a = subst (λ z. Has types σ η z h.height n) (sym a.shape) a.has
 
-  abbrev pub number_of : Row → ℕ
-  number_of r = r.number
-
-  abbrev pub shape_in : Row → Shape
-  shape_in r = r.shape
-
-  abbrev pub numbers_of : List Row → List ℕ
-  numbers_of = map number_of
-
-  abbrev pub shapes_in : List Row → List Shape
-  shapes_in = map shape_in
-
-  -- numbers and their shapes, at one place each
-  pub record IsTable (ns : List ℕ) (hs : List Shape) : Type 0 where
-    pub rows : List Row
-    pub numbers : numbers_of rows ≡ ns
-    pub shapes : shapes_in rows ≡ hs
-
-  pub table_of : (ns : List ℕ) (hs : List Shape) (ss : List Sort) → Are types σ η ns hs ss → IsTable ns hs
-  table_of [] [] [] a = record { rows = []; numbers = refl; shapes = refl }
-  table_of (n ∷ ns) (h ∷ hs) (s ∷ ss) a =
-      let t = table_of ns hs ss a.1 in
-      let row : Row =
-      record { number = n; shape = h; has = subst (λ z. Has types σ η z h.height n) (sym a.0.shape) a.0.has } in
-      record { rows = row ∷ t.rows; numbers = ap (λ z. n ∷ z) t.numbers; shapes = ap (λ z. h ∷ z) t.shapes }
-  table_of ns hs ss a = absurd a
-
-  row_descent : (x y : Row)
+  row_descent : (x y : Row Fits)
       → descent_gates types (η x.number) (η y.number) (σ x.number) ≤ cost (component_events types x.shape.sort
       x.shape.height y.shape.height)
   row_descent x y =
@@ -105,7 +77,7 @@ module _ (types : TypeTable) (σ : Sorts) (η : Heights) where
       (descent_fits types x.shape.sort (η x.number) (η y.number) x.shape.height y.shape.height
       x.has.height y.has.height)
 
-  row_same : (x y : Row)
+  row_same : (x y : Row Fits)
       → equality_gates types (min (η x.number) (η y.number)) (σ x.number) ≤ cost (component_events types x.shape.sort
       x.shape.height y.shape.height) + 1
   row_same x y =
@@ -114,11 +86,11 @@ module _ (types : TypeTable) (σ : Sorts) (η : Heights) where
       (same_fits types x.shape.sort (min (η x.number) (η y.number)) x.shape.height y.shape.height
       (le_then _ _ _ (min-le_left (η x.number) (η y.number)) x.has.height))
 
-  falling_few : (new old : List Row) (k alive : ℕ) → Bit alive
+  falling_few : (new old : List (Row Fits)) (k alive : ℕ) → IsBit σ alive
       → IsMade types σ η k (falling (numbers_of new) (numbers_of old) k alive).steps
-      → IsFew types σ η Bit k (falling (numbers_of new) (numbers_of old) k alive)
+      → IsFew types σ η (IsBit σ) k (falling (numbers_of new) (numbers_of old) k alive)
       (2 * cost (comparison types (shapes_in new) (shapes_in old)) + 3 * length new)
-  falling_few [] old k alive a m = one_few types σ η Bit (steps.Bool false) k alive m.0.0 a
+  falling_few [] old k alive a m = one_few types σ η (IsBit σ) (steps.Bool false) k alive m.0.0 a
   falling_few (x ∷ xs) [] k alive a m =
       record { out = m.0.0; alive = a; few = omega arith }
   falling_few (x ∷ []) (y ∷ ys) k alive a m =
@@ -137,7 +109,7 @@ module _ (types : TypeTable) (σ : Sorts) (η : Heights) where
       let mq = made_right types σ η k p (joined q l) m in
       let ml = made_right types σ η i q l mq in
       let hq = falling_few new ys i alive a (made_left types σ η i q l mq) in
-      let bit : Bit (suc j) = sym ml.1.0.0.1 ∙ m.0.0.1 in
+      let bit : IsBit σ (suc j) = sym ml.1.0.0.1 ∙ m.0.0.1 in
       let one = bit_choice types σ η (σ (suc j)) (max (η k) (η j)) bit in
       let down = row_descent x y in
       let same = row_same x y in
@@ -146,28 +118,28 @@ module _ (types : TypeTable) (σ : Sorts) (η : Heights) where
       let few_p : L k p ≤ 2 * cost es + 1 = omega arith in
       let few_l : L j l ≤ 2 = omega arith in
       let few_q = hq.few in
-      fewer types σ η Bit k (joined p (joined q l))
+      fewer types σ η (IsBit σ) k (joined p (joined q l))
       (2 * cost es + 1 + (2 * cost (comparison types (shapes_in new) (shapes_in ys)) + 3 * length new + 2))
       (2 * cost (comparison types (shapes_in (x ∷ new)) (shapes_in (y ∷ ys))) + 3 * length (x ∷ new))
-      (joined_few types σ η Bit k p (joined q l) (2 * cost es + 1) _ few_p
-      (joined_few types σ η Bit i q l _ 2 few_q (record { out = bit; alive = a; few = few_l }))) (omega arith)
+      (joined_few types σ η (IsBit σ) k p (joined q l) (2 * cost es + 1) _ few_p
+      (joined_few types σ η (IsBit σ) i q l _ 2 few_q (record { out = bit; alive = a; few = few_l }))) (omega arith)
 
-  shaped_few : (new old : List ℕ) (k test alive : ℕ) → Bit test → Bit alive
+  shaped_few : (new old : List ℕ) (k test alive : ℕ) → IsBit σ test → IsBit σ alive
       → IsMade types σ η k (shaped new old k test alive).steps
-      → IsFew types σ η Bit k (shaped new old k test alive) (length new)
-  shaped_few [] [] k test alive t a m = plain_few types σ η Bit k test alive t a
-  shaped_few [] (y ∷ ys) k test alive t a m = one_few types σ η Bit (steps.Bool false) k alive m.0.0 a
+      → IsFew types σ η (IsBit σ) k (shaped new old k test alive) (length new)
+  shaped_few [] [] k test alive t a m = plain_few types σ η (IsBit σ) k test alive t a
+  shaped_few [] (y ∷ ys) k test alive t a m = one_few types σ η (IsBit σ) (steps.Bool false) k alive m.0.0 a
   shaped_few (x ∷ xs) [] k test alive t a m = record { out = m.0.0; alive = a; few = omega arith }
   shaped_few (x ∷ xs) (y ∷ ys) k test alive t a m =
       let p : Piece ℕ = plain (steps.IsAlike x y ∷ steps.Both test k ∷ []) (suc k) alive in
       let q = shaped xs ys (after k p) (suc k) alive in
       let hq = shaped_few xs ys (after k p) (suc k) alive m.1.0.0.2 a (made_right types σ η k p q m) in
-      fewer types σ η Bit k (joined p q) (1 + length xs) (suc (length xs))
-      (joined_few types σ η Bit k p q 1 (length xs) (le_same 1) hq) (omega arith)
+      fewer types σ η (IsBit σ) k (joined p q) (1 + length xs) (suc (length xs))
+      (joined_few types σ η (IsBit σ) k p q 1 (length xs) (le_same 1) hq) (omega arith)
 
-  lower_few : (new old : List Row) (k alive : ℕ) → Bit alive
+  lower_few : (new old : List (Row Fits)) (k alive : ℕ) → IsBit σ alive
       → IsMade types σ η k (lower (numbers_of new) (numbers_of old) k alive).steps
-      → IsFew types σ η Bit k (lower (numbers_of new) (numbers_of old) k alive)
+      → IsFew types σ η (IsBit σ) k (lower (numbers_of new) (numbers_of old) k alive)
       (2 * cost (comparison types (shapes_in new) (shapes_in old)) + 4 * length new)
   lower_few new old k alive a m =
       let p = falling (numbers_of new) (numbers_of old) k alive in
@@ -177,19 +149,14 @@ module _ (types : TypeTable) (σ : Sorts) (η : Heights) where
       (made_right types σ η k p q m) in
       let count = length-map new number_of in
       let costs = cost (comparison types (shapes_in new) (shapes_in old)) in
-      fewer types σ η Bit k (joined p q) (2 * costs + 3 * length new + length (numbers_of new))
+      fewer types σ η (IsBit σ) k (joined p q) (2 * costs + 3 * length new + length (numbers_of new))
       (2 * costs + 4 * length new)
-      (joined_few types σ η Bit k p q _ (length (numbers_of new)) hp.few hq) (omega arith)
+      (joined_few types σ η (IsBit σ) k p q _ (length (numbers_of new)) hp.few hq) (omega arith)
 
-  -- the numbers of a frame's measure, if there are any, are those of the shapes
-  abbrev pub FrameCovers : Frame → List Shape → Type 0
-  FrameCovers None hs = Unit {0}
-  FrameCovers (Some ns) hs = IsTable ns hs
-
-  compared_few : (asked : Option CheckId) (c : CheckId) (new old : List Row) (k alive : ℕ) → Bit alive
+  compared_few : (asked : Option CheckId) (c : CheckId) (new old : List (Row Fits)) (k alive : ℕ) → IsBit σ alive
       → IsMade types σ η k
       (descending asked (Some c) (Some (numbers_of old)) (Some (numbers_of new)) k alive).steps
-      → IsFew types σ η Bit k (descending asked (Some c) (Some (numbers_of old)) (Some (numbers_of new)) k alive)
+      → IsFew types σ η (IsBit σ) k (descending asked (Some c) (Some (numbers_of old)) (Some (numbers_of new)) k alive)
       (2 * cost (comparison types (shapes_in new) (shapes_in old)) + (4 * length (shapes_in new) + 3))
   compared_few asked c new old k alive a m =
       let p = lower (numbers_of new) (numbers_of old) k alive in
@@ -198,13 +165,13 @@ module _ (types : TypeTable) (σ : Sorts) (η : Heights) where
       let hd = demand_few types σ η (asks asked (Some c)) (after k p) p.alive p.out (made_right types σ η k p d m) in
       let count = length-map new shape_in in
       let costs = cost (comparison types (shapes_in new) (shapes_in old)) in
-      fewer types σ η Bit k (joined p d) (2 * costs + 4 * length new + 3)
-      (2 * costs + (4 * length (shapes_in new) + 3)) (joined_few types σ η Bit k p d _ 3 hp.few hd) (omega arith)
+      fewer types σ η (IsBit σ) k (joined p d) (2 * costs + 4 * length new + 3)
+      (2 * costs + (4 * length (shapes_in new) + 3)) (joined_few types σ η (IsBit σ) k p d _ 3 hp.few hd) (omega arith)
 
-  pub descending_few : (asked check : Option CheckId) (old new : Frame) (oh nh : List Shape) → FrameCovers old oh
-      → FrameCovers new nh → (k alive : ℕ) → Bit alive
+  pub descending_few : (asked check : Option CheckId) (old new : Frame) (oh nh : List Shape) → FrameCovers Fits old oh
+      → FrameCovers Fits new nh → (k alive : ℕ) → IsBit σ alive
       → IsMade types σ η k (descending asked check old new k alive).steps
-      → IsFew types σ η Bit k (descending asked check old new k alive)
+      → IsFew types σ η (IsBit σ) k (descending asked check old new k alive)
       (2 * cost (compared types check nh oh) + (4 * length nh + 3))
   descending_few asked None old new oh nh o n k alive a m = record { out = a; alive = a; few = omega arith }
   descending_few asked (Some c) None new oh nh o n k alive a m = record { out = a; alive = a; few = omega arith }
@@ -217,11 +184,12 @@ module _ (types : TypeTable) (σ : Sorts) (η : Heights) where
       let made_both = subst
       (λ z. IsMade types σ η k (descending asked (Some c) (Some (numbers_of o.rows)) (Some z) k alive).steps)
       (sym n.numbers) made in
-      subst (λ z. IsFew types σ η Bit k (descending asked (Some c) (Some z) (Some ns) k alive) (most nh oh)) o.numbers
-      (subst (λ z. IsFew types σ η Bit k (descending asked (Some c) (Some (numbers_of o.rows)) (Some z) k alive)
+      subst (λ z. IsFew types σ η (IsBit σ) k (descending asked (Some c) (Some z) (Some ns) k alive) (most nh oh))
+      o.numbers
+      (subst (λ z. IsFew types σ η (IsBit σ) k (descending asked (Some c) (Some (numbers_of o.rows)) (Some z) k alive)
       (most nh oh)) n.numbers
-      (subst (λ z. IsFew types σ η Bit k
+      (subst (λ z. IsFew types σ η (IsBit σ) k
       (descending asked (Some c) (Some (numbers_of o.rows)) (Some (numbers_of n.rows)) k alive) (most nh z)) o.shapes
-      (subst (λ z. IsFew types σ η Bit k
+      (subst (λ z. IsFew types σ η (IsBit σ) k
       (descending asked (Some c) (Some (numbers_of o.rows)) (Some (numbers_of n.rows)) k alive)
       (most z (shapes_in o.rows))) n.shapes (compared_few asked c n.rows o.rows k alive a made_both))))

@@ -83,6 +83,12 @@ module _ (types : TypeTable) where
       → binary_gates types op (min g h) s ≤ binary_extra types op p e + 64
   operator_fits op s g h p e is le = class_fits (class_of op) s g h p e is le
 
+-- the visit of an operator on two values
+abbrev pub visited : TypeTable → BinaryOp → Visiting → Visiting → Visiting
+visited types op v w o env =
+    visit (shape (gives op (v o env).shape.sort) 0)
+    ((v o env).events ++ (w o env).events ++ node (binary_extra types op (v o env).shape (w o env).shape))
+
 module _ (types : TypeTable) (σ : Sorts) (η : Heights) (old : List Shape) where
   abbrev C : Compiling → Visiting → Sorting → Type 0
   C = Covers types σ η old
@@ -92,15 +98,6 @@ module _ (types : TypeTable) (σ : Sorts) (η : Heights) (old : List Shape) wher
 
   abbrev H : Sort → ℕ → ℕ → Type 0
   H = Has types σ η
-
-  abbrev Bit : ℕ → Type 0
-  Bit = IsBit types σ η
-
-  -- the visit of an operator on two values
-  abbrev visited : BinaryOp → Visiting → Visiting → Visiting
-  visited op v w o env =
-      visit (shape (gives op (v o env).shape.sort) 0)
-      ((v o env).events ++ (w o env).events ++ node (binary_extra types op (v o env).shape (w o env).shape))
 
   -- the result of the step of an operator on numbers of these sorts
   module _ (op : BinaryOp) (x y n : ℕ) (p e : Shape) (o q : Option Sort) (s a b : Sort) where
@@ -123,7 +120,7 @@ module _ (types : TypeTable) (σ : Sorts) (η : Heights) (old : List Shape) wher
   module _ (op : BinaryOp) (a b : Compiling) (v w : Visiting) (t u : Sorting) (ha : C a v t) (hb : C b w u) where
     -- an operator that is one step
     plain_covers : C (λ k env reach. bind k (a k env reach) (λ n x alive. bind n (b n env alive)
-        (λ m y going. one (steps.Binary op x y) m going))) (visited op v w)
+        (λ m y going. one (steps.Binary op x y) m going))) (visited types op v w)
         (λ scope. binary_sort op (t scope) (u scope))
     plain_covers k env reach shapes scope s are r h m =
         let q = binary_parts op (t scope) (u scope) s h in
@@ -148,7 +145,7 @@ module _ (types : TypeTable) (σ : Sorts) (η : Heights) (old : List Shape) wher
         let one_is = cost_of_both (p.events ++ e.events) (node extra) in
         let two_is = cost_of_both p.events e.events in
         let three = cost_of_node extra in
-        covered types σ η k (joined x (joined y z)) s (visited op v w old shapes) (L k x + (L n y + gates))
+        covered types σ η k (joined x (joined y z)) s (visited types op v w old shapes) (L k x + (L n y + gates))
         (result_is op (t scope) (u scope) p.shape.sort q.0.0 s q.0.1 hx.shape h)
         (joined_few types σ η (H s 0) k x (joined y z) (L k x) (L n y + gates) (le_same (L k x))
         (joined_few types σ η (H s 0) n y z (L n y) gates (le_same (L n y))
@@ -162,7 +159,7 @@ module _ (types : TypeTable) (σ : Sorts) (η : Heights) (old : List Shape) wher
         ap (equality_gates types (min (η y) (η k))) (same_Some (σ y) (σ k) (both.0 ∙ sym both.1) ∙ int)
 
     quotient_covers : (asked check : Option CheckId) → C (λ k env reach. bind k (a k env reach) (λ n x alive.
-        bind n (b n env alive) (λ m y going. quotient asked op check m going x y))) (visited op v w)
+        bind n (b n env alive) (λ m y going. quotient asked op check m going x y))) (visited types op v w)
         (λ scope. binary_sort op (t scope) (u scope))
     quotient_covers asked check k env reach shapes scope s are r h m =
         let q = binary_parts op (t scope) (u scope) s h in
@@ -199,7 +196,7 @@ module _ (types : TypeTable) (σ : Sorts) (η : Heights) (old : List Shape) wher
         let one_is = cost_of_both (p.events ++ e.events) (node extra) in
         let two_is = cost_of_both p.events e.events in
         let three = cost_of_node extra in
-        covered types σ η k (joined x (joined y (joined f (joined d z)))) s (visited op v w old shapes)
+        covered types σ η k (joined x (joined y (joined f (joined d z)))) s (visited types op v w old shapes)
         (L k x + (L n y + (64 + (3 + gates))))
         (result_is op (t scope) (u scope) p.shape.sort q.0.0 s q.0.1 hx.shape h)
         (joined_few types σ η (H s 0) k x (joined y (joined f (joined d z))) (L k x) _ (le_same (L k x))
@@ -216,7 +213,7 @@ module _ (types : TypeTable) (σ : Sorts) (η : Heights) (old : List Shape) wher
 
     -- the right side begins at number n, where its number `taken` tells whether it is reached
     skip_few : (b : Compiling) (w : Visiting) (u : Sorting) → C b w u → (n : ℕ) (env : List ℕ) (taken x alive : ℕ)
-        (shapes : List Shape) (scope : List Sort) → Are types σ η env shapes scope → Bit taken → Bit alive
+        (shapes : List Shape) (scope : List Sort) → Are types σ η env shapes scope → IsBit σ taken → IsBit σ alive
         → H sort.Bool 0 x → u scope ≡ Some sort.Bool → IsMade types σ η n (skipping b n env taken x alive).steps
         → IsFew types σ η (H sort.Bool 0) n (skipping b n env taken x alive) (2 * cost (w old shapes).events)
     skip_few b w u hb n env taken x alive shapes scope are bit live hx is m =
@@ -231,7 +228,7 @@ module _ (types : TypeTable) (σ : Sorts) (η : Heights) (old : List Shape) wher
 
     module _ (a b : Compiling) (v w : Visiting) (t u : Sorting) (ha : C a v t) (hb : C b w u) where
       module _ (k : ℕ) (env : List ℕ) (reach : ℕ) (shapes : List Shape) (scope : List Sort) (s : Sort)
-          (are : Are types σ η env shapes scope) (r : Bit reach)
+          (are : Are types σ η env shapes scope) (r : IsBit σ reach)
           (h : class_sort class.Logic (t scope) (u scope) ≡ Some s) where
         abbrev x : Piece ℕ
         x = a k env reach
@@ -242,10 +239,10 @@ module _ (types : TypeTable) (σ : Sorts) (η : Heights) (old : List Shape) wher
         -- what goes on after the left side, with a step that tells whether the right side is reached
         skip_covers : (op : BinaryOp) → binary_extra types op (v old shapes).shape (w old shapes).shape ≡ 0
             → gives op (v old shapes).shape.sort ≡ sort.Bool → (f : Piece ℕ)
-            → (hx : IsCovered types σ η k x sort.Bool (v old shapes)) → IsFew types σ η Bit n f 1
+            → (hx : IsCovered types σ η k x sort.Bool (v old shapes)) → IsFew types σ η (IsBit σ) n f 1
             → IsMade types σ η (after n f) (skipping b (after n f) env f.out x.out x.alive).steps
             → IsCovered types σ η k (joined x (joined f (skipping b (after n f) env f.out x.out x.alive))) s
-            (visited op v w old shapes)
+            (visited types op v w old shapes)
         skip_covers op none result f hx hf m =
             let q = logic_parts (t scope) (u scope) s h in
             let p = v old shapes in
@@ -258,13 +255,13 @@ module _ (types : TypeTable) (σ : Sorts) (η : Heights) (old : List Shape) wher
             let one_is = cost_of_both (p.events ++ e.events) (node extra) in
             let two_is = cost_of_both p.events e.events in
             let three = cost_of_node extra in
-            covered types σ η k (joined x (joined f z)) s (visited op v w old shapes)
+            covered types σ η k (joined x (joined f z)) s (visited types op v w old shapes)
             (L k x + (1 + 2 * cost e.events)) (result ∙ q.2)
             (subst (λ c. IsFew types σ η (H c 0) k (joined x (joined f z)) (L k x + (1 + 2 * cost e.events))) q.2
             (joined_few types σ η (H sort.Bool 0) k x (joined f z) (L k x) _ (le_same (L k x))
             (joined_few types σ η (H sort.Bool 0) n f z 1 (2 * cost e.events) hf.few hz))) (omega arith)
 
-      and_covers : (asked check : Option CheckId) → C (binary asked AndAlso a b check) (visited AndAlso v w)
+      and_covers : (asked check : Option CheckId) → C (binary asked AndAlso a b check) (visited types AndAlso v w)
           (λ scope. class_sort class.Logic (t scope) (u scope))
       and_covers asked check k env reach shapes scope s are r h m =
           let q = logic_parts (t scope) (u scope) s h in
@@ -277,7 +274,7 @@ module _ (types : TypeTable) (σ : Sorts) (η : Heights) (old : List Shape) wher
           (ha k env reach shapes scope sort.Bool are r q.0 (made_left types σ η k c (joined f z) m))
           (when_few types σ η i c.alive c.out (made_left types σ η i f z mf)) (made_right types σ η i f z mf)
 
-      or_covers : (asked check : Option CheckId) → C (binary asked OrElse a b check) (visited OrElse v w)
+      or_covers : (asked check : Option CheckId) → C (binary asked OrElse a b check) (visited types OrElse v w)
           (λ scope. class_sort class.Logic (t scope) (u scope))
       or_covers asked check k env reach shapes scope s are r h m =
           let q = logic_parts (t scope) (u scope) s h in
@@ -292,7 +289,7 @@ module _ (types : TypeTable) (σ : Sorts) (η : Heights) (old : List Shape) wher
 
     pub binary_covers : (asked : Option CheckId) (op : BinaryOp) (check : Option CheckId) (a b : Compiling)
         (v w : Visiting) (t u : Sorting) → C a v t → C b w u
-        → C (binary asked op a b check) (visited op v w) (λ scope. binary_sort op (t scope) (u scope))
+        → C (binary asked op a b check) (visited types op v w) (λ scope. binary_sort op (t scope) (u scope))
     binary_covers asked AndAlso check a b v w t u ha hb = and_covers a b v w t u ha hb asked check
     binary_covers asked OrElse check a b v w t u ha hb = or_covers a b v w t u ha hb asked check
     binary_covers asked Div check a b v w t u ha hb = quotient_covers Div a b v w t u ha hb asked check

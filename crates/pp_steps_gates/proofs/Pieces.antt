@@ -16,6 +16,14 @@ use Rattle.pp_steps.specs.Gates.{AllHigh, Heights, all_gates, choice_gates, gate
 use Rattle.pp_steps.specs.Piece.{Piece, after, choice, demand, joined, pick_step, picked, plain}
 use Rattle.pp_steps.specs.Sorted.{AllSorted, IsSorted, Sorts}
 
+-- the number has the sort of truth values
+abbrev pub IsBit : Sorts → ℕ → Type 0
+IsBit σ n = σ n ≡ sort.Bool
+
+-- any number will do
+abbrev pub Any : ℕ → Type 0
+Any n = Unit {0}
+
 module _ (types : TypeTable) (σ : Sorts) (η : Heights) where
   -- each step has its sort and its height, where the first has the number k
   abbrev pub IsMade : ℕ → List Step → Type 0
@@ -73,14 +81,11 @@ module _ (types : TypeTable) (σ : Sorts) (η : Heights) where
   MayHave s h None = Unit {0}
   MayHave s h (Some n) = Has s h n
 
-  abbrev pub IsBit : ℕ → Type 0
-  IsBit n = σ n ≡ sort.Bool
-
   -- The piece begins at number k: its outcome is one of R, a truth value tells whether it has one, and it takes at most
   -- so much.
   pub record IsFew {A : Type 0} (R : A → Type 0) (k : ℕ) (x : Piece A) (most : ℕ) : Type 0 where
     pub out : R x.out
-    pub alive : IsBit x.alive
+    pub alive : IsBit σ x.alive
     pub few : load k x ≤ most
 
   pub joined_few : {A B : Type 0} (S : B → Type 0) (k : ℕ) (x : Piece A) (y : Piece B) (a b : ℕ)
@@ -95,22 +100,22 @@ module _ (types : TypeTable) (σ : Sorts) (η : Heights) where
 
   -- ---- some steps
 
-  pub one_few : (R : ℕ → Type 0) (s : Step) (k alive : ℕ) → R k → IsBit alive
+  pub one_few : (R : ℕ → Type 0) (s : Step) (k alive : ℕ) → R k → IsBit σ alive
       → IsFew R k (one s k alive) (gates_of types σ η k s)
   one_few R s k alive r a = record { out = r; alive = a; few = omega arith }
 
-  pub plain_few : {A : Type 0} (R : A → Type 0) (k : ℕ) (out : A) (alive : ℕ) → R out → IsBit alive
+  pub plain_few : {A : Type 0} (R : A → Type 0) (k : ℕ) (out : A) (alive : ℕ) → R out → IsBit σ alive
       → IsFew R k (plain [] out alive) 0
   plain_few R k out alive r a = record { out = r; alive = a; few = le_same 0 }
 
-  pub when_few : (k alive test : ℕ) → IsMade k (when k alive test).steps → IsFew IsBit k (when k alive test) 1
+  pub when_few : (k alive test : ℕ) → IsMade k (when k alive test).steps → IsFew (IsBit σ) k (when k alive test) 1
   when_few k alive test m = record { out = m.0.0.2; alive = m.0.0.0; few = le_same 1 }
 
-  pub unless_few : (k alive test : ℕ) → IsMade k (unless k alive test).steps → IsFew IsBit k (unless k alive test) 1
+  pub unless_few : (k alive test : ℕ) → IsMade k (unless k alive test).steps → IsFew (IsBit σ) k (unless k alive test) 1
   unless_few k alive test m = record { out = m.1.0.0.2; alive = m.1.0.0.0; few = le_same 1 }
 
   pub demand_few : (b : Bool) (k alive test : ℕ) → IsMade k (demand b k alive test).steps
-      → IsFew IsBit k (demand b k alive test) 3
+      → IsFew (IsBit σ) k (demand b k alive test) 3
   demand_few true k alive test m = record { out = m.0.0.1; alive = m.0.0.2; few = le_same 3 }
   demand_few false k alive test m = record { out = m.0.0.1; alive = m.0.0.2; few = omega arith }
 
@@ -157,11 +162,11 @@ module _ (types : TypeTable) (σ : Sorts) (η : Heights) where
     abbrev tail : List Step
     tail = steps.Choose taken x.alive y.alive ∷ pick_step taken x.out y.out
 
-    choice_here : Has s h x.out → IsBit x.alive → MayHave s h y.out → IsMade k (choice last taken x y).steps
+    choice_here : Has s h x.out → IsBit σ x.alive → MayHave s h y.out → IsMade k (choice last taken x y).steps
         → IsFew (Has s h) k (choice last taken x y) (load k x + (load (after k x) y + (33 + bits types h s)))
     choice_here a b c m =
         let t = made_rest (after k x) y.steps tail (made_rest k x.steps (y.steps ++ tail) m) in
-        let bit : IsBit last = sym t.0.0.1 ∙ b in
+        let bit : IsBit σ last = sym t.0.0.1 ∙ b in
         let p = pick_few s h (suc last) taken x.out y.out a c t.1 in
         let one = bit_choice (σ last) (max (η x.alive) (η y.alive)) bit in
         let few = p.1 in
@@ -170,7 +175,7 @@ module _ (types : TypeTable) (σ : Sorts) (η : Heights) where
         let g = length-append x.fails y.fails in
         record { out = p.0; alive = bit; few = omega arith }
 
-    pub choice_few : (n : ℕ) → last ≡ n → Has s h x.out → IsBit x.alive → MayHave s h y.out
+    pub choice_few : (n : ℕ) → last ≡ n → Has s h x.out → IsBit σ x.alive → MayHave s h y.out
         → IsMade k (choice n taken x y).steps
         → IsFew (Has s h) k (choice n taken x y) (load k x + (load (after k x) y + (33 + bits types h s)))
     choice_few n e a b c m =

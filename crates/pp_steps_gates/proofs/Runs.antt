@@ -26,9 +26,11 @@ use Rattle.pp_steps.specs.Sorted.{Sorts}
 use Rattle.pp_steps_gates.proofs.Calls.{demand_covered, measuring_few, own_answers}
 use Rattle.pp_steps_gates.proofs.Exprs.{expr_covers}
 use Rattle.pp_steps_gates.proofs.Lists.{Answers}
+use Rattle.pp_steps_gates.proofs.Pieces.{Any}
 use Rattle.pp_steps_gates.proofs.Pieces.{IsBit, IsFew, IsMade, bit_choice, gates, gates_of_both, load, load_of_both}
 use Rattle.pp_steps_gates.proofs.Pieces.{made_left, made_right, plain_few}
-use Rattle.pp_steps_gates.proofs.Scopes.{Are, are_join, covered_of}
+use Rattle.pp_steps_gates.proofs.Scopes.{Are, IsOf, covered_of}
+use Rattle.pp_steps_gates.proofs.Aligned.{aligned_join}
 
 module _ (p : Program) (σ : Sorts) (η : Heights) where
   -- whether one of the numbers is true takes at most a choice for each
@@ -40,7 +42,7 @@ module _ (p : Program) (σ : Sorts) (η : Heights) where
       let z = any_of (y ∷ ks) k alive in
       let c = one (steps.Choose x x z.out) (after k z) alive in
       let mc = made_right p.types σ η k z c m in
-      let bit : IsBit p.types σ η (after k z) = sym mc.0.0.1 ∙ mc.0.0.0 in
+      let bit : IsBit σ (after k z) = sym mc.0.0.1 ∙ mc.0.0.0 in
       let one_is = bit_choice p.types σ η (σ (after k z)) (max (η x) (η z.out)) bit in
       let few = any_few (y ∷ ks) k alive (made_left p.types σ η k z c m) in
       let sum_is = gates_of_both p.types σ η k z.steps c.steps in
@@ -51,18 +53,12 @@ module _ (p : Program) (σ : Sorts) (η : Heights) (low : (i : ℕ) → η i ≤
   abbrev L : {A : Type 0} → ℕ → Piece A → ℕ
   L = load p.types σ η
 
-  abbrev Bit : ℕ → Type 0
-  Bit = IsBit p.types σ η
-
   abbrev A : List Shape → Site → Calls → Type 0
   A old site calls = Answers p.types σ η old p.functions site calls
 
-  abbrev Any : ℕ → Type 0
-  Any n = Unit {0}
-
   allowing_few : (asked : Option CheckId) (site : Site) (calls : Calls) → A [] site calls → (o : Option Expr)
       (k : ℕ) (args : List ℕ) (reach : ℕ) (hs : List Shape) (scope : List Sort) → Are p.types σ η args hs scope
-      → Bit reach → is_sorted_pre p.types p.functions o scope ≡ true
+      → IsBit σ reach → is_sorted_pre p.types p.functions o scope ≡ true
       → IsMade p.types σ η k (allowing asked site o k args reach).steps
       → IsFew p.types σ η Any k (allowing asked site o k args reach) (2 * cost (pre_events p.types calls o hs))
   allowing_few asked site calls its None k args reach hs scope are r is m =
@@ -75,7 +71,7 @@ module _ (p : Program) (σ : Sorts) (η : Heights) (low : (i : ℕ) → η i ≤
   finishing_few : (asked : Option CheckId) (site : Site) (calls : Calls) (old : List Shape) → A old site calls
       → (o : Option (CheckId × Expr)) (k : ℕ) (args : List ℕ) (v reach : ℕ) (hs : List Shape) (h : Shape)
       (scope : List Sort) → Are p.types σ η (args ++ v ∷ []) (hs ++ h ∷ []) scope
-      → Bit reach → is_sorted_post p.types p.functions o scope ≡ true
+      → IsBit σ reach → is_sorted_post p.types p.functions o scope ≡ true
       → IsMade p.types σ η k (finishing asked site o k (args ++ v ∷ []) reach).steps
       → IsFew p.types σ η Any k (finishing asked site o k (args ++ v ∷ []) reach)
       (2 * cost (post_events p.types calls o old hs h))
@@ -88,7 +84,7 @@ module _ (p : Program) (σ : Sorts) (η : Heights) (low : (i : ℕ) → η i ≤
       record { out = tt; alive = g.alive; few = g.few }
 
   pub running_few : (asked : Option CheckId) (fuel i : ℕ) (f : Function) → IsWhole p i f → (k : ℕ) (args : List ℕ)
-      (reach : ℕ) (hs : List Shape) → Are p.types σ η args hs (param_sorts f.params) → Bit reach
+      (reach : ℕ) (hs : List Shape) → Are p.types σ η args hs (param_sorts f.params) → IsBit σ reach
       → IsMade p.types σ η k (running (inlined p.functions fuel asked) asked f k args reach).steps
       → L k (running (inlined p.functions fuel asked) asked f k args reach) + 64
       ≤ 2 * cost (frame p.types (own_calls p.types p.functions fuel) f hs).events
@@ -116,7 +112,7 @@ module _ (p : Program) (σ : Sorts) (η : Heights) (low : (i : ℕ) → η i ≤
       (param_sorts f.params) f.result are hy.alive w.body_sorted (made_left p.types σ η j b z mb) in
       let hz = finishing_few asked (sites y.out) calls ns (its y.out ns hy.out) f.post l args b.out b.alive hs v.shape
       (param_sorts f.params ++ f.result ∷ [])
-      (are_join p.types σ η args hs (param_sorts f.params) (b.out ∷ []) (v.shape ∷ []) (f.result ∷ []) are
+      (aligned_join (IsOf p.types σ η) args hs (param_sorts f.params) (b.out ∷ []) (v.shape ∷ []) (f.result ∷ []) are
       (covered_of p.types σ η j b f.result v hb, tt)) hb.alive w.post_sorted (made_right p.types σ η j b z mb) in
       let few_x = hx.few in
       let few_y = hy.few in

@@ -1,7 +1,6 @@
 -- Numbers in scope, each with the sort and at most the height of the shape at its place; and what it means that the
 -- steps of an expression take at most what its visit costs.
-use Rattle.std.proofs.Common.{◌≡◌, ℕ, zero, suc, ◌+◌, ◌*◌, ◌≤◌, List, [], ◌∷◌, ◌++◌, map, Some, None, refl, subst}
-use Rattle.std.proofs.Common.{arith}
+use Rattle.std.proofs.Common.{◌≡◌, ℕ, zero, suc, ◌+◌, ◌*◌, ◌≤◌, List, [], ◌∷◌, map, Some, None, refl, subst, arith}
 use Rattle.std.specs.Prelude.{slice_get, slice_index_or}
 use Rattle.pp_prog.specs.declared.sort.Sort.{Sort}
 use Rattle.pp_prog.specs.declared.sort.Sort.TheVariants as sort
@@ -16,6 +15,7 @@ use Rattle.pp_steps.specs.Compile.{Compiling}
 use Rattle.pp_steps.specs.Gates.{Heights}
 use Rattle.pp_steps.specs.Piece.{Piece}
 use Rattle.pp_steps.specs.Sorted.{Sorts}
+use Rattle.pp_steps_gates.proofs.Aligned.{Aligned}
 use Rattle.pp_steps_gates.proofs.Pieces.{Has, IsBit, IsFew, IsMade, load}
 
 -- ---- costs
@@ -30,8 +30,18 @@ cost_of_look sort.Int = refl
 cost_of_look sort.Bool = refl
 cost_of_look (sort.Tree d) = refl
 
+-- ---- scopes
+
+-- what stands at one place of a scope is so
+pub are_at : (R : ℕ → Shape → Sort → Type 0) (ns : List ℕ) (hs : List Shape) (ss : List Sort) (i : ℕ) (s : Sort)
+    → Aligned R ns hs ss → slice_get ss i ≡ Some s → R (slice_index_or ns i 0) (shape_at hs i) s
+are_at R [] [] [] i s a is = let no : None ≡ Some s = is in cc
+are_at R (n ∷ ns) (h ∷ hs) (t ∷ ss) zero s a is =
+    let same : t ≡ s = (let both : Some t ≡ Some s = is in cc) in subst (λ u. R n h u) same a.0
+are_at R (n ∷ ns) (h ∷ hs) (t ∷ ss) (suc i) s a is = are_at R ns hs ss i s a.1 is
+are_at R ns hs ss i s a is = absurd a
+
 module _ (types : TypeTable) (σ : Sorts) (η : Heights) where
-  -- ---- scopes
 
   -- the number has the sort, which is that of the shape, and at most the height of the shape
   pub record IsOf (n : ℕ) (h : Shape) (s : Sort) : Type 0 where
@@ -40,23 +50,7 @@ module _ (types : TypeTable) (σ : Sorts) (η : Heights) where
 
   -- so has each, and none is left over
   abbrev pub Are : List ℕ → List Shape → List Sort → Type 0
-  Are [] [] [] = Unit {0}
-  Are (n ∷ ns) (h ∷ hs) (s ∷ ss) = IsOf n h s × Are ns hs ss
-  Are ns hs ss = ⊥
-
-  pub are_join : (a : List ℕ) (b : List Shape) (c : List Sort) (d : List ℕ) (e : List Shape) (f : List Sort)
-      → Are a b c → Are d e f → Are (a ++ d) (b ++ e) (c ++ f)
-  are_join [] [] [] d e f h g = g
-  are_join (n ∷ a) (x ∷ b) (s ∷ c) d e f h g = (h.0, are_join a b c d e f h.1 g)
-  are_join a b c d e f h g = absurd h
-
-  pub are_at : (ns : List ℕ) (hs : List Shape) (ss : List Sort) (i : ℕ) (s : Sort) → Are ns hs ss
-      → slice_get ss i ≡ Some s → IsOf (slice_index_or ns i 0) (shape_at hs i) s
-  are_at [] [] [] i s a is = let no : None ≡ Some s = is in cc
-  are_at (n ∷ ns) (h ∷ hs) (t ∷ ss) zero s a is =
-      let same : t ≡ s = (let both : Some t ≡ Some s = is in cc) in subst (λ u. IsOf n h u) same a.0
-  are_at (n ∷ ns) (h ∷ hs) (t ∷ ss) (suc i) s a is = are_at ns hs ss i s a.1 is
-  are_at ns hs ss i s a is = absurd a
+  Are = Aligned IsOf
 
   pub are_as_high : (ns : List ℕ) (hs : List Shape) (ss : List Sort) → Are ns hs ss
       → greatest (map η ns) ≤ tallest hs
@@ -75,7 +69,7 @@ module _ (types : TypeTable) (σ : Sorts) (η : Heights) where
   pub record IsCovered (k : ℕ) (x : Piece ℕ) (s : Sort) (v : Visit) : Type 0 where
     pub shape : v.shape.sort ≡ s
     pub out : Has types σ η s v.shape.height x.out
-    pub alive : IsBit types σ η x.alive
+    pub alive : IsBit σ x.alive
     pub few : load types σ η k x + 64 ≤ 2 * cost v.events
 
   pub covered : (k : ℕ) (x : Piece ℕ) (s : Sort) (v : Visit) (most : ℕ) → v.shape.sort ≡ s
@@ -91,5 +85,5 @@ module _ (types : TypeTable) (σ : Sorts) (η : Heights) where
     abbrev pub Covers : Compiling → Visiting → Sorting → Type 0
     Covers m v t =
         (k : ℕ) (env : List ℕ) (reach : ℕ) (shapes : List Shape) (scope : List Sort) (s : Sort) → Are env shapes scope
-        → IsBit types σ η reach → t scope ≡ Some s → IsMade types σ η k (m k env reach).steps
+        → IsBit σ reach → t scope ≡ Some s → IsMade types σ η k (m k env reach).steps
         → IsCovered k (m k env reach) s (v old shapes)

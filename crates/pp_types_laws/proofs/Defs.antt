@@ -91,7 +91,8 @@ module _ (declared : Declared) (defs : List TypedDef)
     post_well no_post ok h ints = tt
     post_well {sc} {s} (a_post {t = u} p free written claim is) ok h ints =
         let w = well declared defs params function source functions ctors claim
-        (ranges_with declared defs params function source functions ctors sc p.name s ok h) (open_expectable refl) ints in
+        (ranges_with declared defs params function source functions ctors sc p.name s ok h) (open_expectable refl)
+        ints in
         (subst (λ l. IsSorted t m l u) (sorts_append sc p.name s) w.is_sorted, is)
 
   -- what the parameters of a function are

@@ -8,8 +8,8 @@ use Rattle.pp_list.specs.Joined.{joined}
 use Rattle.pp_instances.specs.Uses.{mentions, post_mentions, text_mentions}
 use Rattle.pp_instances.specs.declared.member.Instance.{Instance}
 use Rattle.pp_instances.specs.declared.member.Member.{Member}
-use Rattle.pp_prog.specs.ExprSorts.{binary_sort, has_the_sort, is_of_sort, is_sorted, is_sorted_measure, is_sorted_post}
-use Rattle.pp_prog.specs.ExprSorts.{is_sorted_pre, sort_of}
+use Rattle.pp_prog.specs.ExprSorts.{binary_sort, has_the_sort, is_of_sort, is_sorted, is_sorted_measure}
+use Rattle.pp_prog.specs.ExprSorts.{is_sorted_post, is_sorted_pre, sort_of}
 use Rattle.pp_prog.specs.Listing.{Site, function_sites, measure_sites, plain, post_sites, postcondition, pre_sites}
 use Rattle.pp_prog.specs.Listing.{sites}
 use Rattle.pp_prog.specs.Sorts.{param_sorts as sorts_of_params, sort_of_param as sort_of_prog_param, same_sort}
@@ -40,11 +40,11 @@ use Rattle.pp_typed.specs.declared.typed.Typed.{Typed}
 use Rattle.pp_typed.specs.declared.typed.TypedDef.{TypedDef}
 use Rattle.pp_typed.specs.declared.typed.TypedPost.{TypedPost}
 use Rattle.pp_list.proofs.Joined.{joined_push}
-use Rattle.pp_validity.proofs.Carried.{IsGrouped, lists_all, lists_expr}
+use Rattle.pp_validity.proofs.Carried.{lists_all, lists_expr}
 use Rattle.pp_validity.proofs.Exprs.{sorted_all, sorted_expr, split}
 use Rattle.pp_prog.proofs.SortForms.{Sorted, sort_of_binary}
 use Rattle.pp_validity.proofs.Ground.{sort_at_bool}
-use Rattle.pp_validity.proofs.Known.{HasTypes, IsKnown}
+use Rattle.pp_validity.proofs.Known.{HasTypes, IsGrouped, IsKnown}
 use Rattle.pp_validity.proofs.Listed.{Lists, lists_append, lists_none, lists_same, one_if, plain_site}
 use Rattle.pp_prog.proofs.ValueSorts.{its_sort}
 use Rattle.pp_validity.proofs.Patterns.{map_map}
@@ -78,18 +78,8 @@ module _ (typed : Typed) (set : Setting) (ms : List Member) (fs : List Function)
   abbrev sc : List Sort
   sc = map G scope
 
-  abbrev L : List Site → List Offset → List CheckAt → List CheckAt → Type 0
-  L = Lists set.types fs own.number
-
   abbrev In : Expr → List Site
   In x = sites set.types fs x sc
-
-  two : (s t : List Site) (o p : List Offset) (old mid new : List CheckAt) → L s o old mid → L t p mid new
-      → L (s ++ t) (o ++ p) old new
-  two s t o p old mid new a b = lists_append set.types fs own.number s t o p old mid new a b
-
-  same : (s t : List Site) (o p : List Offset) (old new : List CheckAt) → t ≡ s → p ≡ o → L s o old new → L t p old new
-  same s t o p old new e q h = lists_same set.types fs own.number s t o p old new e q h
 
   -- ---- the sorts of lists
 
@@ -151,18 +141,18 @@ module _ (typed : Typed) (set : Setting) (ms : List Member) (fs : List Function)
   record ListsOne (x : Expr) (s t : Listed) : Type 0 where
     at : List Offset
     follow : t.0 ≡ s.0 ++ at
-    lists : L (In x) at s.1 t.1
+    lists : Lists set fs own (In x) at s.1 t.1
 
   both_list : (a b : Expr) (s t u : Listed) → ListsOne a s t → ListsOne b t u
       → ListsOne (prog.Binary AndAlso a b None) s u
   both_list a b s t u h k = record {
     at = h.at ++ k.at;
     follow = k.follow ∙ ap (λ (l : List Offset). l ++ k.at) h.follow ∙ append_assoc s.0 h.at k.at;
-    lists = same (In a ++ In b ++ plain None ∷ []) (In (prog.Binary AndAlso a b None)) (h.at ++ k.at ++ [])
-        (h.at ++ k.at) s.1 u.1
+    lists = lists_same set fs own (In a ++ In b ++ plain None ∷ []) (In (prog.Binary AndAlso a b None))
+        (h.at ++ k.at ++ []) (h.at ++ k.at) s.1 u.1
         (sites_binary set.types fs sc AndAlso a b None) (sym (append-nil (h.at ++ k.at)))
-        (two (In a ++ In b) (plain None ∷ []) (h.at ++ k.at) [] s.1 u.1 u.1
-        (two (In a) (In b) h.at k.at s.1 t.1 u.1 h.lists k.lists) (plain_site set.types fs own.number u.1));
+        (lists_append set fs own (In a ++ In b) (plain None ∷ []) (h.at ++ k.at) [] s.1 u.1 u.1
+        (lists_append set fs own (In a) (In b) h.at k.at s.1 t.1 u.1 h.lists k.lists) (plain_site set fs own u.1));
   }
 
   each_lists : {es : List TypedExpr} {xs : List Expr} {old new : List CheckAt} {ss : List GenericSort}
@@ -180,17 +170,17 @@ module _ (typed : Typed) (set : Setting) (ms : List Member) (fs : List Function)
       })
 
   one_lists : (o : Option Expr) (at : List Offset) (old new : List CheckAt) → LeadsIf ListsOne o ([], old) (at, new)
-      → L (pre_sites set.types fs o sc) at old new
+      → Lists set fs own (pre_sites set.types fs o sc) at old new
   one_lists None at old new h =
-      same [] [] [] at old new refl (sym (ap (λ (l : Listed). l.0) h))
-      (subst (λ (l : List CheckAt). L [] [] old l) (ap (λ (l : Listed). l.1) h)
-      (lists_none set.types fs own.number old))
-  one_lists (Some x) at old new h = same (In x) (In x) h.at at old new refl h.follow h.lists
+      lists_same set fs own [] [] [] at old new refl (sym (ap (λ (l : Listed). l.0) h))
+      (subst (λ (l : List CheckAt). Lists set fs own [] [] old l) (ap (λ (l : Listed). l.1) h)
+      (lists_none set fs own old))
+  one_lists (Some x) at old new h = lists_same set fs own (In x) (In x) h.at at old new refl h.follow h.lists
 
   pre_lists : {es : List TypedExpr} {xs : List Expr} {old new : List CheckAt} {ss : List GenericSort}
       → TranslateAll typed set own es xs old new
       → AreSorted typed d.type_params scope ss es → Within ms own.args (joined (map mentions es))
-      → L (pre_sites set.types fs (as_one xs) sc) (joined (map site_offsets es)) old new
+      → Lists set fs own (pre_sites set.types fs (as_one xs) sc) (joined (map site_offsets es)) old new
   pre_lists {es} {xs} {old} {new} t h w =
       one_lists (as_one xs) (joined (map site_offsets es)) old new (as_one_leads ListsOne both_list (each_lists t h w))
 
@@ -261,18 +251,19 @@ module _ (typed : Typed) (set : Setting) (ms : List Member) (fs : List Function)
   post_lists : {q : Option TypedPost} {p : Option (CheckId × Expr)} {source : ℕ} {old new : List CheckAt} (f : Function)
       → f.result ≡ G d.result
       → TranslatesPost typed set own source q p old new → IsPost typed d q → Within ms own.args (post_mentions q)
-      → L (post_sites set.types fs p f.result sc) (post_offsets source q) old new
-  post_lists {old = old} f r no_post h w = lists_none set.types fs own.number old
+      → Lists set fs own (post_sites set.types fs p f.result sc) (post_offsets source q) old new
+  post_lists {old = old} f r no_post h w = lists_none set fs own old
   post_lists {source = source} {old = old} f r (one_post {post = post} {claim = claim} {new = mid} t) h w =
       let site = postcondition (record { 0 = length mid }) in
       let c = post_check typed set own source post.at in
-      same (sites set.types fs claim (map G with_result) ++ site ∷ []) _
+      lists_same set fs own (sites set.types fs claim (map G with_result) ++ site ∷ []) _
       (site_offsets post.claim ++ (source, post.at) ∷ []) _ old (mid ++ c ∷ [])
       (ap (λ l. sites set.types fs claim l ++ site ∷ []) (result_in f r)) refl
-      (two (sites set.types fs claim (map G with_result)) (site ∷ []) (site_offsets post.claim) ((source, post.at) ∷ [])
+      (lists_append set fs own (sites set.types fs claim (map G with_result)) (site ∷ []) (site_offsets post.claim)
+      ((source, post.at) ∷ [])
       old mid (mid ++ c ∷ [])
       (lists_expr typed set ms fs known own grouped d.type_params own_types t h.0 w)
-      (one_if set.types fs own.number site check.Postcondition true c mid refl refl refl refl refl tt))
+      (one_if set fs own site check.Postcondition true c mid refl refl refl refl refl tt))
 
   -- the function is sorted
   pub def_sorted : {texts : List (List ℕ)} {i : Instance} {f : Function} {old new : List CheckAt}
@@ -281,8 +272,8 @@ module _ (typed : Typed) (set : Setting) (ms : List Member) (fs : List Function)
   def_sorted {f = f} t h w =
       let parts = parts_of w in
       let pre = sorted_all typed set ms fs known own d.type_params own_types t.pre.each (bools d.pre h.pre) parts.pre in
-      let measure = sorted_all typed set ms fs known own d.type_params own_types t.measure (exprs_sorted d.measure h.measure)
-      parts.measure in
+      let measure = sorted_all typed set ms fs known own d.type_params own_types t.measure
+      (exprs_sorted d.measure h.measure) parts.measure in
       let body = sorted_expr typed set ms fs known own d.type_params own_types t.body h.body.0 parts.body in
       ap (λ (l : List Sort). is_sorted_pre set.types fs f.pre l &&
       (is_sorted_measure set.types fs f.measure l &&
@@ -297,7 +288,7 @@ module _ (typed : Typed) (set : Setting) (ms : List Member) (fs : List Function)
   -- its sites are listed in order
   pub def_lists : {texts : List (List ℕ)} {i : Instance} {f : Function} {old new : List CheckAt}
       → TranslatesDef typed set own texts i d f old new → IsDef typed d
-      → Within ms own.args (text_mentions d) → L (function_sites set.types fs f) (def_offsets d) old new
+      → Within ms own.args (text_mentions d) → Lists set fs own (function_sites set.types fs f) (def_offsets d) old new
   def_lists {f = f} {old = old} {new = new} t h w =
       let parts = parts_of w in
       let pre = pre_lists t.pre.each (bools d.pre h.pre) parts.pre in
@@ -309,13 +300,15 @@ module _ (typed : Typed) (set : Setting) (ms : List Member) (fs : List Function)
       let b = joined (map In f.measure) in
       let o = joined (map site_offsets d.pre) in
       let p = joined (map site_offsets d.measure) in
-      same (a ++ b ++ In f.body ++ post_sites set.types fs f.post f.result sc) _ (def_offsets d) _ old new
+      lists_same set fs own (a ++ b ++ In f.body ++ post_sites set.types fs f.post f.result sc) _ (def_offsets d) _
+      old new
       (ap (λ (l : List Sort). pre_sites set.types fs f.pre l ++ measure_sites set.types fs f.measure l ++ sites
       set.types fs f.body l ++ post_sites set.types fs f.post f.result l) (scope_is f t.params)
       ∙ ap (λ (z : Option Expr). pre_sites set.types fs z sc ++ measure_sites set.types fs f.measure sc ++ In f.body ++
       post_sites set.types fs f.post f.result sc) t.pre.one
       ∙ ap (λ l. a ++ l ++ In f.body ++ post_sites set.types fs f.post f.result sc) (measure_in f.measure)) refl
-      (two (a ++ b ++ In f.body) (post_sites set.types fs f.post f.result sc) (o ++ p ++ site_offsets d.body)
+      (lists_append set fs own (a ++ b ++ In f.body) (post_sites set.types fs f.post f.result sc)
+      (o ++ p ++ site_offsets d.body)
       (post_offsets d.source d.post) old t.after_body new
-      (two (a ++ b) (In f.body) (o ++ p) (site_offsets d.body) old t.after_measure t.after_body
-      (two a b o p old t.after_pre t.after_measure pre measure) body) post)
+      (lists_append set fs own (a ++ b) (In f.body) (o ++ p) (site_offsets d.body) old t.after_measure t.after_body
+      (lists_append set fs own a b o p old t.after_pre t.after_measure pre measure) body) post)

@@ -1,14 +1,18 @@
 -- What is known of the numbers of a program whose members are closed: each instance that is used is found.
 use Rattle.std.proofs.Common.{◌≡◌, ℕ, List, [], ◌∷◌, map, length}
-use Rattle.std.specs.Prelude.{Some, slice_get, Contains}
+use Rattle.std.specs.Prelude.{◌↔◌, IsTrue, Some, slice_get, Contains}
 use Rattle.pp_instances.specs.Same.{place_of}
 use Rattle.pp_instances.specs.Uses.{function_at, root_at, types_in}
 use Rattle.pp_instances.specs.declared.member.Member.{Member}
+use Rattle.pp_prog.specs.Calls.{OneGroup}
 use Rattle.pp_prog.specs.Sorts.{param_sorts as sorts_of_params}
+use Rattle.pp_prog.specs.Valid.{has_measure, has_precondition}
 use Rattle.pp_prog.specs.declared.expr.Function.{Function}
 use Rattle.pp_prog.specs.declared.types.Datatype.{Datatype}
 use Rattle.pp_translation.specs.Numbers.{ctor_at, ctor_number, function_number, sort_at}
+use Rattle.pp_translation.specs.Numbered.{has_measure as has_typed_measure, has_pre, same_number}
 use Rattle.pp_translation.specs.Setting.{Setting}
+use Rattle.pp_translation.specs.declared.frame.Frame.{Frame}
 use Rattle.pp_typed.specs.InRange.{AreInRange, IsInRange}
 use Rattle.pp_typed.specs.Put.{put}
 use Rattle.pp_typed.specs.Sorted.{ctors_of, param_sorts}
@@ -57,3 +61,17 @@ pub record IsKnown (typed : Typed) (set : Setting) (ms : List Member) (fs : List
       → AreInRange typed.roots d.type_params (param_sorts d.params) × IsInRange typed.roots d.type_params d.result
   pub whole : (r : ℕ) (root : TypedRoot) (args : List GenericSort) → slice_get typed.roots r ≡ Some root
       → Contains ms (root_at r args) → length args ≡ root.type_params
+
+-- what is known of the contracts and the groups of the functions of a program
+pub record IsGrouped (typed : Typed) (set : Setting) (ms : List Member) (fs : List Function) (own : Frame) : Type 0
+  where
+    pub pres : (f : ℕ) (d : TypedDef) (args : List GenericSort) → slice_get typed.defs f ≡ Some d
+        → Contains ms (function_at f args)
+        → has_precondition (slice_get fs (function_number set.functions f args).0) ≡ has_pre (slice_get typed.defs f)
+    pub measures : (f : ℕ) (d : TypedDef) (args : List GenericSort) → slice_get typed.defs f ≡ Some d
+        → Contains ms (function_at f args)
+        → has_measure (slice_get fs (function_number set.functions f args).0)
+        ≡ has_typed_measure (slice_get typed.defs f)
+    pub measured : own.measured ≡ has_measure (slice_get fs own.number)
+    pub grouped : (g : ℕ) (h : Function) → slice_get fs g ≡ Some h
+        → IsTrue (same_number (slice_get set.groups own.number) (slice_get set.groups g)) ↔ OneGroup fs own.number g

@@ -8,6 +8,7 @@ pub mod Exprs
 pub mod Bared
 pub mod Listed
 pub mod Sites
+pub mod FormSites
 pub mod Carried
 pub mod BareDefs
 pub mod Defs

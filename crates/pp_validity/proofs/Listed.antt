@@ -12,10 +12,11 @@ use Rattle.pp_prog.specs.Valid.{Carries}
 use Rattle.pp_prog.specs.declared.check.CheckKind.{CheckKind}
 use Rattle.pp_prog.specs.declared.expr.Function.{Function}
 use Rattle.pp_prog.specs.declared.id.CheckId.{CheckId}
-use Rattle.pp_prog.specs.declared.types.TypeTable.{TypeTable}
 use Rattle.pp_translation.specs.Numbered.{more_if, number_if}
 use Rattle.pp_translation.specs.Places.{for_each, told}
+use Rattle.pp_translation.specs.Setting.{Setting}
 use Rattle.pp_translation.specs.declared.frame.CheckAt.{CheckAt}
+use Rattle.pp_translation.specs.declared.frame.Frame.{Frame}
 use Rattle.pp_typed.specs.Stand.{Offset}
 
 -- the sites that can fail, counted
@@ -83,7 +84,7 @@ pub joined_append : {A : Type 0} (a b : List (List A)) → joined (a ++ b) ≡ j
 joined_append [] b = refl
 joined_append (x ∷ a) b = ap (λ l. x ++ l) (joined_append a b) ∙ sym (append_assoc x (joined a) (joined b))
 
-module _ (types : TypeTable) (fs : List Function) (f : ℕ) where
+module _ (set : Setting) (fs : List Function) (own : Frame) where
   -- the checks of these sites come after the old ones, numbered in order, at these offsets, and each site carries what
   -- it should
   pub record Lists (ss : List Site) (os : List Offset) (old new : List CheckAt) : Type 0 where
@@ -92,8 +93,8 @@ module _ (types : TypeTable) (fs : List Function) (f : ℕ) where
     pub entries : joined (map carried ss) ≡ numbers_from (length old) more
     pub places : told ss os ≡ map offset_of more
     pub even : count ss ≡ length os
-    pub owned : (c : CheckAt) → Contains more c → c.function ≡ f
-    pub carry : (s : Site) → Contains ss s → Carries types fs f s
+    pub owned : (c : CheckAt) → Contains more c → c.function ≡ own.number
+    pub carry : (s : Site) → Contains ss s → Carries set.types fs own.number s
 
   pub lists_none : (old : List CheckAt) → Lists [] [] old old
   lists_none old = record {
@@ -133,28 +134,29 @@ module _ (types : TypeTable) (fs : List Function) (f : ℕ) where
   only P x h y c = ⊎_elim (λ no. absurd (nothing_in y no)) (λ e. subst P e h) (Contains-push_cases [] x y c)
 
   -- a site whose check is there where the test holds
-  pub one_if : (site : Site) (k : CheckKind) (b : Bool) (c : CheckAt) (cs : List CheckAt) → c.kind ≡ k → c.function ≡ f
+  pub one_if : (site : Site) (k : CheckKind) (b : Bool) (c : CheckAt) (cs : List CheckAt) → c.kind ≡ k → c.function
+      ≡ own.number
       → carried site ≡ as_kind k (number_if b cs)
       → told (site ∷ []) (offset_of c ∷ []) ≡ for_each (carried site) (offset_of c) ++ [] → count (site ∷ []) ≡ 1
-      → Carries types fs f site
+      → Carries set.types fs own.number site
       → Lists (site ∷ []) (offset_of c ∷ []) cs (more_if b c cs)
-  one_if site k true c cs is own are at one carry = record {
+  one_if site k true c cs is by are at one carry = record {
     more = c ∷ [];
     is = refl;
     entries = ap (λ l. l ++ []) are ∙ ap (λ z. (record { 0 = length cs }, z) ∷ []) (sym is);
     places = at ∙ ap (λ l. for_each l (offset_of c) ++ []) are;
     even = one;
-    owned = λ d h. only (λ z. z.function ≡ f) c own d h;
-    carry = λ s h. only (Carries types fs f) site carry s h;
+    owned = λ d h. only (λ z. z.function ≡ own.number) c by d h;
+    carry = λ s h. only (Carries set.types fs own.number) site carry s h;
   }
-  one_if site k false c cs is own are at one carry = record {
+  one_if site k false c cs is by are at one carry = record {
     more = [];
     is = sym (append-nil cs);
     entries = ap (λ l. l ++ []) are;
     places = at ∙ ap (λ l. for_each l (offset_of c) ++ []) are;
     even = one;
     owned = λ d h. absurd (nothing_in d h);
-    carry = λ s h. only (Carries types fs f) site carry s h;
+    carry = λ s h. only (Carries set.types fs own.number) site carry s h;
   }
 
   pub plain_site : (cs : List CheckAt) → Lists (plain None ∷ []) [] cs cs
@@ -165,5 +167,5 @@ module _ (types : TypeTable) (fs : List Function) (f : ℕ) where
     places = refl;
     even = refl;
     owned = λ d h. absurd (nothing_in d h);
-    carry = λ s h. only (Carries types fs f) (plain None) refl s h;
+    carry = λ s h. only (Carries set.types fs own.number) (plain None) refl s h;
   }

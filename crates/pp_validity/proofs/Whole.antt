@@ -28,10 +28,9 @@ use Rattle.pp_typed.specs.WellSorted.{IsDef}
 use Rattle.pp_typed.specs.declared.sort.GenericSort.{GenericSort}
 use Rattle.pp_typed.specs.declared.typed.Typed.{Typed}
 use Rattle.pp_typed.specs.declared.typed.TypedDef.{TypedDef}
-use Rattle.pp_validity.proofs.Carried.{IsGrouped}
 use Rattle.pp_validity.proofs.BareDefs.{def_bare, functions_push}
 use Rattle.pp_validity.proofs.Defs.{def_lists, def_sorted}
-use Rattle.pp_validity.proofs.Known.{HasTypes, IsKnown}
+use Rattle.pp_validity.proofs.Known.{HasTypes, IsGrouped, IsKnown}
 use Rattle.pp_validity.proofs.Listed.{numbers_from, offset_of}
 use Rattle.pp_validity.proofs.Placed.{before}
 use Rattle.pp_validity.proofs.Within.{Within}

@@ -1,4 +1,4 @@
-use Rattle.std.proofs.Common.{◌≡◌, ◌∙◌, ◌+◌, ◌*◌, ◌≤◌, ℕ, suc, min, List, [], ◌∷◌, length, sym, ap, arith, subst}
+use Rattle.std.proofs.Common.{◌≡◌, ◌∙◌, ◌+◌, ◌*◌, suc, min, List, [], ◌∷◌, length, sym, ap, arith, subst, le_refl}
 use Rattle.pp_prog.specs.declared.sort.Sort.{Sort}
 use Rattle.pp_prog.specs.declared.sort.Sort.TheVariants as sort
 use Rattle.pp_gate.specs.declared.gate.Gate.{Gate}
@@ -26,13 +26,10 @@ use Rattle.pp_bounded_trees.proofs.Reading.{rank}
 use Rattle.pp_bounded_equal.proofs.SearchTree.{BelowBefore_next, BelowBefore_none, below_all, ctors_nodes_grow}
 use Rattle.pp_bounded_equal.proofs.SearchTree.{ctors_nodes_next, nodes_some, one_side, own_in_block, side_nodes}
 use Rattle.pp_bounded_equal.proofs.SearchTree.{times_grow, times_one, times_plus}
-use Rattle.pp_bounded_equal.proofs.Searching.{AreUnderTest_leaf, AreUnderTest_push, under_apart, under_bit, under_field}
-use Rattle.pp_bounded_equal.proofs.Searching.{under_same, under_word}
+use Rattle.pp_bounded_equal.proofs.Searching.{AreUnderTest_leaf, AreUnderTest_push, under_apart, under_bit}
+use Rattle.pp_bounded_equal.proofs.Searching.{under_field, under_same, under_word}
 use Rattle.pp_bounded_merge.proofs.Sides.{alternatives_moved, nil_from, side_data, side_read, side_high}
 use Rattle.pp_bounded_equal.proofs.below.+below.Goals as goal
-
-same_or_less : (n : ℕ) → n ≤ n
-same_or_less n = omega arith
 
 -- ---- one constructor
 
@@ -422,14 +419,14 @@ under_tree-returns-in_err-under-clause-adds t c =
     let grow = bits_grow c.args.table.now (min c.args.new.now.height c.args.old.now.height) c.args.new.now.height
     (sort.Tree c.args.new.now.of) (omega arith) in
     AddsGates_more _ _ _ _ 1 _ (AddsGates_more _ _ _ _ _ _ c.in_ok-below.ensures.adds c.in_ok-same.ensures.adds
-    (same_or_less _)) c.in_err-under.ensures.adds (omega arith)
+    (le_refl _)) c.in_err-under.ensures.adds (omega arith)
 
 pub under_tree-returns-clause-adds : goal.under_tree-returns-clause-adds
 under_tree-returns-clause-adds t c =
     let grow = bits_grow c.args.table.now (min c.args.new.now.height c.args.old.now.height) c.args.new.now.height
     (sort.Tree c.args.new.now.of) (omega arith) in
     AddsGates_more _ _ _ _ 1 _ (AddsGates_more _ _ _ _ _ _ c.in_ok-below.ensures.adds c.in_ok-same.ensures.adds
-    (same_or_less _)) c.in_ok-under.ensures.adds (omega arith)
+    (le_refl _)) c.in_ok-under.ensures.adds (omega arith)
 
 pub under_tree-returns-clause-test : goal.under_tree-returns-clause-test
 under_tree-returns-clause-test t c =

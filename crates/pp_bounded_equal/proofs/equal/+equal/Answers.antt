@@ -1,4 +1,4 @@
-use Rattle.std.proofs.Common.{◌≡◌, ◌∙◌, ◌+◌, ◌≤◌, ℕ, suc, List, [], ◌∷◌, ◌++◌, length, take, Option, Some, None, sym}
+use Rattle.std.proofs.Common.{◌≡◌, ◌∙◌, ◌+◌, suc, List, [], ◌∷◌, ◌++◌, length, take, Option, Some, None, sym, le_refl}
 use Rattle.std.proofs.Common.{ap, arith, subst}
 use Rattle.std.proofs.lemmas.List.{take_all}
 use Rattle.pp_prog.specs.declared.types.TypeTable.{TypeTable}
@@ -26,9 +26,6 @@ use Rattle.pp_bounded_trees.proofs.Reading.{value_there}
 use Rattle.pp_bounded_merge.proofs.Sides.{AreOfSorts_later, alternatives_moved, nil_from, pair_at, pair_read}
 use Rattle.pp_bounded_merge.proofs.Sides.{right_within, side_data, side_read, whole_right}
 use Rattle.pp_bounded_equal.proofs.equal.+equal.Goals as goal
-
-same_or_less : (n : ℕ) → n ≤ n
-same_or_less n = omega arith
 
 -- ---- one constructor
 
@@ -281,7 +278,7 @@ equal_fields-returns-in_err-all-clause-adds t c =
     pair.second (sym c.has_none.ensures ∙ c.if-has_none.false)
     (sym c.has_none-in-loop-place.ensures ∙ c.if-has_none-2.false) in
     AddsGates_more _ _ _ _ 1 _ (AddsGates_more _ _ _ _ _ _ c.loop-place.invariant.adds c.in_ok-same.ensures.adds
-    (same_or_less _)) c.in_err-all.ensures.adds (omega arith)
+    (le_refl _)) c.in_err-all.ensures.adds (omega arith)
 
 pub equal_fields-loop-place-preserved : goal.equal_fields-loop-place-preserved
 equal_fields-loop-place-preserved t c =
@@ -299,7 +296,7 @@ equal_fields-loop-place-preserved t c =
     let ys = take_next c.args.right.now c.loop-place.place _ read.there in
     record {
       adds = AddsGates_more _ _ _ _ 1 _ (AddsGates_more _ _ _ _ _ _ now.adds c.in_ok-same.ensures.adds
-          (same_or_less _)) c.in_ok-all.ensures.adds (omega arith);
+          (le_refl _)) c.in_ok-all.ensures.adds (omega arith);
       test = subst (λ (zs : List (Symbol BoundedTree)). AreEqualFields c.args.trees.now c.and.new.self c.args.both
           c.args.both zs (take (c.loop-place.place + 1) c.args.right.now) c.in_ok-all.all) (sym xs)
           (subst (λ (zs : List (Symbol BoundedTree)). AreEqualFields c.args.trees.now c.and.new.self c.args.both
