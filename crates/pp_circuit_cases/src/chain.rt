@@ -6,62 +6,40 @@ ghost use Rattle.pp_gate.specs.Growth.{Grows, AddsGates};
 
 use pp_clause::Lit;
 use pp_gate::{Circuit, NoMemory};
-use std::alloc::Global;
+use pp_wordgate::{mul, unknown};
 
-/// A circuit of three inputs and four gates a turn, each over the newest literals, so that none is shared. Each gate
-/// may be asked for twice.
-pub fn built(alloc: Global, size: u32, twice: bool) -> Result<Circuit, NoMemory>
-    requires { size ≤ 2 ^ 27 }
-{
-    let mut circuit = Circuit::new(alloc)?;
-    add_turns(&mut circuit, size / 4, twice)?;
-    Ok(circuit)
-}
-
-/// The inputs and gates of so many turns, in a circuit that has none yet.
-fn add_turns(circuit: &mut Circuit, turns: u32, twice: bool) -> Result<(), NoMemory>
+/// Adds three inputs and four gates a turn, each over the newest literals, so that none is shared, to a circuit that
+/// has no gates yet. Each gate may be asked for twice.
+pub fn add_turns(circuit: &mut Circuit, turns: u32, twice: bool) -> Result<(), NoMemory>
     requires new { length circuit.old ≡ 1 }
     requires turns { turns ≤ 2 ^ 25 }
 {
-    let start = inputs(circuit)?;
-    grow(circuit, &start, turns)?;
+    let _inputs = pp_bits::inputs(circuit, 3)?;
     if twice {
-        grow(circuit, &start, turns)?;
+        grow(circuit, turns)?;
     }
-    Ok(())
+    grow(circuit, turns)
 }
 
 /// The literals of one turn.
 #[derive(Clone, Copy)]
-pub struct Newest {
-    pub a: Lit,
-    pub b: Lit,
-    pub c: Lit,
+struct Newest {
+    a: Lit,
+    b: Lit,
+    c: Lit,
 }
 
-/// Three inputs.
-fn inputs(circuit: &mut Circuit) -> Result<Newest, NoMemory>
-    requires room { length circuit.old + 3 ≤ 2 ^ 30 }
-    ensures count { IfOk result (λ _. length circuit.new ≡ length circuit.old + 3) }
-    ensures first { IfOk result (λ r. IsOf circuit.new r.a) }
-    ensures second { IfOk result (λ r. IsOf circuit.new r.b) }
-    ensures third { IfOk result (λ r. IsOf circuit.new r.c) }
-{
-    let a = circuit.input()?;
-    let b = circuit.input()?;
-    let c = circuit.input()?;
-    Ok(Newest { a, b, c })
-}
-
-/// One gate of each kind in each turn.
-fn grow(circuit: &mut Circuit, start: &Newest, turns: u32) -> Result<(), NoMemory>
+/// One gate of each kind in each turn, from the three inputs on.
+fn grow(circuit: &mut Circuit, turns: u32) -> Result<(), NoMemory>
+    requires inputs { 4 ≤ length circuit.old }
     requires room { length circuit.old + 4 * turns ≤ 2 ^ 30 }
-    requires first { IsOf circuit.old start.now.a }
-    requires second { IsOf circuit.old start.now.b }
-    requires third { IsOf circuit.old start.now.c }
     ensures grows { Grows circuit.old circuit.new (4 * turns) }
 {
-    let mut last = *start;
+    let mut last = Newest {
+        a: Lit::new(2, true),
+        b: Lit::new(3, true),
+        c: Lit::new(4, true),
+    };
     for turn in 0..turns {
         last = linked(circuit, last)?;
     }
@@ -88,4 +66,17 @@ fn linked(circuit: &mut Circuit, last: Newest) -> Result<Newest, NoMemory>
         b: most,
         c: both,
     })
+}
+
+/// Multiplies a word so many times, in a circuit that has no gates yet.
+pub fn multiply(circuit: &mut Circuit, count: u32) -> Result<(), NoMemory>
+    requires new { length circuit.old ≡ 1 }
+    requires count { count ≤ 2 ^ 16 }
+{
+    let mut product = unknown(circuit)?;
+    let factor = unknown(circuit)?;
+    for turn in 0..count {
+        product = mul(circuit, product, factor)?;
+    }
+    Ok(())
 }

@@ -1,145 +1,198 @@
-//! The truth tables of a circuit's calls. Each line of the file is a call: its name and three operands, of
-//! which the first is the choice of `mux` or the first of `majority`. An operand is a number below 8: twice the place
-//! of a variable among the constant and three inputs, and one more for the negation. The line that is printed for it
-//! has the call, the answer's values from all inputs false to all true, the number of gates and that of clauses; and
-//! then, after the same call with the operands turned round, the first as the last, the number of gates and that of
-//! the clauses of what the answer stands on.
+//! The truth tables of a circuit's calls. A case is a call: its name and three operands, of which the first is the
+//! choice of `mux` or the first of `majority`. An operand is a number below 8: twice the place of a variable among the
+//! constant and three inputs, and one more for the negation. The answer has the call's values from all inputs false to
+//! all true (2 where a clause is false there), the number of gates and that of clauses; and then, after the same call
+//! with the operands turned round, the first as the last, the number of gates and that of the clauses of what the
+//! answer stands on.
 //!
-//! A line with `word` in the place of a call has the 32 literals of a word printed, as operands: the second operand,
-//! the first one thirty times, and the third. `laws` calls the functions that only state theorems.
+//! A case with `word` in the place of a call has the 32 literals of a word as its answer, as operands: the second
+//! operand, the first one thirty times, and the third.
 
-mod call;
-mod word;
+ghost use Rattle.std.specs.Prelude.{◌≡◌, ◌+◌, ◌<◌, ◌≤◌, ◌^◌, length, IfOk};
+ghost use Rattle.pp_gate.specs.Circuit.{IsOf, IsWithin};
+ghost use Rattle.pp_gate.specs.Growth.{Grows};
 
-use anyhow::{Context, Result, ensure};
-use call::{Operands, apply};
-use pp_clause::{Assignment, Clauses, Lit};
-use pp_gate::{Circuit, laws};
+use crate::numbers::numbers;
+use anyhow::{Result, ensure};
+use pp_clause::{Assignment, Clauses, Lit, NoMemory};
+use pp_gate::{Circuit, Word};
 use std::alloc::Global;
-use word::print_word;
 
 /// How many operands there are: the constant, three inputs and their negations.
 const OPERANDS: u32 = 8;
 
-/// Prints what a line asks for.
-pub fn print_line(rt: &impl Print, alloc: Global, line: &str) -> Result<()> {
-    match line {
-        "laws" => print_laws(rt),
-        row => print_row(rt, alloc, row),
+/// The operands of a call; those of two take `a` and `b`.
+#[derive(Clone, Copy)]
+struct Operands {
+    c: Lit,
+    a: Lit,
+    b: Lit,
+}
+
+/// The answer to a case.
+pub fn answer(alloc: Global, name: &str, numbers: &str) -> Result<String> {
+    let on = operands_of(numbers)?;
+    let mut line = String::from_str(alloc, ":")?;
+    push_answer(&mut line, alloc, name, on)?;
+    Ok(line)
+}
+
+/// The operands of these numbers.
+fn operands_of(text: &str) -> Result<Operands>
+    ensures choice { IfOk result (λ r. IsWithin 4 r.c) }
+    ensures left { IfOk result (λ r. IsWithin 4 r.a) }
+    ensures right { IfOk result (λ r. IsWithin 4 r.b) }
+{
+    let [c, a, b] = numbers(text)?;
+    ensure!(
+        c < OPERANDS && a < OPERANDS && b < OPERANDS,
+        "no such operand"
+    );
+    Ok(Operands {
+        c: literal(c),
+        a: literal(a),
+        b: literal(b),
+    })
+}
+
+/// Adds the answer to a case.
+fn push_answer(line: &mut String, alloc: Global, name: &str, on: Operands) -> Result<(), NoMemory>
+    requires choice { IsWithin 4 on.c }
+    requires left { IsWithin 4 on.a }
+    requires right { IsWithin 4 on.b }
+{
+    match name {
+        "word" => push_word(line, on),
+        _ => push_table(line, alloc, name, on),
     }
 }
 
 /// The literal of an operand's number.
-fn operand(word: Option<&str>) -> Result<Lit> {
-    let number = word
-        .context("an operand")?
-        .parse::<u32>()
-        .context("an operand")?;
-    ensure!(number < OPERANDS, "no operand {number}");
-    Ok(Lit::new(number / 2 + 1, number % 2 == 0))
+fn literal(number: u32) -> Lit
+    requires { number < 8 }
+    ensures { IsWithin 4 result }
+{
+    Lit::new(number / 2 + 1, number % 2 == 0)
 }
 
-/// A circuit with three inputs.
-fn with_inputs(alloc: Global) -> Result<Circuit> {
-    let mut circuit = Circuit::new(alloc)?;
-    for _input in 0..3u32 {
-        ensure!(circuit.gates() < 100, "too many gates");
-        circuit.input()?;
+/// Adds the literals of the word whose lowest is `a` and whose highest is `b`; the others are `c`.
+fn push_word(line: &mut String, on: Operands) -> Result<(), NoMemory> {
+    let mut lits = [on.c; 32];
+    lits[0] = on.a;
+    lits[31] = on.b;
+    let word = Word::of(lits);
+    if Word::from_lits(word.lits()) != word {
+        return line.push_str(" another word");
     }
-    Ok(circuit)
+    for place in 0..32u32 {
+        write!(line, " {}", operand(word.bit(place)))?;
+    }
+    Ok(())
 }
 
-/// What the call of this name answers, if the circuit has the operands.
-fn called(circuit: &mut Circuit, name: &str, on: Operands) -> Result<Lit> {
+/// The number of a literal.
+fn operand(lit: Lit) -> u32 {
+    2 * (lit.var() - 1) + u32::from(!lit.is_positive())
+}
+
+/// Adds the table of the call of this name.
+fn push_table(line: &mut String, alloc: Global, name: &str, on: Operands) -> Result<(), NoMemory>
+    requires choice { IsWithin 4 on.c }
+    requires left { IsWithin 4 on.a }
+    requires right { IsWithin 4 on.b }
+{
+    let mut circuit = Circuit::new(alloc)?;
+    let _inputs = pp_bits::inputs(&mut circuit, 3)?;
+    push_calls(line, &mut circuit, name, on)
+}
+
+/// Adds what the call answers, and what it leaves when it is made with the operands turned round.
+fn push_calls(
+    line: &mut String,
+    circuit: &mut Circuit,
+    name: &str,
+    on: Operands,
+) -> Result<(), NoMemory>
+    requires inputs { length circuit.old ≡ 4 }
+    requires choice { IsWithin 4 on.c }
+    requires left { IsWithin 4 on.a }
+    requires right { IsWithin 4 on.b }
+{
+    let turned = Operands {
+        c: on.a,
+        a: on.b,
+        b: on.c,
+    };
+    let answer = apply(circuit, name, on)?;
+    push_values(line, circuit, answer)?;
+    let _turned = apply(circuit, name, turned)?;
+    push_asked(line, circuit, answer)
+}
+
+/// Adds the number of gates, and that of the clauses of what an answer stands on.
+fn push_asked(line: &mut String, circuit: &Circuit, answer: Lit) -> Result<(), NoMemory>
+    requires room { length circuit.now ≤ 6 }
+    requires of { IsOf circuit.now answer }
+{
+    let asked = circuit.clauses_of(&[answer])?;
+    write!(line, ", turned {}, asked {}", circuit.gates(), asked.len())
+}
+
+/// The literal that the call of this name answers.
+fn apply(circuit: &mut Circuit, name: &str, on: Operands) -> Result<Lit, NoMemory>
+    requires room { length circuit.old < 2 ^ 30 }
+    requires choice { IsOf circuit.old on.c }
+    requires left { IsOf circuit.old on.a }
+    requires right { IsOf circuit.old on.b }
+    ensures grows { Grows circuit.old circuit.new 1 }
+    ensures of { IfOk result (λ r. IsOf circuit.new r) }
+{
+    match name {
+        "and" => circuit.and(on.a, on.b),
+        "or" => circuit.or(on.a, on.b),
+        "xor" => circuit.xor(on.a, on.b),
+        "mux" => circuit.mux(on.c, on.a, on.b),
+        _ => circuit.majority(on.c, on.a, on.b),
+    }
+}
+
+/// Adds the values of an answer, the number of gates and that of their clauses.
+fn push_values(line: &mut String, circuit: &Circuit, answer: Lit) -> Result<(), NoMemory>
+    requires { length circuit.now ≤ 5 }
+{
+    let clauses = circuit.clauses()?;
+    for inputs in 0..8u32 {
+        push_value(line, circuit, &clauses, answer, inputs)?;
+    }
     let gates = circuit.gates();
-    ensure!(gates < 100, "too many gates");
-    ensure!(
-        on.c.var() <= gates && on.a.var() <= gates && on.b.var() <= gates,
-        "no such operand"
-    );
-    apply(circuit, name, on)
+    write!(line, ", {gates} gates, {} clauses", clauses.len())
 }
 
-/// The value of a literal where the inputs have the lowest three bits as their values.
-fn value_at(
-    alloc: Global,
+/// Adds the value of a literal where the inputs have the lowest three bits as their values, and 2 where a clause is
+/// false.
+fn push_value(
+    line: &mut String,
     circuit: &Circuit,
     clauses: &Clauses,
     lit: Lit,
     inputs: u32,
-) -> Result<bool> {
+) -> Result<(), NoMemory> {
+    let all = completed(circuit, inputs)?;
+    if !clauses.holds(&all) {
+        return line.push_str(" 2");
+    }
+    let is_true = all.value(lit.var()) == lit.is_positive();
+    line.push_str(if is_true { " 1" } else { " 0" })
+}
+
+/// The values of all gates where the inputs have the lowest three bits as their values.
+fn completed(circuit: &Circuit, inputs: u32) -> Result<Assignment, NoMemory> {
     let values = [
         true,
         inputs & 1 == 1,
         inputs >> 1 & 1 == 1,
         inputs >> 2 & 1 == 1,
     ];
-    let all = circuit.complete(&Assignment::of(alloc, &values)?)?;
-    ensure!(clauses.holds(&all), "a clause is false");
-    Ok(all.value(lit.var()) == lit.is_positive())
-}
-
-/// Prints the values of an answer, the gates and their clauses.
-fn print_answer(rt: &impl Print, alloc: Global, circuit: &Circuit, answer: Lit) -> Result<()> {
-    ensure!(circuit.gates() < 100, "too many gates");
-    let clauses = circuit.clauses()?;
-    for inputs in 0..8u32 {
-        let value = value_at(alloc, circuit, &clauses, answer, inputs)?;
-        print!(rt; " {}", u8::from(value))?;
-    }
-    print!(rt; ", {} gates, {} clauses", circuit.gates(), clauses.len())?;
-    Ok(())
-}
-
-/// Prints the gates, and the clauses of those on which an answer stands.
-fn print_asked(rt: &impl Print, circuit: &Circuit, answer: Lit) -> Result<()> {
-    let gates = circuit.gates();
-    ensure!(gates < 100 && answer.var() <= gates, "no such answer");
-    let clauses = circuit.clauses_of(&[answer])?;
-    println!(rt; ", turned {gates}, asked {}", clauses.len())?;
-    Ok(())
-}
-
-/// Prints the table of the call of this name.
-fn print_table(rt: &impl Print, alloc: Global, name: &str, on: Operands) -> Result<()> {
-    let turned = Operands {
-        c: on.a,
-        a: on.b,
-        b: on.c,
-    };
-    let mut circuit = with_inputs(alloc)?;
-    let answer = called(&mut circuit, name, on)?;
-    print_answer(rt, alloc, &circuit, answer)?;
-    called(&mut circuit, name, turned)?;
-    print_asked(rt, &circuit, answer)
-}
-
-/// What is printed for a line.
-fn print_row(rt: &impl Print, alloc: Global, line: &str) -> Result<()> {
-    let mut words = line.split_whitespace();
-    let name = words.next().context("a call")?;
-    let c = operand(words.next())?;
-    let a = operand(words.next())?;
-    let b = operand(words.next())?;
-    let on = Operands { c, a, b };
-    print!(rt; "{line}:")?;
-    match name {
-        "word" => print_word(rt, on),
-        call => print_table(rt, alloc, call, on),
-    }
-}
-
-/// Calls the functions that only state theorems.
-fn print_laws(rt: &impl Print) -> Result<()> {
-    laws::inputs_complete();
-    laws::inputs_determine();
-    laws::growth_extends();
-    laws::growth_keeps();
-    laws::gives_by_variables();
-    laws::literal_by_variables();
-    laws::asked_given();
-    laws::asked_complete();
-    laws::asked_keep();
-    println!(rt; "laws")?;
-    Ok(())
+    let given = Assignment::of(circuit.allocator(), &values)?;
+    circuit.complete(&given)
 }

@@ -7,9 +7,10 @@
 //! | `clauses` | the same, and their clauses |
 //! | `products` | a chain of SIZE products of 32 bits |
 
-use crate::chain::built;
-use crate::products::products;
-use anyhow::{Context, Result, ensure};
+ghost use Rattle.std.specs.Prelude.{◌≡◌, length};
+
+use crate::chain::{add_turns, multiply};
+use anyhow::{Context, Result};
 use pp_gate::{Circuit, NoMemory};
 use std::alloc::Global;
 
@@ -22,33 +23,35 @@ const MOST_CLAUSED: u32 = 1 << 28;
 /// The greatest number of products that is taken.
 const MOST_PRODUCTS: u32 = 1 << 16;
 
-/// The circuit of the task of this name.
-fn circuit(alloc: Global, name: &str, size: u32) -> Result<Circuit, NoMemory> {
-    match name {
-        "products" => products(alloc, size.min(MOST_PRODUCTS)),
-        _ => built(alloc, size.min(MOST_GATES), name == "shared"),
-    }
-}
-
-/// Prints how many gates or clauses the task of this name makes.
-pub fn print_size(rt: &impl Print, alloc: Global, name: &str, size: &str) -> Result<()> {
+/// How many gates or clauses the task of this name makes.
+pub fn answer(alloc: Global, task: &str, size: &str) -> Result<String> {
     let size = size.parse::<u32>().context("a size")?;
-    let circuit = circuit(alloc, name, size)?;
-    match name {
-        "clauses" => print_clauses(rt, &circuit),
-        _ => print_gates(rt, &circuit),
+    Ok(built(alloc, task, size)?)
+}
+
+/// What is counted of the circuit of the task of this name.
+fn built(alloc: Global, task: &str, size: u32) -> Result<String, NoMemory> {
+    let mut circuit = Circuit::new(alloc)?;
+    build(&mut circuit, task, size)?;
+    counted(alloc, task, &circuit)
+}
+
+/// Makes the circuit of the task of this name, in one that has no gates yet.
+fn build(circuit: &mut Circuit, task: &str, size: u32) -> Result<(), NoMemory>
+    requires { length circuit.old ≡ 1 }
+{
+    match task {
+        "products" => multiply(circuit, size.min(MOST_PRODUCTS)),
+        _ => add_turns(circuit, size.min(MOST_GATES) / 4, task == "shared"),
     }
 }
 
-/// Prints the number of gates.
-fn print_gates(rt: &impl Print, circuit: &Circuit) -> Result<()> {
-    println!(rt; "{} gates", circuit.gates())?;
-    Ok(())
-}
-
-/// Prints the number of clauses.
-fn print_clauses(rt: &impl Print, circuit: &Circuit) -> Result<()> {
-    ensure!(circuit.gates() <= MOST_CLAUSED, "too many gates");
-    println!(rt; "{} clauses", circuit.clauses()?.len())?;
-    Ok(())
+/// The number of the clauses, where the task makes them, and else that of the gates.
+fn counted(alloc: Global, task: &str, circuit: &Circuit) -> Result<String, NoMemory> {
+    let gates = circuit.gates();
+    if task == "clauses" && gates <= MOST_CLAUSED {
+        let clauses = circuit.clauses()?;
+        return format!(in alloc; "{} clauses", clauses.len());
+    }
+    format!(in alloc; "{gates} gates")
 }

@@ -1,45 +1,57 @@
-//! The calls of `pp_word` on pairs of numbers. Each line of the file is a pair. The line that is printed for it has the
-//! pair a and b, and then -a, ~a, a + b, a - b, a * b, a & b, a | b, a ^ b, a << b, a >> b, a >>> b, a / b, a % b, a <
-//! b and a <= b. What isn't there is `none`.
+//! The calls of `pp_word` on pairs of numbers. The answer to a pair a and b is -a, ~a, a + b, a - b, a * b, a & b,
+//! a | b, a ^ b, a << b, a >> b, a >>> b, a / b, a % b, a < b and a <= b. A quotient and a remainder that aren't there
+//! are `none`.
 
-use crate::number::number;
+use crate::numbers::numbers;
 use anyhow::Result;
+use pp_clause::NoMemory;
 use pp_word::{add, and, at_most, div, less, mul, neg, not, or, rem, shl, shr, sub, ushr, xor};
+use std::alloc::Global;
 
-/// Prints a number that may not be there.
-fn print_some(rt: &impl Print, number: Option<i32>) -> Result<()> {
-    match number {
-        Some(value) => print!(rt; " {value}")?,
-        None => print!(rt; " none")?,
-    }
-    Ok(())
+/// The answer to a pair.
+pub fn answer(alloc: Global, case: &str) -> Result<String> {
+    let [a, b, _] = numbers(case)?;
+    Ok(row(alloc, a.cast_signed(), b.cast_signed())?)
 }
 
-/// Prints numbers, each behind a blank.
-fn print_numbers(rt: &impl Print, numbers: &[i32]) -> Result<()> {
+/// What the calls make of two numbers.
+fn row(alloc: Global, a: i32, b: i32) -> Result<String, NoMemory> {
+    let mut line = String::from_str(alloc, ":")?;
+    push_all(&mut line, &values(a, b))?;
+    push_division(&mut line, a, b)?;
+    write!(line, " {} {}", less(a, b), at_most(a, b))?;
+    Ok(line)
+}
+
+/// What the calls answer that answer a number.
+fn values(a: i32, b: i32) -> [i32; 11] {
+    [
+        neg(a),
+        not(a),
+        add(a, b),
+        sub(a, b),
+        mul(a, b),
+        and(a, b),
+        or(a, b),
+        xor(a, b),
+        shl(a, b),
+        shr(a, b),
+        ushr(a, b),
+    ]
+}
+
+/// Adds numbers, each behind a blank.
+fn push_all(line: &mut String, numbers: &[i32]) -> Result<(), NoMemory> {
     for number in numbers {
-        print!(rt; " {number}")?;
+        write!(line, " {number}")?;
     }
     Ok(())
 }
 
-/// The pair of a line.
-fn read_pair(line: &str) -> Result<(i32, i32)> {
-    let mut words = line.split_whitespace();
-    let a = number(words.next())?;
-    let b = number(words.next())?;
-    Ok((a, b))
-}
-
-/// What is printed for a line.
-pub fn print_row(rt: &impl Print, line: &str) -> Result<()> {
-    let (a, b) = read_pair(line)?;
-    print!(rt; "{a} {b}:")?;
-    print_numbers(rt, &[neg(a), not(a), add(a, b), sub(a, b), mul(a, b)])?;
-    print_numbers(rt, &[and(a, b), or(a, b), xor(a, b)])?;
-    print_numbers(rt, &[shl(a, b), shr(a, b), ushr(a, b)])?;
-    print_some(rt, div(a, b))?;
-    print_some(rt, rem(a, b))?;
-    println!(rt; " {} {}", less(a, b), at_most(a, b))?;
-    Ok(())
+/// Adds the quotient and the remainder.
+fn push_division(line: &mut String, a: i32, b: i32) -> Result<(), NoMemory> {
+    match (div(a, b), rem(a, b)) {
+        (Some(quotient), Some(rest)) => write!(line, " {quotient} {rest}"),
+        _ => line.push_str(" none none"),
+    }
 }

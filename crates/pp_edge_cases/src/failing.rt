@@ -3,25 +3,24 @@
 ghost use Rattle.std.specs.Prelude.{None};
 
 use pp_seam::{PutFault, Sink};
-use std::alloc::Global;
 
-/// A sink that fails at the put of a number from 1, having taken five bytes of the piece.
-#[derive(Drop)]
+/// A sink that fails at the put of a number from 1, having taken five bytes of the piece. It counts what it is given.
+#[derive(Clone, Copy)]
 pub struct Failing {
-    pub taken: Vec<u8>,
+    pub fails_at: u64,
     pub puts: u64,
     pub faults: u64,
-    fails_at: u64,
+    pub taken: usize,
 }
 
 impl Failing {
     /// One that fails at the put of this number; with 0 it never fails.
-    pub fn at(alloc: Global, fails_at: u64) -> Failing {
+    pub fn at(fails_at: u64) -> Failing {
         Failing {
-            taken: Vec::new(alloc),
+            fails_at,
             puts: 0,
             faults: 0,
-            fails_at,
+            taken: 0,
         }
     }
 }
@@ -36,16 +35,12 @@ impl Sink for Failing {
             return Ok(());
         }
         self.puts = self.puts.saturating_add(1);
-        let fails = self.puts == self.fails_at;
-        let front = if fails {
-            &bytes[..bytes.len().min(5)]
-        } else {
-            bytes
-        };
-        if self.taken.extend_from_slice(front).is_err() || fails {
-            self.faults = self.faults.saturating_add(1);
-            return Err(PutFault::Failed);
+        if self.puts != self.fails_at {
+            self.taken = self.taken.saturating_add(bytes.len());
+            return Ok(());
         }
-        Ok(())
+        self.taken = self.taken.saturating_add(bytes.len().min(5));
+        self.faults = self.faults.saturating_add(1);
+        Err(PutFault::Failed)
     }
 }

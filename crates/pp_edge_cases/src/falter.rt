@@ -4,31 +4,43 @@ use std::io;
 use std::io::{ErrorKind, Read, Write};
 
 /// A writer whose first calls are interrupted, and which then takes so many bytes a write. A flush may fail.
-#[derive(Drop)]
-pub(crate) struct Slow {
-    pub(crate) interrupted: u32,
-    pub(crate) step: usize,
-    pub(crate) flush_interrupted: u32,
-    pub(crate) flushes: bool,
-    pub(crate) taken: Vec<u8>,
+#[derive(Clone, Copy)]
+pub struct Slow {
+    pub interrupted: u32,
+    pub step: usize,
+    pub flush_interrupted: u32,
+    pub flushes: bool,
+    pub taken: usize,
+}
+
+/// A reader of so many bytes 7, whose first reads are interrupted. At the end it fails, or it gives nothing.
+#[derive(Clone, Copy)]
+pub struct Drip {
+    pub interrupted: u32,
+    pub left: usize,
+    pub step: usize,
+    pub fails: bool,
+}
+
+/// Interrupts a call as long as interruptions are left.
+fn interrupt(left: &mut u32) -> io::Result<()> {
+    if *left == 0 {
+        return Ok(());
+    }
+    *left -= 1;
+    Err(io::Error::from(ErrorKind::Interrupted))
 }
 
 impl Write for Slow {
     fn write(&mut self, buf: &[u8]) -> io::Result<usize> {
-        if self.interrupted > 0 {
-            self.interrupted -= 1;
-            return Err(io::Error::from(ErrorKind::Interrupted));
-        }
+        interrupt(&mut self.interrupted)?;
         let count = self.step.min(buf.len());
-        self.taken.extend_from_slice(&buf[..count])?;
+        self.taken = self.taken.saturating_add(count);
         Ok(count)
     }
 
     fn flush(&mut self) -> io::Result<()> {
-        if self.flush_interrupted > 0 {
-            self.flush_interrupted -= 1;
-            return Err(io::Error::from(ErrorKind::Interrupted));
-        }
+        interrupt(&mut self.flush_interrupted)?;
         if self.flushes {
             return Ok(());
         }
@@ -36,29 +48,15 @@ impl Write for Slow {
     }
 }
 
-/// A reader of so many bytes 7, whose first reads are interrupted. At the end it fails, or it gives nothing.
-#[derive(Drop)]
-pub(crate) struct Drip {
-    pub(crate) interrupted: u32,
-    pub(crate) left: usize,
-    pub(crate) step: usize,
-    pub(crate) fails: bool,
-}
-
 impl Read for Drip {
     fn read(&mut self, buf: &mut [u8]) -> io::Result<usize> {
-        if self.interrupted > 0 {
-            self.interrupted -= 1;
-            return Err(io::Error::from(ErrorKind::Interrupted));
-        }
+        interrupt(&mut self.interrupted)?;
         if self.left == 0 && self.fails {
             return Err(io::Error::from(ErrorKind::BrokenPipe));
         }
         let count = self.step.min(self.left).min(buf.len());
         self.left -= count;
-        for byte in &mut buf[..count] {
-            *byte = 7;
-        }
+        buf[..count].fill(7);
         Ok(count)
     }
 }

@@ -11,6 +11,7 @@
 //! | `print` | lines on words, files and memory, and sinks where a put fails | `print` |
 #![tactic(auto)]
 
+mod case;
 mod failing;
 mod falter;
 mod print;
@@ -26,7 +27,7 @@ fn run(rt: &HostRuntime, task: &str) -> Result<()> {
     let (name, path) = task.split_once(' ').unwrap_or((task, ""));
     match name {
         "seam" => seam::print_answers(rt, path),
-        "words" => words::print_answers(rt, rt.alloc(), path),
+        "words" => words::print_answers(rt, path),
         "print" => print::print_lines(rt, rt.alloc()),
         _ => bail!("no such task"),
     }

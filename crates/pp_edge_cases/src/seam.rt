@@ -9,10 +9,11 @@
 //! - `write INTERRUPTED STEP INTERRUPTED END` puts `hello` on a writer that is interrupted so often, takes so many
 //!   bytes at a time, is interrupted so often when it is flushed, and then `fails` or `ends`.
 
+use crate::case::{cases, number, small, word};
 use crate::falter::{Drip, Slow};
 use anyhow::Result;
 use pp_seam::{
-    Bytes, FetchFault, FileShelf, ReadFault, Shelf, Shelves, Sink, StdSink, read_within,
+    Bytes, FetchFault, FileShelf, NoMemory, ReadFault, Shelf, Shelves, Sink, StdSink, read_within,
 };
 use std::alloc::Global;
 use std::rt::Files;
@@ -26,71 +27,79 @@ struct Asked<R: Files + Drop> {
     files: FileShelf<R>,
 }
 
-/// Prints the answer to each line of the file.
-pub fn print_answers(rt: &HostRuntime, path: &str) -> Result<()> {
-    let alloc = rt.alloc();
-    let file = fs::read_to_string(rt, path)?;
-    let mut asked = Asked {
-        shelves: Shelves::new(alloc),
-        sink: Bytes::with_room(alloc, 0)?,
-        files: FileShelf::new(alloc, rt),
-    };
-    let mut out = StdSink::new(io::writer(rt));
-    put_answers(alloc, &mut asked, file.as_str(), &mut out)
+impl<R: Files + Drop> Asked<R> {
+    /// Nothing on the shelves, and no room in the sink.
+    fn new(alloc: Global, files: R) -> Result<Self, NoMemory> {
+        Ok(Asked {
+            sink: Bytes::with_room(alloc, 0)?,
+            shelves: Shelves::new(alloc),
+            files: FileShelf::new(alloc, files),
+        })
+    }
 }
 
-/// Puts the answer to each line.
+/// Prints the answer to each line of the file.
+pub fn print_answers(rt: &HostRuntime, path: &str) -> Result<()> {
+    let file = fs::read_to_string(rt, path)?;
+    let cases = cases(rt.alloc(), file.as_str())?;
+    let mut out = StdSink::new(io::writer(rt));
+    put_answers(rt.alloc(), rt, &cases, &mut out)?;
+    Ok(())
+}
+
 fn put_answers(
     alloc: Global,
-    asked: &mut Asked<impl Files + Drop>,
-    lines: &str,
+    files: impl Files + Drop,
+    cases: &[&str],
     out: &mut impl Sink,
-) -> Result<()> {
+) -> Result<(), NoMemory> {
+    let mut asked = Asked::new(alloc, files)?;
+    put_each(alloc, &mut asked, cases, out)
+}
+
+/// Puts the answer to each case, behind a put of nothing.
+fn put_each(
+    alloc: Global,
+    asked: &mut Asked<impl Files + Drop>,
+    cases: &[&str],
+    out: &mut impl Sink,
+) -> Result<(), NoMemory> {
     let _ = out.put("".as_bytes());
-    for line in lines.lines() {
-        let mut answer = answer(alloc, asked, &words_of(alloc, line)?)?;
-        answer.push_str("\n")?;
-        let _ = out.put(answer.as_str().as_bytes());
+    for case in cases {
+        let answer = answer(alloc, asked, case)?;
+        let _ = out.put(answer.as_bytes());
     }
     Ok(())
 }
 
-/// The answer to the words of a line.
-fn answer(alloc: Global, asked: &mut Asked<impl Files + Drop>, words: &[&str]) -> Result<String> {
-    match word(words, 0) {
-        "add" | "fail" => stock(alloc, &mut asked.shelves, words),
-        "fetch" => fetched(alloc, &mut asked.shelves, words),
-        "room" | "cut" => prepare(alloc, &mut asked.sink, words),
-        "put" => put(alloc, &mut asked.sink, words),
-        "file" => filed(alloc, &mut asked.files, words),
-        "read" => read(alloc, words),
-        _ => written(alloc, words),
+/// The answer to a case, as a line.
+fn answer(
+    alloc: Global,
+    asked: &mut Asked<impl Files + Drop>,
+    case: &str,
+) -> Result<String, NoMemory> {
+    let mut out = String::new(alloc);
+    push_answer(&mut out, alloc, asked, case)?;
+    out.push_str("\n")?;
+    Ok(out)
+}
+
+/// Adds the answer to a case.
+fn push_answer(
+    out: &mut String,
+    alloc: Global,
+    asked: &mut Asked<impl Files + Drop>,
+    case: &str,
+) -> Result<(), NoMemory> {
+    match word(case, 0) {
+        "add" | "fail" => stock(out, &mut asked.shelves, case),
+        "fetch" => fetch(out, alloc, &mut asked.shelves, case),
+        "room" | "cut" => prepare(out, alloc, &mut asked.sink, case),
+        "put" => put(out, &mut asked.sink, case),
+        "file" => fetch_file(out, alloc, &mut asked.files, case),
+        "read" => read(out, alloc, case),
+        _ => write(out, case),
     }
-}
-
-fn words_of(alloc: Global, line: &str) -> Result<Vec<&str>> {
-    let mut words = Vec::new(alloc);
-    for word in line.split_whitespace() {
-        words.push(word)?;
-    }
-    Ok(words)
-}
-
-/// The word at this place, or none.
-fn word<'a>(words: &[&'a str], at: usize) -> &'a str {
-    match words.get(at) {
-        Some(word) => word,
-        None => "",
-    }
-}
-
-/// The number at this place.
-fn number(words: &[&str], at: usize) -> usize {
-    word(words, at).parse::<usize>().unwrap_or(0)
-}
-
-fn small(words: &[&str], at: usize) -> u32 {
-    word(words, at).parse::<u32>().unwrap_or(0)
 }
 
 /// The bytes, where they are text.
@@ -98,82 +107,96 @@ fn shown(bytes: &[u8]) -> &str {
     str::from_utf8(bytes).unwrap_or("no text")
 }
 
-/// What a fetch answers.
-fn fetched(alloc: Global, shelf: &mut impl Shelf, words: &[&str]) -> Result<String> {
-    Ok(match shelf.fetch(alloc, word(words, 1), number(words, 2)) {
-        Ok(bytes) => format!(in alloc; "gives {}", shown(&bytes))?,
-        Err(FetchFault::Failed) => String::from_str(alloc, "failed")?,
-        Err(FetchFault::TooLong) => String::from_str(alloc, "too long")?,
-        Err(FetchFault::Memory) => String::from_str(alloc, "out of memory")?,
-    })
+fn fault_text(fault: FetchFault) -> &'static str {
+    match fault {
+        FetchFault::Failed => "failed",
+        FetchFault::TooLong => "too long",
+        FetchFault::Memory => "out of memory",
+    }
 }
 
-fn filed(
+fn fetch(
+    out: &mut String,
+    alloc: Global,
+    shelf: &mut impl Shelf,
+    case: &str,
+) -> Result<(), NoMemory> {
+    match shelf.fetch(alloc, word(case, 1), number(case, 2)) {
+        Ok(bytes) => write!(out, "gives {}", shown(&bytes)),
+        Err(fault) => out.push_str(fault_text(fault)),
+    }
+}
+
+fn fetch_file(
+    out: &mut String,
     alloc: Global,
     files: &mut FileShelf<impl Files + Drop>,
-    words: &[&str],
-) -> Result<String> {
-    let mut answer = fetched(alloc, files, words)?;
-    write!(answer, ", kept {}, failed", shown(&files.overlong))?;
-    for path in &files.failed {
-        write!(answer, " {}", path.as_str())?;
+    case: &str,
+) -> Result<(), NoMemory> {
+    fetch(out, alloc, files, case)?;
+    push_seen(out, &files.overlong, &files.failed)
+}
+
+/// Adds what was kept of a file that is too long, and the paths that failed.
+fn push_seen(out: &mut String, overlong: &[u8], failed: &[String]) -> Result<(), NoMemory> {
+    write!(out, ", kept {}, failed", shown(overlong))?;
+    for path in failed {
+        write!(out, " {}", path.as_str())?;
     }
-    Ok(answer)
+    Ok(())
 }
 
-fn read(alloc: Global, words: &[&str]) -> Result<String> {
+fn read(out: &mut String, alloc: Global, case: &str) -> Result<(), NoMemory> {
     let mut drip = Drip {
-        interrupted: small(words, 1),
-        left: number(words, 2),
-        step: number(words, 3),
-        fails: word(words, 4) == "fails",
+        interrupted: small(case, 1),
+        left: number(case, 2),
+        step: number(case, 3),
+        fails: word(case, 4) == "fails",
     };
-    Ok(match read_within(alloc, &mut drip, number(words, 5)) {
-        Ok(bytes) => format!(in alloc; "{} bytes, {} left", bytes.len(), drip.left)?,
+    match read_within(alloc, &mut drip, number(case, 5)) {
+        Ok(bytes) => write!(out, "{} bytes, {} left", bytes.len(), drip.left),
         Err(ReadFault::TooLong(bytes)) => {
-            format!(in alloc; "too long after {}, {} left", bytes.len(), drip.left)?
+            write!(out, "too long after {}, {} left", bytes.len(), drip.left)
         }
-        Err(_) => String::from_str(alloc, "failed")?,
-    })
+        Err(_) => out.push_str("failed"),
+    }
 }
 
-fn written(alloc: Global, words: &[&str]) -> Result<String> {
+fn write(out: &mut String, case: &str) -> Result<(), NoMemory> {
     let mut sink = StdSink::new(Slow {
-        interrupted: small(words, 1),
-        step: number(words, 2),
-        flush_interrupted: small(words, 3),
-        flushes: word(words, 4) == "ends",
-        taken: Vec::new(alloc),
+        interrupted: small(case, 1),
+        step: number(case, 2),
+        flush_interrupted: small(case, 3),
+        flushes: word(case, 4) == "ends",
+        taken: 0,
     });
     let empty = sink.put("".as_bytes()).is_ok();
     let ok = sink.put("hello".as_bytes()).is_ok();
-    let (faults, taken) = (sink.faults, sink.writer.taken.len());
-    Ok(format!(in alloc; "{empty} {ok}, {faults} faults, {taken} taken")?)
+    let (faults, taken) = (sink.faults, sink.writer.taken);
+    write!(out, "{empty} {ok}, {faults} faults, {taken} taken")
 }
 
-fn put(alloc: Global, sink: &mut Bytes, words: &[&str]) -> Result<String> {
-    let piece = word(words, 1);
-    let piece = if piece == "''" { "" } else { piece };
-    let ok = sink.put(piece.as_bytes()).is_ok();
-    Ok(format!(in alloc; "{ok}, has {}", shown(sink.taken()))?)
+fn put(out: &mut String, sink: &mut Bytes, case: &str) -> Result<(), NoMemory> {
+    let ok = sink.put(word(case, 1).as_bytes()).is_ok();
+    write!(out, "{ok}, has {}", shown(sink.taken()))
 }
 
 /// Prepares the shelves in memory.
-fn stock(alloc: Global, shelves: &mut Shelves, words: &[&str]) -> Result<String> {
-    if word(words, 0) == "add" {
-        shelves.add(word(words, 1), word(words, 2).as_bytes())?;
+fn stock(out: &mut String, shelves: &mut Shelves, case: &str) -> Result<(), NoMemory> {
+    if word(case, 0) == "add" {
+        shelves.add(word(case, 1), word(case, 2).as_bytes())?;
     } else {
-        shelves.fail_at(small(words, 1))?;
+        shelves.fail_at(small(case, 1))?;
     }
-    Ok(String::from_str(alloc, "stocked")?)
+    out.push_str("stocked")
 }
 
 /// Prepares the sink in memory.
-fn prepare(alloc: Global, sink: &mut Bytes, words: &[&str]) -> Result<String> {
-    if word(words, 0) == "room" {
-        *sink = Bytes::with_room(alloc, number(words, 1))?;
+fn prepare(out: &mut String, alloc: Global, sink: &mut Bytes, case: &str) -> Result<(), NoMemory> {
+    if word(case, 0) == "room" {
+        *sink = Bytes::with_room(alloc, number(case, 1))?;
     } else {
-        sink.fail_at(small(words, 1), number(words, 2));
+        sink.fail_at(small(case, 1), number(case, 2));
     }
-    Ok(String::from_str(alloc, "prepared")?)
+    out.push_str("prepared")
 }

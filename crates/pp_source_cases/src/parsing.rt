@@ -1,123 +1,75 @@
-//! Sources, and the units that they spell.
-//!
-//! In a line of `units` `\n` stands for a line feed. It prints the unit that the source of each line spells, or why it
-//! is refused. `cuts` prints whether a source is a unit, how often it can be cut within its outer braces, and how many
-//! of the pieces are units.
+//! Sources, and the units that they spell, or why they are refused.
 
-mod exprs;
-mod sources;
-mod units;
-
-use anyhow::{Context, Result};
+use crate::escapes::source;
+use crate::reading::{Refused, unit};
+use crate::units::push_unit;
 use bumpalo::Bump;
-use pp_parse::{NoMemory, ParseFault, parse};
-use pp_text::{MOST_BYTES, Text};
-use pp_tokens::tokens;
-use sources::{in_brackets, pieces, sources};
+use pp_parse::{NoMemory, ParseFault};
+use pp_tree::Unit;
 use std::alloc::Global;
-use std::fs;
-use units::push_unit;
 
-/// Does the task of this name.
-pub fn run(rt: &HostRuntime, name: &str, given: &str) -> Result<()> {
-    match name {
-        "units" => print_units(rt, rt.alloc(), &fs::read(rt, given)?),
-        "cuts" => print_cuts(rt, rt.alloc(), &fs::read(rt, given)?),
-        "brackets" => print_brackets(rt, rt.alloc(), given),
-        _ => print_count(rt, rt.alloc(), &fs::read(rt, given)?),
+/// The unit of the source of a line.
+pub fn answer(alloc: Global, line: &str) -> Result<String, NoMemory> {
+    parsed(alloc, &source(alloc, line)?, false)
+}
+
+/// The answer to a function whose body is a name in so many brackets, or only the brackets that open.
+pub fn in_brackets(alloc: Global, count: u32, closed: bool) -> Result<String, NoMemory> {
+    let mut source = String::from_str(alloc, "object A { def f(a: Int): Int = ")?;
+    for _ in 0..count {
+        source.push_str("(")?;
     }
-}
-
-/// Prints the unit of each line's source.
-fn print_units(rt: &impl Print, alloc: Global, lines: &[u8]) -> Result<()> {
-    for source in &sources(alloc, lines)? {
-        println!(rt; "{}", answer(alloc, source, false)?)?;
+    if closed {
+        push_closed(&mut source, count)?;
     }
-    Ok(())
+    parsed(alloc, source.as_bytes(), false)
 }
 
-/// Prints how many pieces of a source are units.
-fn print_cuts(rt: &impl Print, alloc: Global, source: &[u8]) -> Result<()> {
-    let whole = count_units(alloc, &[source])?;
-    let pieces = pieces(alloc, source)?;
-    let units = count_units(alloc, &pieces)?;
-    println!(rt; "{whole} whole, {} cuts, {units} units", pieces.len())?;
-    Ok(())
-}
-
-/// Prints the answers to a name in so many brackets, and to so many brackets that nothing closes.
-fn print_brackets(rt: &impl Print, alloc: Global, count: &str) -> Result<()> {
-    let count = count.parse::<usize>().context("how many brackets")?;
-    for closed in [true, false] {
-        let source = in_brackets(alloc, count, closed)?;
-        println!(rt; "{}", answer(alloc, source.as_bytes(), false)?)?;
+/// Adds the name, and so many brackets that close.
+fn push_closed(source: &mut String, count: u32) -> Result<(), NoMemory> {
+    source.push_str("a")?;
+    for _ in 0..count {
+        source.push_str(")")?;
     }
-    Ok(())
-}
-
-/// Prints how many declarations the unit of a source has.
-fn print_count(rt: &impl Print, alloc: Global, source: &[u8]) -> Result<()> {
-    println!(rt; "{}", answer(alloc, source, true)?)?;
-    Ok(())
+    source.push_str(" }")
 }
 
 /// What a source is answered; the declarations of a unit may be counted alone.
-fn answer(alloc: Global, source: &[u8], counted: bool) -> Result<String, NoMemory> {
+pub fn parsed(alloc: Global, source: &[u8], counted: bool) -> Result<String, NoMemory> {
+    let arena = Bump::new(alloc);
     let mut out = String::new(alloc);
-    if source.len() > MOST_BYTES {
-        out.push_str("too long")?;
-        return Ok(out);
+    match unit(alloc, &arena, source) {
+        Ok(unit) => push_parsed(&mut out, &unit, counted)?,
+        Err(refused) => push_refused(&mut out, refused)?,
     }
-    let Ok(text) = Text::read(alloc, source) else {
-        out.push_str("no text")?;
-        return Ok(out);
-    };
-    push_answer(&mut out, alloc, &text, counted)?;
     Ok(out)
 }
 
-/// Adds the answer to a text.
-fn push_answer(
-    out: &mut String,
-    alloc: Global,
-    text: &Text,
-    counted: bool,
-) -> Result<(), NoMemory> {
-    let Ok(tokens) = tokens(alloc, text) else {
-        return out.push_str("no tokens");
-    };
-    let arena = Bump::new(alloc);
-    match parse(alloc, &arena, text, &tokens) {
-        Ok(unit) if counted => {
-            let count = unit.decls.len();
-            write!(out, "{count} declarations")
-        }
-        Ok(unit) => push_unit(out, &unit),
-        Err(fault) => push_fault(out, fault),
+fn push_parsed(out: &mut String, unit: &Unit, counted: bool) -> Result<(), NoMemory> {
+    if counted {
+        write!(out, "{} declarations", unit.decls.len())
+    } else {
+        push_unit(out, unit)
     }
 }
 
 /// Adds why a source is refused.
-fn push_fault(out: &mut String, fault: ParseFault) -> Result<(), NoMemory> {
+fn push_refused(out: &mut String, refused: Refused) -> Result<(), NoMemory> {
+    match refused {
+        Refused::TooLong => out.push_str("too long"),
+        Refused::NoText => out.push_str("no text"),
+        Refused::NoTokens => out.push_str("no tokens"),
+        Refused::Unspelled(fault) => push_fault(out, &fault),
+    }
+}
+
+fn push_fault(out: &mut String, fault: &ParseFault) -> Result<(), NoMemory> {
     match fault {
         ParseFault::Syntax(at) => write!(out, "syntax at {at}"),
         ParseFault::TooDeep(at) => write!(out, "too deep at {at}"),
         ParseFault::Unsupported(name, at) => {
-            let name = name.as_str();
-            write!(out, "unsupported {name} at {at}")
+            write!(out, "unsupported {} at {at}", name.as_str())
         }
         ParseFault::Memory => out.push_str("out of memory"),
     }
-}
-
-/// How many of the sources are units.
-fn count_units(alloc: Global, sources: &[&[u8]]) -> Result<usize, NoMemory> {
-    let mut found: usize = 0;
-    for source in sources {
-        let answer = answer(alloc, source, false)?;
-        if answer.as_str().starts_with("unit") {
-            found = found.saturating_add(1);
-        }
-    }
-    Ok(found)
 }

@@ -1,5 +1,5 @@
 -- The symbols of a frame's arguments are of the domain.
-use Rattle.std.proofs.Common.{◌≡◌, ◌<◌, ℕ, List, [], ◌∷◌, All, length, refl}
+use Rattle.std.proofs.Common.{◌<◌, ℕ, List, [], ◌∷◌, All, length, refl}
 use Rattle.std.proofs.lemmas.List.Elements.{All-cons, All-nil}
 use Rattle.pp_prog.specs.declared.id.CheckId.{CheckId}
 use Rattle.pp_prog.specs.declared.program.Program.{Program}

@@ -6,12 +6,12 @@
 ghost use Rattle.std.specs.Prelude.{◌<◌, ◌≤◌, length};
 ghost use Rattle.pp_checks.specs.Plan.{IsPlanOf};
 
-use crate::accepted::accepted;
+use crate::programs::accepted;
 use crate::words::number;
-use anyhow::{Context, Result, ensure};
-use pp_checks::Plan;
+use anyhow::{Result, ensure};
 use pp_estimate::estimate;
-use pp_prog::{CheckId, Program};
+use pp_front::Accepted;
+use pp_prog::CheckId;
 use pp_query::{Proof, prove};
 use std::alloc::Global;
 use std::fs;
@@ -25,45 +25,34 @@ const LEMMAS: u64 = 10_000;
 /// Prints the answer to each line of the file.
 pub fn print_proved(rt: &HostRuntime, path: &str) -> Result<()> {
     let file = fs::read_to_string(rt, path)?;
-    for (at, line) in file.as_str().lines().enumerate() {
-        let answer = answer_to(rt.alloc(), line)?;
-        println!(rt; "{at} {answer}")?;
+    let lines: Vec<&str> = file.as_str().lines().collect(rt.alloc())?;
+    for place in 0..lines.len() {
+        print_answer(rt, rt.alloc(), place, lines[place])?;
     }
+    Ok(())
+}
+
+fn print_answer(rt: &impl Print, alloc: Global, place: usize, line: &str) -> Result<()> {
+    println!(rt; "{place} {}", answer_to(alloc, line)?)?;
     Ok(())
 }
 
 /// Whether the check of a line is proved.
 fn answer_to(alloc: Global, line: &str) -> Result<&'static str> {
-    let (round, rest) = line.split_once(' ').context("a round")?;
-    let (check, source) = rest.split_once(' ').context("a check")?;
-    let round = number(Some(round), 0, 12)?;
-    let check = number(Some(check), 0, 1000)?;
-    let accepted = accepted(alloc, source)?;
-    ensure!(
-        (check as usize) < accepted.program.checks().len(),
-        "no such check"
-    );
-    proved(
-        alloc,
-        &accepted.program,
-        &accepted.plan,
-        CheckId(check),
-        round,
-    )
+    let round = number(line, 0, 0, 12)?;
+    let check = number(line, 1, 0, 1000)?;
+    let source = line.splitn(3, ' ').nth(2).unwrap_or("");
+    proved(alloc, &accepted(alloc, source)?, check, round)
 }
 
 /// Whether the check is proved in the round.
-fn proved(
-    alloc: Global,
-    program: &Program,
-    plan: &Plan,
-    check: CheckId,
-    round: u32,
-) -> Result<&'static str>
-    requires plan { IsPlanOf plan.now program.now }
-    requires check { check.0 < length program.now.checks }
+fn proved(alloc: Global, accepted: &Accepted, check: u32, round: u32) -> Result<&'static str>
+    requires plan { IsPlanOf accepted.now.plan accepted.now.program }
     requires round { round ≤ 12 }
 {
+    let (program, plan) = (&accepted.program, &accepted.plan);
+    ensure!((check as usize) < program.checks().len(), "no such check");
+    let check = CheckId(check);
     let most = estimate(alloc, program, plan, check, round, 1)?;
     ensure!(most <= MOST_GATES, "too large");
     Ok(match prove(alloc, program, plan, check, round, LEMMAS)? {

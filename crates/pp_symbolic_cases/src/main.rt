@@ -16,13 +16,15 @@
 //! | `coverage CASE SIZE` | whether a large match is covered | `coverage` |
 #![tactic(auto)]
 
-mod accepted;
 mod circuits;
 mod coverage;
 mod guess_runs;
 mod guesses;
 mod plans;
+mod programs;
 mod rounds;
+mod solving;
+mod steps;
 mod words;
 
 use anyhow::{Context, Result, bail};

@@ -8,9 +8,9 @@
 
 mod lines;
 
-use crate::accepted::accepted;
+use crate::programs::{accepted, parts};
 use anyhow::Result;
-use lines::print_lines;
+use lines::lines_on;
 use std::alloc::Global;
 use std::fs;
 
@@ -19,17 +19,23 @@ const END: &str = "\n==\n";
 
 /// Prints the lines on each program of the file.
 pub fn print_plans(rt: &HostRuntime, path: &str) -> Result<()> {
-    for case in fs::read_to_string(rt, path)?.as_str().split(END) {
-        if let Some((name, source)) = case.split_once('\n') {
-            println!(rt; "{name}")?;
-            print_plan(rt, rt.alloc(), source)?;
+    let file = fs::read_to_string(rt, path)?;
+    for part in &parts(rt.alloc(), file.as_str(), END)? {
+        if let Some((name, source)) = part.split_once('\n') {
+            print_plan(rt, rt.alloc(), name, source)?;
         }
     }
     Ok(())
 }
 
-/// Prints the lines on the program of a source.
-fn print_plan(rt: &impl Print, alloc: Global, source: &str) -> Result<()> {
-    let accepted = accepted(alloc, source)?;
-    print_lines(rt, &accepted.program, &accepted.plan)
+/// Prints the name of a program, and the lines on it.
+fn print_plan(rt: &impl Print, alloc: Global, name: &str, source: &str) -> Result<()> {
+    let lines = lines_of(alloc, source)?;
+    print!(rt; "{name}\n{lines}")?;
+    Ok(())
+}
+
+/// The lines on the program of a source.
+fn lines_of(alloc: Global, source: &str) -> Result<String> {
+    Ok(lines_on(alloc, &accepted(alloc, source)?)?)
 }

@@ -11,18 +11,17 @@
 mod arguments;
 mod asking;
 mod comparing;
-mod round;
+mod question;
 mod running;
-mod solving;
 
 ghost use Rattle.std.specs.Prelude.{◌<◌, ◌≤◌, length};
 ghost use Rattle.pp_checks.specs.Plan.{IsPlanOf};
 
-use crate::accepted::accepted;
+use crate::programs::{accepted, parts};
 use anyhow::Result;
 use comparing::compare;
-use pp_checks::Plan;
-use pp_prog::{CheckId, Program};
+use pp_front::Accepted;
+use pp_prog::CheckId;
 use std::alloc::Global;
 use std::fs;
 
@@ -34,8 +33,9 @@ const ROUNDS: u32 = 4;
 
 /// Prints the comparisons of each program of the file.
 pub fn print_rounds(rt: &HostRuntime, path: &str) -> Result<()> {
-    for case in fs::read_to_string(rt, path)?.as_str().split(END) {
-        if let Some((name, source)) = case.split_once('\n') {
+    let file = fs::read_to_string(rt, path)?;
+    for part in &parts(rt.alloc(), file.as_str(), END)? {
+        if let Some((name, source)) = part.split_once('\n') {
             try_source(rt, rt.alloc(), name, source)?;
         }
     }
@@ -43,31 +43,16 @@ pub fn print_rounds(rt: &HostRuntime, path: &str) -> Result<()> {
 }
 
 fn try_source(rt: &impl Print, alloc: Global, name: &str, source: &str) -> Result<()> {
-    let accepted = accepted(alloc, source)?;
-    try_program(rt, alloc, name, &accepted.program, &accepted.plan)
+    try_program(rt, alloc, name, &accepted(alloc, source)?)
 }
 
 /// Compares all rounds of all checks, and prints what is found.
-fn try_program(
-    rt: &impl Print,
-    alloc: Global,
-    name: &str,
-    program: &Program,
-    plan: &Plan,
-) -> Result<()>
-    requires { IsPlanOf plan.now program.now }
+fn try_program(rt: &impl Print, alloc: Global, name: &str, accepted: &Accepted) -> Result<()>
+    requires { IsPlanOf accepted.now.plan accepted.now.program }
 {
-    for number in 0..program.checks().len() {
+    for number in 0..accepted.program.checks().len() {
         for round in 0..ROUNDS {
-            try_round(
-                rt,
-                alloc,
-                name,
-                program,
-                plan,
-                CheckId(number as u32),
-                round,
-            )?;
+            try_round(rt, alloc, name, accepted, CheckId(number as u32), round)?;
         }
     }
     Ok(())
@@ -78,17 +63,16 @@ fn try_round(
     rt: &impl Print,
     alloc: Global,
     name: &str,
-    program: &Program,
-    plan: &Plan,
+    accepted: &Accepted,
     check: CheckId,
     round: u32,
 ) -> Result<()>
-    requires plan { IsPlanOf plan.now program.now }
-    requires check { check.0 < length program.now.checks }
+    requires plan { IsPlanOf accepted.now.plan accepted.now.program }
+    requires check { check.0 < length accepted.now.program.checks }
     requires round { round ≤ 12 }
 {
     let number = check.0;
-    let compared = compare(alloc, program, plan, check, round)?;
+    let compared = compare(alloc, accepted, check, round)?;
     for difference in &compared.differences {
         println!(rt; "{name} check {number} round {round} at{difference}")?;
     }

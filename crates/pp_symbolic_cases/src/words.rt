@@ -1,20 +1,16 @@
-//! Numbers of the command line.
+//! Numbers of the command line and of lines.
 
 ghost use Rattle.std.specs.Prelude.{◌≤◌, IfOk};
 
-use anyhow::{Context, Result, ensure};
+use anyhow::{Result, bail};
 
-/// A number, at least the one and at most the other.
-pub fn number(word: Option<&str>, least: u32, most: u32) -> Result<u32>
+/// The number at a place of words that blanks divide, at least the one and at most the other.
+pub fn number(words: &str, place: usize, least: u32, most: u32) -> Result<u32>
     ensures { IfOk result (λ n. (least ≤ n) × (n ≤ most)) }
 {
-    let number = word
-        .context("a number")?
-        .parse::<u32>()
-        .context("a number")?;
-    ensure!(
-        least <= number && number <= most,
-        "{number} isn't between {least} and {most}"
-    );
-    Ok(number)
+    let word = words.split_whitespace().nth(place).unwrap_or("");
+    match word.parse::<u32>() {
+        Ok(number) if least <= number && number <= most => Ok(number),
+        _ => bail!("no number from {least} to {most}"),
+    }
 }

@@ -5,12 +5,14 @@ ghost use Rattle.pp_checks.specs.Plan.{IsPlanOf};
 ghost use Rattle.pp_symbolic_cases.specs.Round.{CanAsk};
 
 use crate::rounds::arguments::lists_of;
-use crate::rounds::round::Round;
+use crate::rounds::question::{fails_at, round_question};
 use crate::rounds::running::{run_fails, sorts_of};
 use anyhow::{Result, ensure};
-use pp_checks::Plan;
+use pp_bounded::{Bounded, BoundedTree};
+use pp_front::Accepted;
 use pp_list::at;
 use pp_prog::{CheckId, Ctor, FunctionId, Program, Value, Values};
+use pp_query::Question;
 use std::alloc::Global;
 
 /// The greatest height of the arguments that are tried.
@@ -26,23 +28,18 @@ pub struct Compared {
 }
 
 /// Compares the circuit of a round of the check with the runs of its function, on all lists of arguments.
-pub fn compare(
-    alloc: Global,
-    program: &Program,
-    plan: &Plan,
-    check: CheckId,
-    round: u32,
-) -> Result<Compared>
-    requires plan { IsPlanOf plan.now program.now }
-    requires check { check.0 < length program.now.checks }
+pub fn compare(alloc: Global, accepted: &Accepted, check: CheckId, round: u32) -> Result<Compared>
+    requires plan { IsPlanOf accepted.now.plan accepted.now.program }
+    requires check { check.0 < length accepted.now.program.checks }
     requires round { round ≤ 12 }
 {
+    let program = &accepted.program;
     let f = program.checks()[check.0 as usize].function;
     ensure!(f.0 < program.function_count(), "a check of no function");
     let lists = lists(alloc, program, f)?;
-    let mut circuit = Round::of(alloc, program, plan, check, round, DEPTH)?;
+    let mut question = round_question(alloc, accepted, check, round, DEPTH)?;
     let run = Run { f, check, round };
-    compare_all(alloc, program, run, &mut circuit, &lists)
+    compare_all(alloc, program, run, &mut question, &lists)
 }
 
 /// A function whose runs are looked at, the check, and the round.
@@ -66,12 +63,12 @@ fn compare_all(
     alloc: Global,
     program: &Program,
     run: Run,
-    circuit: &mut Round,
+    question: &mut Question<Bounded, BoundedTree>,
     lists: &[Values],
 ) -> Result<Compared>
     requires function { run.f.0 < length program.now.functions }
     requires round { run.round ≤ 12 }
-    requires circuit { CanAsk program.now.types circuit.old }
+    requires question { CanAsk program.now.types question.old }
 {
     let mut compared = Compared {
         tried: lists.len(),
@@ -79,7 +76,14 @@ fn compare_all(
         differences: Vec::new(alloc),
     };
     for list in lists {
-        compare_one(alloc, program, run, circuit, list.as_slice(), &mut compared)?;
+        compare_one(
+            alloc,
+            program,
+            run,
+            question,
+            list.as_slice(),
+            &mut compared,
+        )?;
     }
     Ok(compared)
 }
@@ -89,16 +93,16 @@ fn compare_one(
     alloc: Global,
     program: &Program,
     run: Run,
-    circuit: &mut Round,
+    question: &mut Question<Bounded, BoundedTree>,
     arguments: &[Value],
     compared: &mut Compared,
 ) -> Result<()>
     requires function { run.f.0 < length program.now.functions }
     requires round { run.round ≤ 12 }
-    requires circuit { CanAsk program.now.types circuit.old }
-    ensures { OnOk result (CanAsk program.now.types circuit.new) }
+    requires question { CanAsk program.now.types question.old }
+    ensures { OnOk result (CanAsk program.now.types question.new) }
 {
-    let said = circuit.fails_at(alloc, program.types(), arguments)?;
+    let said = fails_at(alloc, question, program.types(), arguments)?;
     let fails = run_fails(alloc, program, run.f, arguments, run.check, run.round)?;
     if fails {
         compared.failing = compared.failing.saturating_add(1);

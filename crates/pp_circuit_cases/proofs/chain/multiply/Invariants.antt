@@ -1,6 +1,6 @@
 use Rattle.std.proofs.Common.{◌*◌, ◌+◌, ◌≤◌, length, All}
 use Rattle.pp_gate.specs.Circuit.{IsOf}
-use Rattle.pp_circuit_cases.proofs.products.multiply.Given as goal
+use Rattle.pp_circuit_cases.proofs.chain.multiply.Given as goal
 
 abbrev pub invariant-loop-turn : goal.invariant-loop-turn
 invariant-loop-turn l = record {
