@@ -58,8 +58,8 @@ fn find_with(
     Ok(found)
 }
 
-/// Whether an assignment makes the clauses and the literals true, where these variables are decided first; so many lemmas
-/// may be learnt.
+/// Whether an assignment makes the clauses and the literals true, where these variables are decided first; so many
+/// lemmas may be learnt.
 pub fn find(
     alloc: Global,
     clauses: &Clauses,
