@@ -4,8 +4,9 @@
 # It prints the rows of a table: the program, its words, the seconds of the whole run, the median of five, and the last
 # line that was printed. Then a table of the dearest proof of each program that is proved, by its lemmas: the number of
 # the check in the program, the round, the steps of the guess runs, the gates of their circuit beside what the estimate
-# has for this round alone, the clauses of what is asked, and the lemmas. With `--all` it has the proofs of all checks
-# and rounds. It ends with the number of programs that answered as their head says, and of others.
+# has for this round alone, the clauses of what is asked, the lemmas, and the conflicts that MiniSat takes on the same
+# clauses (without preprocessing; a dash where there is no `minisat`). With `--all` it has the proofs of all checks and
+# rounds. It ends with the number of programs that answered as their head says, and of others.
 # It wants python3. The program is ./pureproof; another one in its place is named by PUREPROOF. The second table wants
 # crates/pp_symbolic_cases/out/pp_symbolic_cases, which `rt run` in that crate's folder leaves, or the program that
 # SYMBOLIC names; it is left out where there is none.
@@ -15,7 +16,7 @@ program=$(readlink -f "${PUREPROOF:-$root/pureproof}")
 cd "$root"
 symbolic=${SYMBOLIC:-$root/crates/pp_symbolic_cases/out/pp_symbolic_cases}
 python3 - "$program" "$symbolic" "${1:-}" examples/proofs/*.scala <<'PY'
-import os, re, statistics, subprocess, sys, time
+import os, re, shutil, statistics, subprocess, sys, tempfile, time
 
 PROGRAM, SYMBOLIC, ASKED, *PROOFS = sys.argv[1:]
 RUNS, SECONDS = 5, 600
@@ -46,9 +47,25 @@ for path in PROOFS:
     line = lines[0] if met else f"OTHER: {lines[0]}"
     print(f"| {name} | {shown} | {statistics.median(seconds):.2f} | {line} |", flush=True)
 
+
+def conflicts(path, check, rounds):
+    """How many conflicts MiniSat takes on the clauses of the proof."""
+    if shutil.which("minisat") is None:
+        return "-"
+    words = [SYMBOLIC, f"clauses {path} {check} {rounds}"]
+    _, clauses = subprocess.run(words, capture_output=True, text=True, timeout=SECONDS).stdout.split("\n", 1)
+    with tempfile.NamedTemporaryFile("w", suffix=".cnf") as file:
+        file.write(clauses)
+        file.flush()
+        said = subprocess.run(["minisat", "-no-pre", file.name], capture_output=True, text=True, timeout=SECONDS).stdout
+    found = re.search(r"conflicts\s*:\s*(\d+)", said)
+    return found[1] if found else "-"
+
+
 PROOF = re.compile(r"check (\d+), round (\d+): (\d+) steps, (\d+) gates of (\d+), (\d+) clauses, (.*)")
 if os.access(SYMBOLIC, os.X_OK):
-    print("\n| Program | Check | Round | Steps | Gates | Estimate | Clauses | End |\n|---|---|---|---|---|---|---|---|")
+    print("\n| Program | Check | Round | Steps | Gates | Estimate | Clauses | End | MiniSat |")
+    print("|---|---|---|---|---|---|---|---|---|")
     rounds = beyond = 0
     for path in PROOFS:
         if path.endswith("_wrong.scala"):
@@ -60,7 +77,7 @@ if os.access(SYMBOLIC, os.X_OK):
         name = os.path.basename(path).removesuffix(".scala")
         for row in told:
             if ASKED == "--all" or row is dearest:
-                print("| " + " | ".join((name, *row)) + " |", flush=True)
+                print("| " + " | ".join((name, *row, conflicts(path, *row[:2]))) + " |", flush=True)
     print(f"{rounds} rounds, {beyond} with more gates than their own estimate\n")
 
 print(f"{alike} alike, {others} others")

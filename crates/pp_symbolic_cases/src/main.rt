@@ -13,9 +13,11 @@
 //! | `circuits SOURCE ROUND DEPTH TIMES` | how large the circuits of runs are | `circuits` |
 //! | `guess_runs FILE` | whether checks are proved in a round | `guess_runs` |
 //! | `guesses SOURCE ROUNDS LEMMAS` | what the proofs of checks take | `guesses` |
+//! | `clauses SOURCE CHECK ROUND` | the clauses of a proof | `asked` |
 //! | `coverage CASE SIZE` | whether a large match is covered | `coverage` |
 #![tactic(auto)]
 
+mod asked;
 mod circuits;
 mod coverage;
 mod guess_runs;
@@ -40,6 +42,7 @@ fn run(rt: &HostRuntime, task: &str) -> Result<()> {
         "circuits" => circuits::print_sizes(rt, given),
         "guess_runs" => guess_runs::print_proved(rt, given),
         "guesses" => guesses::print_proofs(rt, given),
+        "clauses" => asked::print_asked(rt, given),
         "coverage" => coverage::print_coverage(rt, given),
         other => bail!("no task {other}"),
     }
