@@ -42,7 +42,6 @@ are_at R (n ∷ ns) (h ∷ hs) (t ∷ ss) (suc i) s a is = are_at R ns hs ss i s
 are_at R ns hs ss i s a is = absurd a
 
 module _ (types : TypeTable) (σ : Sorts) (η : Heights) where
-
   -- the number has the sort, which is that of the shape, and at most the height of the shape
   pub record IsOf (n : ℕ) (h : Shape) (s : Sort) : Type 0 where
     pub has : Has types σ η s h.height n
