@@ -1,11 +1,11 @@
 -- The function on which another one depends is the first in its cone of which the text says that it is invalid or open.
-use Rattle.std.proofs.Common.{◌≡◌, ◌∙◌, ◌<◌, ◌≤◌, ℕ, zero, suc, Bool, true, false, List, [], ◌∷◌, Some, None, length}
-use Rattle.std.proofs.Common.{refl, sym, ap, subst, inl, inr, ◌⊎◌, arith}
-use Rattle.std.specs.Prelude.{Option, slice_get}
-use Rattle.std.proofs.lemmas.Option.{same_Some, slice_get_within}
-use Rattle.pp_answers.specs.Readings.{IsFirstUnsettled, IsUnsettled, is_unsettled}
-use Rattle.pp_induct.specs.Verdicts.{AreDone, AreVerdicts, Ended, EndedSo, HasUndone, IsInvalidEnd, IsOpenEnd}
-use Rattle.pp_induct.specs.Verdicts.{IsProvedOrExhausted, IsUndone, IsUndoneIn, IsVerdict, Never}
+use Rattle.std.proofs.Common.{◌≡◌, ◌<◌, ℕ, zero, suc, true, List, [], ◌∷◌, Some, length}
+use Rattle.std.proofs.Common.{refl, sym, subst, inl, inr, ◌⊎◌, arith}
+use Rattle.std.specs.Prelude.{slice_get}
+use Rattle.std.proofs.lemmas.Option.{slice_get_within}
+use Rattle.pp_answers.specs.Readings.{IsFirstUnsettled, is_unsettled}
+use Rattle.pp_induct.specs.Verdicts.{AreVerdicts, HasUndone, IsInvalidEnd, IsOpenEnd}
+use Rattle.pp_induct.specs.Verdicts.{IsUndone, IsVerdict}
 use Rattle.pp_induct.specs.declared.ends.CheckEnd.{CheckEnd}
 use Rattle.pp_induct.specs.declared.ends.CheckEnd.TheVariants as end
 use Rattle.pp_induct.specs.declared.verdict.Verdict.{Verdict}
@@ -13,7 +13,6 @@ use Rattle.pp_induct.specs.declared.verdict.Verdict.TheVariants.{Valid, Depends,
 use Rattle.pp_line_contents.specs.Contents.{Content, depending, failed, left_open, valid}
 use Rattle.pp_prog.specs.declared.id.FunctionId.{FunctionId}
 use Rattle.pp_prog.specs.declared.program.Program.{Program}
-use Rattle.pp_prog.specs.Cone.{InCone}
 
 -- the content is said of a function with this verdict
 abbrev pub Shows : Content → Verdict → Type 0

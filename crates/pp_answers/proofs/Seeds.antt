@@ -1,6 +1,6 @@
 -- The sources of a task, by its seed.
-use Rattle.std.proofs.Common.{◌≡◌, ◌≤◌, ◌∙◌, ℕ, List, [], ◌∷◌, Option, Some, None, length, map, sym, ap, subst, arith}
-use Rattle.std.specs.Prelude.{All, Vec}
+use Rattle.std.proofs.Common.{◌≡◌, ◌≤◌, ◌∙◌, ℕ, List, [], ◌∷◌, Some, None, length, map, sym, ap, subst, arith}
+use Rattle.std.specs.Prelude.{Vec}
 use Rattle.std.proofs.lemmas.List.{length-map}
 use Rattle.pp_answers.specs.Answers.{seed_of, sources_by, sources_of}
 use Rattle.pp_front.specs.Programs.{bytes_of}

@@ -22,7 +22,7 @@ use Rattle.pp_bounded_trees.specs.declared.arena.Trees.{Trees}
 use Rattle.pp_bounded_trees.specs.declared.arena.BoundedTree.{BoundedTree}
 use Rattle.pp_bounded_trees.specs.declared.arena.Node.{Node}
 use Rattle.pp_bounded_trees.specs.Alternatives.{IsOwn, field_in, found}
-use Rattle.pp_bounded_trees.specs.Arena.{FieldFits, FieldsFit, NodeFits, TreeFits}
+use Rattle.pp_bounded_trees.specs.Arena.{FieldFits, FieldsFit, TreeFits}
 use Rattle.pp_bounded_trees.specs.Fields.{IsBlank, lowered}
 use Rattle.pp_bounded_trees.specs.Meaning.{BoundedFits, bounded_sense}
 use Rattle.pp_bounded_trees.specs.Values.{all_values, prepended, symbol_value, value_at, values_of}
@@ -130,15 +130,12 @@ lowered_blank d gs k h m (sort.Tree of) (symbol.Bit l) fits within low most = ab
 
 module _ (types : TypeTable) (d : Trees) (gs : List Gate) (t : BoundedTree) (c : CtorId) (i : ℕ)
     (fits : BoundedFits types d gs) (tree : TreeFits d.nodes (length d.nodes) t) where
-  node_fits : NodeFits gs d.nodes types t.number tree.node
-  node_fits = fits.arena.each t.number tree.node tree.at
-
   -- where the node may have the constructor, the field is there
   own_field : (s : Sort) (y : Alternative) → HasField types c i s → found c.0 tree.node.alternatives ≡ Some y
       → FieldAt gs d.nodes t.number tree.node.height s y.fields i
   own_field s y has here =
       let f = found_some c.0 tree.node.alternatives y here in
-      let fit = node_fits.each f.place y f.at in
+      let fit = (fits.arena.each t.number tree.node tree.at).each f.place y f.at in
       let same : fit.entry ≡ has.0 =
       same_Some fit.entry has.0 (sym fit.at ∙ ap (λ k. slice_get types.ctors k) f.ctor ∙ has.1) in
       field_at gs d.nodes t.number tree.node.height fit.entry.fields y.fields i s fit.fields
@@ -153,7 +150,8 @@ module _ (types : TypeTable) (d : Trees) (gs : List Gate) (t : BoundedTree) (c :
 
       found_own : found c.0 tree.node.alternatives ≡ Some its.own
       found_own =
-          found_has c.0 tree.node.alternatives its.place its.own node_fits.order its.at
+          found_has c.0 tree.node.alternatives its.place its.own
+          (fits.arena.each t.number tree.node tree.at).order its.at
           (ap (λ (e : CtorId). e.0) (same_ctor its.own.ctor c its.fields has.0 (sym its.value ∙ has.1)))
 
       own_value : (x : Symbol BoundedTree) (u : Value) → slice_get its.own.fields i ≡ Some x

@@ -60,9 +60,6 @@ one_place types gs nodes k x i j y z fits one other same = elim (cases_order i j
 module _ (types : TypeTable) (d : Trees) (gs : List Gate) (t : BoundedTree) (c : CtorId) (p : ℕ) (l : Literal)
     (fits : BoundedFits types d gs) (tree : TreeFits d.nodes (length d.nodes) t)
     (place : IsPlaceOf c.0 tree.node.alternatives p) (lit : IsLiteralAt gs tree.node.alternatives p l) where
-  node_fits : NodeFits gs d.nodes types t.number tree.node
-  node_fits = fits.arena.each t.number tree.node tree.at
-
   own : (a : ℕ → Bool) (v : Value) → value_at (values_of a d.nodes) t.number ≡ Some v
       → IsOwn a (values_of a d.nodes) tree.node.alternatives v
   own a v is = own_of a (values_of a d.nodes) tree.node.alternatives v
@@ -75,7 +72,8 @@ module _ (types : TypeTable) (d : Trees) (gs : List Gate) (t : BoundedTree) (c :
     | inl within ↦
         let y = at_some tree.node.alternatives p within in
         let same : p ≡ o.place = true_once a tree.node.alternatives p o.place y.0 o.own
-        (one_true types gs d.nodes t.number tree.node a p y.0 node_fits gives y.1) y.1
+        (one_true types gs d.nodes t.number tree.node a p y.0 (fits.arena.each t.number tree.node tree.at)
+        gives y.1) y.1
         (subst (λ (m : Literal). lit_value a m ≡ true) (lit.there y.0 y.1) is) o.at o.is_true in
         let number : o.own.ctor.0 ≡ c.0 = place.here o.own (ap (λ k. slice_get tree.node.alternatives k) same ∙ o.at) in
         (o.fields, o.value ∙ ap (λ (e : CtorId). Tree e o.fields) (ctor_same o.own.ctor c number))
@@ -91,8 +89,8 @@ module _ (types : TypeTable) (d : Trees) (gs : List Gate) (t : BoundedTree) (c :
         | inl before ↦ absurd (place.before o.place o.own before o.at number)
         | inr after ↦
             let y = at_some tree.node.alternatives p (omega arith) in
-            let there : p ≡ o.place = one_place types gs d.nodes t.number tree.node p o.place y.0 o.own node_fits y.1
-            o.at
+            let there : p ≡ o.place = one_place types gs d.nodes t.number tree.node p o.place y.0 o.own
+            (fits.arena.each t.number tree.node tree.at) y.1 o.at
             (place.here y.0 y.1 ∙ sym number) in
             let read : l ≡ o.own.lit = lit.there o.own (ap (λ k. slice_get tree.node.alternatives k) there ∙ o.at) in
             subst (λ (m : Literal). lit_value a m ≡ true) (sym read) o.is_true

@@ -13,21 +13,18 @@ use Rattle.pp_prog.specs.Calls.{call_table, calls, calls_in_case, calls_step, fu
 use Rattle.pp_prog.specs.Calls.{post_calls, pre_calls}
 use Rattle.pp_prog.specs.declared.expr.Case.{Case}
 use Rattle.pp_prog.specs.declared.expr.Expr.{Expr}
-use Rattle.pp_prog.specs.declared.expr.Expr.TheFolds.{fold-Case, fold-roll-Case, fold-roll-Expr, map-Case}
+use Rattle.pp_prog.specs.declared.expr.Expr.TheFolds.{fold-roll-Case, fold-roll-Expr, map-Case}
 use Rattle.pp_prog.specs.declared.expr.Expr.TheFolds.{map-Expr}
 use Rattle.pp_prog.specs.declared.expr.Expr.TheOpen as layer
 use Rattle.pp_prog.specs.declared.expr.Expr.TheViews.{roll-Case, roll-Expr}
 use Rattle.pp_prog.specs.declared.expr.Function.{Function}
 use Rattle.pp_prog.specs.declared.expr.Pattern.{Pattern}
 use Rattle.pp_prog.specs.declared.id.CheckId.{CheckId}
-use Rattle.pp_translation.specs.Bare.{bare, bare_case, bare_function, bare_post, bare_step}
+use Rattle.pp_translation.specs.Bare.{bare, bare_case, bare_function, bare_of_case, bare_post, bare_step}
 use Rattle.pp_translation.specs.Exprs.{unnumbered}
 
 abbrev Ns : Type 0
 Ns = List ℕ
-
-abbrev bare_of_case : Case → Case
-bare_of_case = fold-Case Expr Case bare_step bare_case
 
 abbrev P : Expr → Type 0
 P e = calls (bare e) ≡ calls e

@@ -23,7 +23,7 @@ use Rattle.pp_tree.specs.declared.operator.UnaryOp.{UnaryOp}
 use Rattle.pp_prog.specs.declared.id.CheckId.{CheckId}
 use Rattle.pp_prog.specs.declared.id.CtorId.{CtorId}
 use Rattle.pp_prog.specs.declared.id.FunctionId.{FunctionId}
-use Rattle.pp_translation.specs.Bare.{bare, bare_case, bare_step}
+use Rattle.pp_translation.specs.Bare.{bare, bare_case, bare_of_case, bare_step}
 use Rattle.pp_translation.specs.Exprs.{unnumbered}
 
 abbrev pub Kinds : Type 0
@@ -132,14 +132,11 @@ kinds_in_case p (Some g) b = rolled_case (record { pattern = p; guard = Some g; 
 
 -- ---- without numbers
 
-abbrev bare_in_case : Case → Case
-bare_in_case = fold-Case Expr Case bare_step bare_case
-
 abbrev IsSame : Expr → Type 0
 IsSame x = kinds (bare x) ≡ kinds x
 
 abbrev IsSameCase : Case → Type 0
-IsSameCase y = case_kinds (bare_in_case y) ≡ case_kinds y
+IsSameCase y = case_kinds (bare_of_case y) ≡ case_kinds y
 
 all_same : (ys : List (With IsSame)) → joined (map kinds (map bare (elements ys))) ≡ joined (map kinds (elements ys))
 all_same [] = refl
@@ -147,14 +144,14 @@ all_same (y ∷ ys) =
     ap (λ l. l ++ joined (map kinds (map bare (elements ys)))) y.1 ∙ ap (λ l. kinds y.0 ++ l) (all_same ys)
 
 cases_same : (ys : List (With IsSameCase))
-    → joined (map case_kinds (map bare_in_case (elements ys))) ≡ joined (map case_kinds (elements ys))
+    → joined (map case_kinds (map bare_of_case (elements ys))) ≡ joined (map case_kinds (elements ys))
 cases_same [] = refl
 cases_same (y ∷ ys) =
-    ap (λ l. l ++ joined (map case_kinds (map bare_in_case (elements ys)))) y.1
+    ap (λ l. l ++ joined (map case_kinds (map bare_of_case (elements ys)))) y.1
     ∙ ap (λ l. case_kinds y.0 ++ l) (cases_same ys)
 
 level : (y : layer.Expr-F (With IsSame) (With IsSameCase))
-    → kinds (bare_step (map-Expr Expr Case Expr Case bare bare_in_case (under y)))
+    → kinds (bare_step (map-Expr Expr Case Expr Case bare bare_of_case (under y)))
     ≡ kinds_step (map-Expr Expr Case Kinds Kinds kinds case_kinds (under y))
 level (layer.Int n) = kinds_int n
 level (layer.Bool b) = kinds_bool b
@@ -169,8 +166,8 @@ level (layer.If c a b) =
     kinds_if (bare c.0) (bare a.0) (bare b.0) ∙ ap (λ l. l ++ kinds (bare a.0) ++ kinds (bare b.0)) c.1
     ∙ ap (λ l. kinds c.0 ++ l ++ kinds (bare b.0)) a.1 ∙ ap (λ l. kinds c.0 ++ kinds a.0 ++ l) b.1
 level (layer.Match e cases check) =
-    kinds_match (bare e.0) (map bare_in_case (elements cases)) None
-    ∙ ap (λ l. l ++ kind.Match ∷ joined (map case_kinds (map bare_in_case (elements cases)))) e.1
+    kinds_match (bare e.0) (map bare_of_case (elements cases)) None
+    ∙ ap (λ l. l ++ kind.Match ∷ joined (map case_kinds (map bare_of_case (elements cases)))) e.1
     ∙ ap (λ l. kinds e.0 ++ kind.Match ∷ l) (cases_same cases)
 level (layer.Val bound rest) =
     kinds_val (bare bound.0) (bare rest.0) ∙ ap (λ l. l ++ kinds (bare rest.0)) bound.1

@@ -13,7 +13,7 @@ use Rattle.pp_eval.specs.Meaning.{CallMeaning, Frame}
 use Rattle.pp_eval.specs.Part.{Part, and_then, either, inside}
 use Rattle.pp_eval.proofs.Extends.{CallsCover, Extends, admits_extends, either_extends, frame_extends, inside_extends}
 use Rattle.pp_eval.proofs.Extends.{same_extends, then_extends}
-use Rattle.pp_guess_runs.specs.Guess.{compared, is_check, or_deep}
+use Rattle.pp_guess_runs.specs.Guess.{compared, is_check}
 use Rattle.pp_guess_runs.specs.Guess as run
 use Rattle.pp_steps.specs.Frames as code
 use Rattle.pp_steps.specs.Frames.{admitting, descending, measuring}

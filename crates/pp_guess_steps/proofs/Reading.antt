@@ -1,5 +1,5 @@
 -- The pieces of a guess run look at earlier steps alone, and their numbers are those of steps that stand.
-use Rattle.std.proofs.Common.{◌≡◌, ℕ, suc, ◌+◌, ◌<◌, ◌≤◌, Bool, true, false, List, [], ◌∷◌, ◌++◌, length, Option, Some}
+use Rattle.std.proofs.Common.{ℕ, suc, ◌+◌, ◌<◌, ◌≤◌, Bool, true, false, List, [], ◌∷◌, ◌++◌, length, Option, Some}
 use Rattle.std.proofs.Common.{None, arith}
 use Rattle.std.specs.Prelude.{slice_get}
 use Rattle.pp_tree.specs.declared.operator.BinaryOp.TheVariants.{Equal}

@@ -5,7 +5,7 @@ use Rattle.std.proofs.lemmas.List.{append-nil, append_cancel_left}
 use Rattle.pp_line_contents.proofs.Texts.{counts_same}
 use Rattle.pp_line_contents.proofs.Words.{one_decimal}
 use Rattle.pp_line_contents.specs.Laws.{MadeTextsTellContents}
-use Rattle.pp_line_contents.specs.Reports.{Counts, MadeContent, PrintsMade, counts_text}
+use Rattle.pp_line_contents.specs.Reports.{Counts, MadeContent, counts_text}
 use Rattle.pp_line_contents.proofs.Others.{no_blank}
 use Rattle.pp_print.specs.Made.{made_text}
 

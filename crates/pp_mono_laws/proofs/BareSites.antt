@@ -27,10 +27,10 @@ use Rattle.pp_prog.specs.declared.expr.Pattern.{Pattern}
 use Rattle.pp_prog.specs.declared.id.CheckId.{CheckId}
 use Rattle.pp_prog.specs.declared.sort.Sort.{Sort}
 use Rattle.pp_prog.specs.declared.types.TypeTable.{TypeTable}
-use Rattle.pp_translation.specs.Bare.{bare, bare_case, bare_function, bare_post, bare_step}
+use Rattle.pp_translation.specs.Bare.{bare, bare_case, bare_function, bare_of_case, bare_post, bare_step}
 use Rattle.pp_translation.specs.Exprs.{unnumbered}
 use Rattle.pp_mono_laws.proofs.BareSorts.{bares, sort_of_bare}
-use Rattle.pp_mono_laws.proofs.Slots.{bare_of_case, blank}
+use Rattle.pp_mono_laws.proofs.Slots.{blank}
 use Rattle.pp_mono_laws.proofs.Slotted.{case_parts, site_parts}
 
 division_blank : (b : Bool) (n : Option CheckId) → division_site b None ∷ [] ≡ map blank (division_site b n ∷ [])

@@ -19,9 +19,8 @@ use Rattle.pp_prog.specs.declared.expr.Function.{Function}
 use Rattle.pp_prog.specs.declared.expr.Pattern.{Pattern}
 use Rattle.pp_prog.specs.declared.sort.Sort.{Sort}
 use Rattle.pp_prog.specs.declared.types.TypeTable.{TypeTable}
-use Rattle.pp_translation.specs.Bare.{bare, bare_case, bare_function, bare_step}
+use Rattle.pp_translation.specs.Bare.{bare, bare_case, bare_function, bare_of_case, bare_step}
 use Rattle.pp_translation.specs.Exprs.{unnumbered}
-use Rattle.pp_mono_laws.proofs.Slots.{bare_of_case}
 
 bare_call : (o : Option Function) (ss : List (Option Sort))
     → call_sort (option_map bare_function o) ss ≡ call_sort o ss

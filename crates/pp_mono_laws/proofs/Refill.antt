@@ -13,9 +13,9 @@ use Rattle.pp_prog.specs.declared.expr.Expr.TheVariants as prog
 use Rattle.pp_prog.specs.declared.expr.Expr.TheViews.{roll-Case, roll-Expr}
 use Rattle.pp_prog.specs.declared.expr.Pattern.{Pattern}
 use Rattle.pp_prog.specs.declared.id.CheckId.{CheckId}
-use Rattle.pp_translation.specs.Bare.{bare, bare_case, bare_step}
+use Rattle.pp_translation.specs.Bare.{bare, bare_case, bare_of_case, bare_step}
 use Rattle.pp_translation.specs.Exprs.{unnumbered}
-use Rattle.pp_mono_laws.proofs.Slots.{Slots, bare_of_case, case_slots, case_step, slot_step, slots}
+use Rattle.pp_mono_laws.proofs.Slots.{Slots, case_slots, case_step, slot_step, slots}
 
 -- what is made from slots, and the slots that are left
 abbrev pub Made : Type 0 → Type 0

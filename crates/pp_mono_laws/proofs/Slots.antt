@@ -8,7 +8,6 @@ use Rattle.pp_prog.specs.declared.expr.Expr.TheFolds.{fold-Case, fold-Expr}
 use Rattle.pp_prog.specs.declared.expr.Expr.TheOpen as layer
 use Rattle.pp_prog.specs.declared.expr.Function.{Function}
 use Rattle.pp_prog.specs.declared.id.CheckId.{CheckId}
-use Rattle.pp_translation.specs.Bare.{bare_case, bare_step}
 use Rattle.pp_translation.specs.Exprs.{unnumbered}
 
 abbrev pub Slots : Type 0
@@ -66,10 +65,6 @@ pre_slots (Some pre) = slots pre
 abbrev pub post_slots : Option (CheckId × Expr) → Slots
 post_slots None = []
 post_slots (Some post) = slots post.1 ++ Some post.0 ∷ []
-
--- a case without the numbers of its checks
-abbrev pub bare_of_case : Case → Case
-bare_of_case = fold-Case Expr Case bare_step bare_case
 
 -- the slots of a function
 abbrev pub function_slots : Function → Slots

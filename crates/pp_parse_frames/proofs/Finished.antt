@@ -3,18 +3,14 @@ use Rattle.std.proofs.Common.{◌≡◌, List, [], ◌∷◌, ◌++◌, map, app
 use Rattle.std.proofs.Common.{Some, None}
 use Rattle.pp_tree.specs.declared.expr.Case.{Case}
 use Rattle.pp_tree.specs.declared.expr.ExprKind.TheViews.{out-Case, roll-out-Case}
-use Rattle.pp_tree.specs.Plain.{TypeTree, TypeTrees, no_types, PatternTree, no_patterns, Tree, no_trees, CaseTrees}
+use Rattle.pp_tree.specs.Plain.{TypeTree, no_types, PatternTree, no_patterns, Tree, no_trees, CaseTrees}
 use Rattle.pp_tree.specs.Plain.{no_cases}
 use Rattle.pp_tree.specs.Shown.{type_trees, pattern_trees, trees, case_trees, case_of, case_before, pattern_of, tree_of}
 use Rattle.pp_tree.proofs.Folded.{case_is}
 use Rattle.pp_grammar.specs.Frames.{CaseText}
 use Rattle.pp_grammar.specs.Joining.{onto, types_onto, trees_onto, patterns_onto, cases_onto}
 use Rattle.pp_parse_state.specs.Shown.{stacked, case_text}
-
-pub stacked_push : {A B : Type 0} (f : A → B) (xs : List A) (x : A) (ys : List B)
-    → stacked f (xs ++ x ∷ []) ys ≡ f x ∷ stacked f xs ys
-stacked_push f [] x ys = refl
-stacked_push f (z ∷ zs) x ys = stacked_push f zs x (f z ∷ ys)
+use Rattle.pp_parse_state.proofs.Stacked.{stacked_push}
 
 list_onto : {A B : Type 0} (f : B → A) (xs : List B) (ds us : List A)
     → onto (stacked f xs ds) us ≡ onto ds (map f xs ++ us)

@@ -20,7 +20,7 @@ use pp_tree::{Built, Expr, TypeText, build};
 pub const RES: &str = "res";
 
 /// The contracts with one requirement more.
-#[tactic(auto, using(crate::proofs::Finished::stacked_push))]
+#[tactic(auto, using(pp_parse_state::proofs::Stacked::stacked_push))]
 pub fn with_requirement<'a>(
     contracts: Contracts<'a>,
     claim: &'a Built<Expr<'a>>,

@@ -16,7 +16,7 @@ use pp_tree::build::{Claim, ClassParts, DefParts, class, def, param};
 use pp_tree::{Built, Checked, ClassDecl, Decl, Expr, TypeText};
 
 /// The head with one parameter more.
-#[tactic(auto, using(crate::proofs::Finished::stacked_push))]
+#[tactic(auto, using(pp_parse_state::proofs::Stacked::stacked_push))]
 pub fn with_param<'a>(
     head: Head<'a>,
     at: u32,
@@ -126,7 +126,7 @@ pub fn head_at<'a>(cx: &Current<'a, '_>, at: u32, name: &'a str) -> Head<'a>
 }
 
 /// The head with one type parameter more.
-#[tactic(auto, using(crate::proofs::Finished::stacked_push))]
+#[tactic(auto, using(pp_parse_state::proofs::Stacked::stacked_push))]
 pub fn with_type_param<'a>(head: Head<'a>, name: &'a str) -> Result<Head<'a>, NoMemory>
     ensures { IfOk result (λ h. head_of h ≡ with_type_param (head_of head.entry) name.now) }
 {

@@ -11,7 +11,7 @@ use pp_parse_state::{Current, NoMemory, expr_itself, keep};
 use pp_tree::{Built, Case, Expr, Pattern, TypeText, build};
 
 /// The list with one expression more.
-#[tactic(auto, using(crate::proofs::Finished::stacked_push))]
+#[tactic(auto, using(pp_parse_state::proofs::Stacked::stacked_push))]
 pub fn pushed<'a>(
     list: Vec<Built<Expr<'a>>>,
     last: &'a Built<Expr<'a>>,
@@ -25,7 +25,7 @@ pub fn pushed<'a>(
 }
 
 /// The list with one type more, and what it is as a whole.
-#[tactic(auto, using(crate::proofs::Finished::stacked_push))]
+#[tactic(auto, using(pp_parse_state::proofs::Stacked::stacked_push))]
 pub fn with_type<'a>(
     list: Vec<Built<TypeText<'a>>>,
     last: &'a Built<TypeText<'a>>,
@@ -41,7 +41,7 @@ pub fn with_type<'a>(
 }
 
 /// The list with one pattern more, and what it is as a whole.
-#[tactic(auto, using(crate::proofs::Finished::stacked_push))]
+#[tactic(auto, using(pp_parse_state::proofs::Stacked::stacked_push))]
 pub fn with_pattern<'a>(
     list: Vec<Built<Pattern<'a>>>,
     last: &'a Built<Pattern<'a>>,
@@ -58,7 +58,7 @@ pub fn with_pattern<'a>(
 }
 
 /// The list with one case more.
-#[tactic(auto, using(crate::proofs::Finished::stacked_push))]
+#[tactic(auto, using(pp_parse_state::proofs::Stacked::stacked_push))]
 pub fn with_case<'a>(
     list: Vec<Built<Case<'a>>>,
     last: &'a Built<Case<'a>>,

@@ -64,7 +64,7 @@ impl<'a> Parsed<'a> {
     }
 
     /// An import of an object is read.
-    #[tactic(auto, using(crate::proofs::Lists::stacked_push))]
+    #[tactic(auto, using(pp_parse_state::proofs::Stacked::stacked_push))]
     pub fn import(&mut self, object: Placed<'a>) -> Result<(), NoMemory>
         ensures { IfOk result (λ _. parsed_of self.new ≡ with_import (parsed_of self.old) (placed_of object.entry)) }
     {
@@ -76,7 +76,7 @@ impl<'a> Parsed<'a> {
     }
 
     /// An object is opened.
-    #[tactic(auto, using(crate::proofs::Lists::stacked_push))]
+    #[tactic(auto, using(pp_parse_state::proofs::Stacked::stacked_push))]
     pub fn open(&mut self, name: &'a str) -> Result<(), NoMemory>
         ensures { IfOk result (λ _. parsed_of self.new ≡ with_object (parsed_of self.old) name.now) }
     {
@@ -85,7 +85,7 @@ impl<'a> Parsed<'a> {
     }
 
     /// A declaration is read.
-    #[tactic(auto, using(crate::proofs::Lists::stacked_push))]
+    #[tactic(auto, using(pp_parse_state::proofs::Stacked::stacked_push))]
     pub fn declare(&mut self, decl: &Checked<Decl<'a>>) -> Result<(), NoMemory>
         ensures { IfOk result (λ _. parsed_of self.new ≡ with_decl (parsed_of self.old) (decl_of decl.now.tree)) }
     {
@@ -94,7 +94,7 @@ impl<'a> Parsed<'a> {
     }
 
     /// The unit that is read.
-    #[tactic(auto, using(crate::proofs::Lists::list_finished))]
+    #[tactic(auto, using(pp_parse_frames::proofs::Finished::list_finished))]
     pub fn unit(&self, arena: &'a Bump) -> Result<Checked<Unit<'a>>, NoMemory>
         ensures { IfOk result (λ u. unit_of u.tree ≡ plain_unit (parsed_of self.now)) }
     {

@@ -1,2 +1,2 @@
 mod Holes
-mod Stacked
+pub mod Stacked

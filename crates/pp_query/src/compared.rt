@@ -2,8 +2,8 @@
 //!
 //! The equality of two words is a chain of conjunctions, digit by digit from the lowest one on. Mostly a check fails
 //! where two words differ. Where the solver decides first whether they are equal up to a digit, it learns digit by digit
-//! that they are: of a sum that is put in another order it takes a half to a third of the lemmas. Which variables these
-//! are is read off the clauses, as circuits give them for their gates: a gate's variable is the greatest of its clauses.
+//! that they are: of a sum that is put in another order it takes about half the lemmas. Which variables these are is
+//! read off the clauses, as circuits give them for their gates: a gate's variable is the greatest of its clauses.
 
 ghost use Rattle.std.specs.Prelude.{◌≤◌, ℕ, All, IfOk};
 ghost use Rattle.pp_clause.specs.Bound.{IsUpTo};

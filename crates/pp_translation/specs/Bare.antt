@@ -5,7 +5,7 @@ use Rattle.std.specs.Option.{option_map}
 use Rattle.pp_translation.specs.Exprs.{unnumbered}
 use Rattle.pp_prog.specs.declared.expr.Case.{Case}
 use Rattle.pp_prog.specs.declared.expr.Expr.{Expr}
-use Rattle.pp_prog.specs.declared.expr.Expr.TheFolds.{fold-Expr}
+use Rattle.pp_prog.specs.declared.expr.Expr.TheFolds.{fold-Case, fold-Expr}
 use Rattle.pp_prog.specs.declared.expr.Expr.TheOpen as layer
 use Rattle.pp_prog.specs.declared.expr.Expr.TheVariants as expr
 use Rattle.pp_prog.specs.declared.expr.Function.{Function}
@@ -32,6 +32,10 @@ bare_case c = record { pattern = c.pattern; guard = c.guard; body = c.body }
 -- the expression without the numbers of its checks
 abbrev pub bare : Expr → Expr
 bare = fold-Expr Expr Case bare_step bare_case
+
+-- the case without the numbers of its checks
+abbrev pub bare_of_case : Case → Case
+bare_of_case = fold-Case Expr Case bare_step bare_case
 
 abbrev pub bare_post : Option (CheckId × Expr) → Option (CheckId × Expr)
 bare_post None = None

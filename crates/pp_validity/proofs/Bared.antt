@@ -6,7 +6,7 @@ use Rattle.std.specs.Option.{option_map}
 use Rattle.pp_tree.specs.declared.operator.BinaryOp.{BinaryOp}
 use Rattle.pp_prog.specs.declared.expr.Case.{Case}
 use Rattle.pp_prog.specs.declared.expr.Expr.{Expr}
-use Rattle.pp_prog.specs.declared.expr.Expr.TheFolds.{fold-Case, fold-roll-Expr, fold-roll-Case}
+use Rattle.pp_prog.specs.declared.expr.Expr.TheFolds.{fold-roll-Expr, fold-roll-Case}
 use Rattle.pp_prog.specs.declared.expr.Expr.TheOpen as layer
 use Rattle.pp_prog.specs.declared.expr.Expr.TheVariants as prog
 use Rattle.pp_prog.specs.declared.expr.Pattern.{Pattern}
@@ -14,7 +14,7 @@ use Rattle.pp_tree.specs.declared.operator.UnaryOp.{UnaryOp}
 use Rattle.pp_prog.specs.declared.id.CheckId.{CheckId}
 use Rattle.pp_prog.specs.declared.id.CtorId.{CtorId}
 use Rattle.pp_prog.specs.declared.id.FunctionId.{FunctionId}
-use Rattle.pp_translation.specs.Bare.{bare, bare_case, bare_step}
+use Rattle.pp_translation.specs.Bare.{bare, bare_case, bare_of_case, bare_step}
 use Rattle.pp_translation.specs.Exprs.{CaseAt, Translated, case_for, case_step, expr_at, expr_of, expr_step, kind_step}
 use Rattle.pp_translation.specs.Exprs.{translated, unnumbered}
 use Rattle.pp_translation.specs.Numbered.{Translates, TranslateAll, TranslateGuard, TranslateCase, TranslateCases}
@@ -71,9 +71,6 @@ bare_field a k = ap bare (sym (prog.rolls-Field a k)) ∙ fold-roll-Expr Expr Ca
 
 bare_if : (c a b : Expr) → bare (prog.If c a b) ≡ prog.If (bare c) (bare a) (bare b)
 bare_if c a b = ap bare (sym (prog.rolls-If c a b)) ∙ fold-roll-Expr Expr Case bare_step bare_case (layer.If c a b)
-
-abbrev bare_of_case : Case → Case
-bare_of_case = fold-Case Expr Case bare_step bare_case
 
 bare_match : (a : Expr) (ys : List Case) (n : Option CheckId)
     → bare (prog.Match a ys n) ≡ prog.Match (bare a) (map bare_of_case ys) None
