@@ -1,10 +1,10 @@
 //! In which order variables are decided. The solver's answers are right in any order; this one is a guess at a good
-//! one: first come the variables that the caller names, then those that the last conflicts met, each with the sign that
-//! it had last. Of equally active ones, which most are that no conflict met, the one with the lowest number comes first:
-//! a gate has a greater number than its parts, so most gates follow from what is decided, and few variables are decided
-//! that have nothing to do with the next conflict. Some searches get lost there: their lemmas each rule out little more
-//! than one assignment of the variables that were met first. So from time to time all activities are forgotten, and the
-//! order of equals is turned round. Of the heap only that its places are in range is proved.
+//! one: first come the variables that the caller names, then those that the last conflicts met, each with the sign
+//! that it had last. Of equally active ones, which most are that no conflict met, the one with the lowest number comes
+//! first: a gate has a greater number than its parts, so most gates follow from what is decided, and few variables are
+//! decided that have nothing to do with the next conflict. Some searches get lost there: their lemmas each rule out
+//! little more than one assignment of the variables that were met first. So from time to time all activities are
+//! forgotten, and the order of equals is turned round. Of the heap only that its places are in range is proved.
 ghost use Rattle.std.specs.Prelude.{ℕ, ◌≡◌, ◌<◌, length, vec_len, All, IfOk, OnOk};
 
 use crate::NoMemory;

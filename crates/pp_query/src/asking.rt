@@ -15,8 +15,8 @@ use pp_symbolic::Mode;
 use std::alloc::Global;
 
 /// Asks for an assignment that gives each gate its value and makes both literals true: that the check fails, and that
-/// all that was supposed holds. The solver may learn so many lemmas. The mode says what it decides first. The only error
-/// is want of memory.
+/// all that was supposed holds. The solver may learn so many lemmas. The mode says what it decides first. The only
+/// error is want of memory.
 pub(crate) fn ask(
     alloc: Global,
     circuit: &Circuit,
@@ -56,8 +56,8 @@ pub(crate) fn ask(
     }
 }
 
-/// The variables that are decided first: of a guess run those that tell that words are equal, of a run none, so that the
-/// arguments that are shown have small numbers.
+/// The variables that are decided first: of a guess run those that tell that words are equal, of a run none, so that
+/// the arguments that are shown have small numbers.
 fn first_decided(
     alloc: Global,
     clauses: &Clauses,

@@ -1,9 +1,10 @@
 //! Which variables tell that two words are equal: those that the solver decides first where it looks for a guess run.
 //!
 //! The equality of two words is a chain of conjunctions, digit by digit from the lowest one on. Mostly a check fails
-//! where two words differ. Where the solver decides first whether they are equal up to a digit, it learns digit by digit
-//! that they are: of a sum that is put in another order it takes about half the lemmas. Which variables these are is
-//! read off the clauses, as circuits give them for their gates: a gate's variable is the greatest of its clauses.
+//! where two words differ. Where the solver decides first whether they are equal up to a digit, it learns digit by
+//! digit that they are: of a sum that is put in another order it takes about half the lemmas. Which variables these
+//! are is read off the clauses, as circuits give them for their gates: a gate's variable is the greatest of its
+//! clauses.
 
 ghost use Rattle.std.specs.Prelude.{◌≤◌, ℕ, All, IfOk};
 ghost use Rattle.pp_clause.specs.Bound.{IsUpTo};
@@ -48,9 +49,9 @@ impl Definition {
     }
 }
 
-/// The variables that tell, up to a digit, that two words are equal, on whose equality the literal stands by conjunctions
-/// alone. The only error is want of memory. That they are variables of the clauses is all that is promised, since the
-/// solver's answers are right in any order.
+/// The variables that tell, up to a digit, that two words are equal, on whose equality the literal stands by
+/// conjunctions alone. The only error is want of memory. That they are variables of the clauses is all that is
+/// promised, since the solver's answers are right in any order.
 pub fn comparisons(alloc: Global, clauses: &Clauses, lit: Lit) -> Result<Vec<u32>, NoMemory>
     ensures { IfOk result (λ r. (vars : ℕ) → All (IsUpTo vars) clauses.now → All (λ v. v ≤ vars) r.items) }
 {

@@ -1,6 +1,6 @@
-//! The clauses of a proof, for other solvers. `SOURCE CHECK ROUND` names a source, the number of a check and a round. They
-//! are printed in the DIMACS format, with a clause for each of the two literals that are asked at their end. A round whose
-//! estimate is above 4,000,000 isn't built.
+//! The clauses of a proof, for other solvers. `SOURCE CHECK ROUND` names a source, the number of a check and a round.
+//! They are printed in the DIMACS format, with a clause for each of the two literals that are asked at their end. A
+//! round whose estimate is above 4,000,000 isn't built.
 
 ghost use Rattle.std.specs.Prelude.{◌<◌, ◌≤◌, length};
 ghost use Rattle.pp_checks.specs.Plan.{IsPlanOf};

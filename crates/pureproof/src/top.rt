@@ -69,8 +69,8 @@ pub fn pureproof<'a, S: Shelf, K: Sink, E: Sink>(
         (told S.held S.asked S.failed S.seen shelf.old shelf.new) (took K.taken K.faults out.old out.new)
         (took E.taken E.faults err.old err.new)) result }
 
-    // the printed text tells all this: in mode `verify` it is read back as one verdict of each function, with one check,
-    // one list of arguments, one round and one reason
+    // the printed text tells all this: in mode `verify` it is read back as one verdict of each function, with one
+    // check, one list of arguments, one round and one reason
     ensures read_back { TextIsReadBack (the_run (texts words.entry.now)
         (told S.held S.asked S.failed S.seen shelf.old shelf.new) (took K.taken K.faults out.old out.new)
         (took E.taken E.faults err.old err.new)) result }

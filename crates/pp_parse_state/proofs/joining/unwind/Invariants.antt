@@ -6,8 +6,8 @@ use Rattle.pp_parse_state.proofs.joining.unwind.Given as goal
 
 abbrev pub invariant-loop-stack : goal.invariant-loop-stack
 invariant-loop-stack l =
-    unwind l.tight (frames l.stack) (tree_of l.operand.tree.now.tree) l.operand.holed ≡ unwind l.tight (frames l.fn.stack)
-    (tree_of l.fn.tree.tree) l.fn.holed
+    unwind l.tight (frames l.stack) (tree_of l.operand.tree.now.tree) l.operand.holed
+    ≡ unwind l.tight (frames l.fn.stack) (tree_of l.fn.tree.tree) l.fn.holed
 
 abbrev pub decreases-loop-stack : goal.decreases-loop-stack
 decreases-loop-stack l = length (frames l.stack)
