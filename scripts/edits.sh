@@ -2,18 +2,21 @@
 # The second tier of must-fail edits, those under edits/: tries them on a copy of the repository. It is no part of the
 # gate, whose own edits stand in crates/NAME/must-fail/.
 #
-#   edits.sh             tries the edits of each crate of which sources, edits or toolchain changed since they were tried
+#   edits.sh             tries the edits of each crate whose sources, edits or toolchain changed since they were tried
 #   edits.sh NAME ..     tries those of these crates
 #   edits.sh --all       tries all
 #   edits.sh --list      says which crates are untried, and tries nothing
 #
+# Ten crates are tried at once, so that each processor has an edit, or the proof that a crate's edits begin with.
+#
 # edits/TRIED has a line for each crate: its name, the sum of its sources, its edits and the toolchain's line when they
-# were last tried, and the edits that were refused then. A line is written as soon as its crate is done, so a run that
-# was stopped is taken up by the next. Libraries that were built in this checkout aren't built again.
+# were last tried, and the edits that were refused then. The lines of ten crates are written as soon as they are done, so
+# a run that was stopped is taken up by the next. Libraries that were built in this checkout aren't built again.
 set -u
 root=$(cd "$(dirname "${BASH_SOURCE[0]}")/.." && pwd)
 tried=$root/edits/TRIED
 kit=$(rt version)
+at_once=10
 
 # The crates with edits of the second tier.
 names_of_all() {
@@ -34,7 +37,7 @@ is_untried() {
     ! grep -q "^$1 $(sum_of "$1")\( \|\$\)" "$tried" 2> /dev/null
 }
 
-# copy_for NAME: a copy of the repository in `copy`, in which the edits of the second tier are those to try
+# copy_for NAME ..: a copy of the repository in `copy`, in which the edits of these crates' second tier are those to try
 copy_for() {
     local crate name
     copy=$(mktemp -d)
@@ -49,7 +52,9 @@ copy_for() {
             cp -al "$crate/out/rlib" "$copy/crates/$name/out/rlib"
         fi
     done
-    cp -r "$root/edits/$1" "$copy/crates/$1/must-fail"
+    for name in "$@"; do
+        cp -r "$root/edits/$name" "$copy/crates/$name/must-fail"
+    done
 }
 
 # note NAME LOG: writes the line of the crate, and says which edits weren't refused
@@ -65,6 +70,7 @@ note() {
         fi
     done
     passed=$((passed + ${#refused[@]}))
+    echo "edits: $name: ${#refused[@]} refused"
     {
         grep -v "^$name " "$tried" 2> /dev/null
         echo "$name $(sum_of "$name")" "${refused[@]}"
@@ -95,10 +101,14 @@ for name in "${names[@]}"; do
         echo "edits: edits/$name is missing" >&2
         exit 2
     fi
-    copy_for "$name"
-    (cd "$copy" && rt must-fail "$name") > "$log" 2>&1
-    tail -n 1 "$log"
-    note "$name" "$log"
+done
+for ((first = 0; first < ${#names[@]}; first += at_once)); do
+    group=("${names[@]:first:at_once}")
+    copy_for "${group[@]}"
+    (cd "$copy" && rt must-fail "${group[@]}") > "$log" 2>&1
+    for name in "${group[@]}"; do
+        note "$name" "$log"
+    done
     rm -rf "$copy"
 done
 echo "$passed passed, $failed failed"
