@@ -10,8 +10,9 @@
 # Ten crates are tried at once, so that each processor has an edit, or the proof that a crate's edits begin with.
 #
 # edits/TRIED has a line for each crate: its name, the sum of its sources, its edits and the toolchain's line when they
-# were last tried, and the edits that were refused then. The lines of ten crates are written as soon as they are done, so
-# a run that was stopped is taken up by the next. Libraries that were built in this checkout aren't built again.
+# were last tried, and the edits that were refused then. It stays untried where a try came to no verdict. The lines of
+# ten crates are written as soon as they are done, so a run that was stopped is taken up by the next. Libraries that
+# were built in this checkout aren't built again.
 set -u
 root=$(cd "$(dirname "${BASH_SOURCE[0]}")/.." && pwd)
 tried=$root/edits/TRIED
@@ -57,20 +58,22 @@ copy_for() {
     done
 }
 
-# note NAME LOG: writes the line of the crate, and says which edits weren't refused
+# note NAME LOG: says which edits weren't refused, and writes the line of the crate, unless one of them came to no verdict
 note() {
-    local edit name=$1 refused=()
+    local edit name=$1 refused=() all_tried=yes
     for edit in "$root/edits/$name"/*.edit; do
         edit=$(basename "$edit")
         if grep -q "^rt: must-fail $name/$edit: refused" "$2"; then
             refused+=("${edit%.edit}")
-        else
-            failed=$((failed + 1))
-            grep "must-fail $name/$edit" "$2" || echo "edits: $name/$edit: not tried"
+            continue
         fi
+        failed=$((failed + 1))
+        grep "must-fail $name/$edit" "$2" || echo "edits: $name/$edit: not tried"
+        grep -q "must-fail $name/$edit: \(NOT REFUSED\|BAD EDIT\)" "$2" || all_tried=no
     done
     passed=$((passed + ${#refused[@]}))
     echo "edits: $name: ${#refused[@]} refused"
+    [ "$all_tried" = yes ] || return
     {
         grep -v "^$name " "$tried" 2> /dev/null
         echo "$name $(sum_of "$name")" "${refused[@]}"
