@@ -57,7 +57,8 @@ pub(crate) fn clause_count(gate: Gate) -> usize {
 /// The clauses by which `out` is true exactly where `a` and `b` are.
 fn add_and(clauses: &mut Clauses, alloc: Global, out: Lit, a: Lit, b: Lit) -> Result<(), NoMemory>
     requires room { length clauses.old + 8 < 2 ^ 32 }
-    ensures { OnOk result (AddsEquation clauses.old clauses.new out (a ∷ b ∷ []) (λ s. lit_value s a && lit_value s b)) }
+    ensures { OnOk result (AddsEquation clauses.old clauses.new out (a ∷ b ∷ [])
+        (λ s. lit_value s a && lit_value s b)) }
 {
     let off = out.negated();
     let not_a = a.negated();

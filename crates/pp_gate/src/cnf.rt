@@ -39,7 +39,8 @@ impl Circuit {
         requires room { length self.now ≤ 2 ^ 28 }
         requires of { All (IsOf self.now) asked.now }
         ensures count { IfOk result (λ r. length r ≤ 8 * length self.now) }
-        ensures value { IfOk result (λ r. (s : ℕ → Bool) → (clauses_value s r ≡ true) ↔ GivesAsked s self.now asked.now) }
+        ensures value { IfOk result (λ r. (s : ℕ → Bool)
+            → (clauses_value s r ≡ true) ↔ GivesAsked s self.now asked.now) }
         ensures completed { IfOk result (λ r. (s : ℕ → Bool) → clauses_value s r ≡ true
             → CompletedAsked self.now asked.now s) }
         ensures given { IfOk result (λ r. (s : ℕ → Bool) → Gives s self.now → clauses_value s r ≡ true) }

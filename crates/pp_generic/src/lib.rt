@@ -2,7 +2,8 @@
 //!
 //! Where a function or a constructor is applied, its type parameters are found one by one: what is found so far is a
 //! `Found`, and what is expected of an expression is an `Expected`, a sort of which parts may be open.
-//! `specs/Expected.antt` and `specs/Found.antt` have the definitions; when two sorts are the same stands with `pp_typed`.
+//! `specs/Expected.antt` and `specs/Found.antt` have the definitions; when two sorts are the same stands with
+//! `pp_typed`.
 #![tactic(auto)]
 
 mod expected;

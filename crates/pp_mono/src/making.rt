@@ -79,8 +79,8 @@ fn program_of(
 ///
 /// # Errors
 /// `TooManyInstances`: exactly where some closure of instances has more than 512 members, functions and types together.
-/// `Memory`: for want of memory. The translation answers it also for 2^32 checks and for a match of 65,536 cases without
-/// a guard, which small units don't have; no clause says so.
+/// `Memory`: for want of memory. The translation answers it also for 2^32 checks and for a match of 65,536 cases
+/// without a guard, which small units don't have; no clause says so.
 pub fn concrete(alloc: Global, typed: &WellSorted, texts: &[Text]) -> Result<Program, MonoFault>
     requires small { IsSmall typed.now }
     requires stand { TypedStands texts.now typed.now }

@@ -1,3 +1,4 @@
-mod Runs
 mod Roots
+mod Runs
 mod Spelled
+mod Stepped

@@ -9,10 +9,11 @@ use Rattle.pp_tokens.specs.Cutting.{token}
 use Rattle.pp_tokens.specs.Spans.{HasEnd}
 use Rattle.pp_tree.specs.Plain.{Word}
 use Rattle.pp_grammar.specs.Automaton.{run, step}
-use Rattle.pp_grammar.specs.Frames.{Frame, Parsed, State, Fault, failed, syntax_at, unsupported_at}
+use Rattle.pp_grammar.specs.Frames.{Parsed, State, Fault, failed, syntax_at, unsupported_at}
 use Rattle.pp_grammar.specs.LeftOut.{first_unused, is_unused}
 use Rattle.pp_parse_state.specs.declared.fault.Stop.{Stop}
 use Rattle.pp_parse_state.specs.declared.fault.Stop.TheVariants.{Memory, Syntax, Unsupported}
+use Rattle.pp_parse_state.specs.Shown.{Shown}
 use Rattle.pp_parse_items.specs.declared.place.Place.{Place}
 use Rattle.pp_parse_items.specs.declared.place.Place.TheVariants.{Between, Within, Done}
 use Rattle.pp_parse.specs.Answers.{IsLast, IsOpen}
@@ -78,7 +79,7 @@ pub run_ended : (text : Word) (ts : List Token) (i : ℕ) (st r : State) → len
 run_ended text ts i st r end so_far = ap (λ us. run text us st) (sym (drop_all i ts end)) ∙ so_far
 
 -- the parser neither stopped nor came to the end of a unit
-pub still_open : (d : Parsed) (s : List Frame) (p : Place) (r : State) → ((u : _) → p ≡ Done u → ⊥)
+pub still_open : (d : Parsed) (s : Shown) (p : Place) (r : State) → ((u : _) → p ≡ Done u → ⊥)
     → state_of d s p ≡ r → IsOpen r
 still_open d s (Between inside m) r unlike is = let P : State → Type 0 = λ x. IsOpen x in subst P is tt
 still_open d s (Within inside m) r unlike is = let P : State → Type 0 = λ x. IsOpen x in subst P is tt

@@ -2,7 +2,7 @@
 
 ghost use Rattle.pp_tokens.specs.Spans.{IsSpan};
 ghost use Rattle.pp_grammar.specs.Automaton.{on_mode};
-ghost use Rattle.pp_parse_state.specs.Shown.{Moves, frames, mode_of};
+ghost use Rattle.pp_parse_state.specs.Shown.{Moves, mode_of, shown, under_mode};
 
 use pp_parse_bodies::bodies::{on_after_body, on_contracted_dot, on_have_contracted, on_want_body};
 use pp_parse_bodies::posts::{
@@ -34,72 +34,168 @@ use pp_parse_types::types::{on_have_type, on_type_name, on_want_type};
 pub fn on_mode<'a>(
     cx: &Current<'a, '_>,
     stack: &mut Stack<'a>,
-    mode: Mode<'a>,
-) -> Result<Move<'a>, Stop<'a>>
+    mode: Mode,
+) -> Result<Move, Stop<'a>>
     requires { IsSpan cx.now.text.now cx.now.token }
-    ensures { Moves result (frames stack.new) (on_mode cx.now.text.now cx.now.token (frames stack.old)
-        (mode_of mode.entry) cx.now.token.kind) }
+    ensures { Moves result stack.new (on_mode cx.now.text.now cx.now.token (under_mode mode (shown stack.old))
+        (mode_of mode (shown stack.old).parts) cx.now.token.kind) }
 {
     match mode {
         Mode::Want => on_want(cx, stack),
-        Mode::Have(tree, holed) => on_have(cx, stack, tree, holed),
-        Mode::AfterName(at, name) => on_name(cx, stack, at, name),
-        Mode::AfterNameTypes(at, name, types) => on_name_types(cx, stack, at, name, types),
-        Mode::ArgsOpen(at, name, types) => on_args_open(cx, stack, at, name, types),
+        Mode::Have(holed) => {
+            let tree = stack.take_expr()?;
+            on_have(cx, stack, tree, holed)
+        }
+        Mode::AfterName(at) => {
+            let name = stack.take_name()?;
+            on_name(cx, stack, at, name)
+        }
+        Mode::AfterNameTypes(at) => {
+            let name = stack.take_name()?;
+            let types = stack.take_type_list()?;
+            on_name_types(cx, stack, at, name, types)
+        }
+        Mode::ArgsOpen(at) => {
+            let name = stack.take_name()?;
+            let types = stack.take_type_list()?;
+            on_args_open(cx, stack, at, name, types)
+        }
         Mode::AfterInt(at) => on_int(cx, at),
-        Mode::AfterIntDot(at) => on_int_dot(cx, at),
+        Mode::AfterIntDot(at) => on_int_dot(cx, stack, at),
         Mode::AfterMinus(at, end) => on_minus(cx, stack, at, end),
-        Mode::HaveNegative(tree) => on_have_negative(cx, stack, tree),
-        Mode::AfterNegativeDot(tree) => on_negative_dot(cx, tree),
-        Mode::AfterDot(tree, holed) => on_dot(cx, stack, tree, holed),
+        Mode::HaveNegative => {
+            let tree = stack.take_expr()?;
+            on_have_negative(cx, stack, tree)
+        }
+        Mode::AfterNegativeDot => {
+            let tree = stack.take_expr()?;
+            on_negative_dot(cx, stack, tree)
+        }
+        Mode::AfterDot(holed) => {
+            let tree = stack.take_expr()?;
+            on_dot(cx, stack, tree, holed)
+        }
         Mode::AfterIf(at) => on_if(cx, stack, at),
         Mode::WantThen => on_want_then(cx, stack),
-        Mode::WantElse(tree) => on_want_else(cx, stack, tree),
-        Mode::AfterMatch(at, tree) => on_match_word(cx, stack, at, tree),
+        Mode::WantElse => {
+            let tree = stack.take_expr()?;
+            on_want_else(cx, stack, tree)
+        }
+        Mode::AfterMatch(at) => {
+            let tree = stack.take_expr()?;
+            on_match_word(cx, stack, at, tree)
+        }
         Mode::WantCase => on_want_case(cx),
-        Mode::HaveMatched(tree) => on_have_matched(cx, stack, tree),
-        Mode::AfterMatchedDot(tree) => on_matched_dot(cx, stack, tree),
+        Mode::HaveMatched => {
+            let tree = stack.take_expr()?;
+            on_have_matched(cx, stack, tree)
+        }
+        Mode::AfterMatchedDot => {
+            let tree = stack.take_expr()?;
+            on_matched_dot(cx, stack, tree)
+        }
         Mode::WantPattern => on_want_pattern(cx, stack),
-        Mode::AfterPatternName(at, name) => on_pattern_name(cx, stack, at, name),
-        Mode::AfterPatternMinus(at, end) => on_pattern_minus(cx, at, end),
-        Mode::PatternArgsOpen(at, name) => on_pattern_args_open(cx, stack, at, name),
-        Mode::HavePattern(pattern) => on_have_pattern(cx, stack, pattern),
+        Mode::AfterPatternName(at) => {
+            let name = stack.take_name()?;
+            on_pattern_name(cx, stack, at, name)
+        }
+        Mode::AfterPatternMinus(at, end) => on_pattern_minus(cx, stack, at, end),
+        Mode::PatternArgsOpen(at) => {
+            let name = stack.take_name()?;
+            on_pattern_args_open(cx, stack, at, name)
+        }
+        Mode::HavePattern => {
+            let pattern = stack.take_pattern()?;
+            on_have_pattern(cx, stack, pattern)
+        }
         Mode::WantType => on_want_type(cx, stack),
-        Mode::AfterTypeName(at, name) => on_type_name(cx, stack, at, name),
-        Mode::HaveType(of) => on_have_type(cx, stack, of),
+        Mode::AfterTypeName(at) => {
+            let name = stack.take_name()?;
+            on_type_name(cx, stack, at, name)
+        }
+        Mode::HaveType => {
+            let of = stack.take_type()?;
+            on_have_type(cx, stack, of)
+        }
         Mode::WantStat => on_want_stat(cx, stack),
         Mode::AfterStat => on_after_stat(cx),
-        Mode::AfterLast(tree) => on_after_last(cx, stack, tree),
-        Mode::AfterValWord(at) => on_val_word(cx, at),
-        Mode::AfterValName(at, name) => on_val_name(cx, stack, at, name),
+        Mode::AfterLast => {
+            let tree = stack.take_expr()?;
+            on_after_last(cx, stack, tree)
+        }
+        Mode::AfterValWord(at) => on_val_word(cx, stack, at),
+        Mode::AfterValName(at) => {
+            let name = stack.take_name()?;
+            on_val_name(cx, stack, at, name)
+        }
         Mode::AfterAssertWord(at) => on_assert_word(cx, stack, at),
         Mode::AfterRequire => on_after_require(cx, stack),
         Mode::AfterDecreases(at) => on_after_decreases(cx, stack, at),
         Mode::MeasureOpen => on_measure_open(cx, stack),
-        Mode::AfterTuple(components) => on_after_tuple(cx, stack, components),
+        Mode::AfterTuple => {
+            let components = stack.take_expr_list()?;
+            on_after_tuple(cx, stack, components)
+        }
         Mode::WantBody => on_want_body(cx, stack),
-        Mode::HaveContracted(tree) => on_have_contracted(cx, stack, tree),
-        Mode::AfterContractedDot(tree) => on_contracted_dot(cx, stack, tree),
-        Mode::AfterEnsuring(at, tree) => on_after_ensuring(cx, stack, at, tree),
+        Mode::HaveContracted => {
+            let tree = stack.take_expr()?;
+            on_have_contracted(cx, stack, tree)
+        }
+        Mode::AfterContractedDot => {
+            let tree = stack.take_expr()?;
+            on_contracted_dot(cx, stack, tree)
+        }
+        Mode::AfterEnsuring(at) => {
+            let tree = stack.take_expr()?;
+            on_after_ensuring(cx, stack, at, tree)
+        }
         Mode::WantLambdaOrSemi => on_want_lambda_or_semi(cx, stack),
         Mode::WantLambda => on_want_lambda(cx, stack),
-        Mode::AfterLambdaName(at, name) => on_lambda_name(cx, stack, at, name),
+        Mode::AfterLambdaName(at) => {
+            let name = stack.take_name()?;
+            on_lambda_name(cx, stack, at, name)
+        }
         Mode::AfterLambdaRound => on_lambda_round(cx, stack),
-        Mode::AfterLambdaRoundName(at, name) => on_lambda_round_name(cx, stack, at, name),
-        Mode::AfterLambdaClosed(at, name) => on_lambda_closed(cx, stack, at, name),
-        Mode::AfterLambdaTyped(name, of) => on_lambda_typed(cx, stack, name, of),
-        Mode::AfterClaim(name, of, claim) => on_after_claim(cx, stack, name, of, claim),
-        Mode::AfterBody(tree, post) => on_after_body(cx, stack, tree, post),
+        Mode::AfterLambdaRoundName(at) => {
+            let name = stack.take_name()?;
+            on_lambda_round_name(cx, stack, at, name)
+        }
+        Mode::AfterLambdaClosed(at) => {
+            let name = stack.take_name()?;
+            on_lambda_closed(cx, stack, at, name)
+        }
+        Mode::AfterLambdaTyped => {
+            let name = stack.take_name()?;
+            let of = stack.take_type()?;
+            on_lambda_typed(cx, stack, name, of)
+        }
+        Mode::AfterClaim => {
+            let name = stack.take_name()?;
+            let of = stack.take_given_type()?;
+            let claim = stack.take_expr()?;
+            on_after_claim(cx, stack, name, of, claim)
+        }
+        Mode::AfterBody => {
+            let tree = stack.take_expr()?;
+            let post = stack.take_post()?;
+            on_after_body(cx, stack, tree, post)
+        }
         Mode::WantName(kind) => on_want_name(cx, stack, kind),
         Mode::AfterHeadName => on_head_name(cx, stack),
         Mode::WantTypeParam => on_want_type_param(cx, stack),
         Mode::AfterTypeParam => on_after_type_param(cx),
         Mode::AfterTypeParams => on_after_type_params(cx, stack),
         Mode::ParamsOpen => on_params_open(cx, stack),
-        Mode::WantParam => on_want_param(cx),
-        Mode::AfterParamName(at, name) => on_param_name(cx, stack, at, name),
+        Mode::WantParam => on_want_param(cx, stack),
+        Mode::AfterParamName(at) => {
+            let name = stack.take_name()?;
+            on_param_name(cx, stack, at, name)
+        }
         Mode::AfterParams => on_after_params(cx, stack),
-        Mode::WantObjectName => on_want_object_name(cx),
-        Mode::AfterObjectName(at, name) => on_object_name(cx, stack, at, name),
+        Mode::WantObjectName => on_want_object_name(cx, stack),
+        Mode::AfterObjectName(at) => {
+            let name = stack.take_name()?;
+            on_object_name(cx, stack, at, name)
+        }
     }
 }

@@ -1,10 +1,8 @@
 //! One token.
 
-ghost use Rattle.std.specs.Prelude.{List};
 ghost use Rattle.pp_tokens.specs.Spans.{IsSpan};
-ghost use Rattle.pp_grammar.specs.Frames.{Frame as plain_frame};
 ghost use Rattle.pp_grammar.specs.Automaton.{moved, on_item_mode, step};
-ghost use Rattle.pp_parse_state.specs.Shown.{frames, move_of};
+ghost use Rattle.pp_parse_state.specs.Shown.{move_of, shown};
 ghost use Rattle.pp_parse_items.specs.Shown.{Steps, item_mode_of, parsed_of, state_of};
 
 use crate::modes::on_mode;
@@ -27,7 +25,7 @@ fn on_item_mode<'a>(
     mode: ItemMode<'a>,
 ) -> Result<Place<'a>, Stop<'a>>
     requires { IsSpan cx.now.text.now cx.now.token }
-    ensures { Steps result (parsed_of parsed.new) (frames stack.new) (on_item_mode cx.now.text.now cx.now.token
+    ensures { Steps result (parsed_of parsed.new) (shown stack.new) (on_item_mode cx.now.text.now cx.now.token
         (parsed_of parsed.old) inside (item_mode_of mode.entry) cx.now.token.kind) }
 {
     match mode {
@@ -56,16 +54,18 @@ fn on_item_mode<'a>(
 fn moved<'a>(
     cx: &Current<'a, '_>,
     parsed: &mut Parsed<'a>,
+    stack: &mut Stack<'a>,
     inside: bool,
-    step: Move<'a>,
+    step: Move,
 ) -> Result<Place<'a>, Stop<'a>>
     requires { IsSpan cx.now.text.now cx.now.token }
-    ensures { (s : List plain_frame) → Steps result (parsed_of parsed.new) s (moved cx.now.text.now cx.now.token
-        (parsed_of parsed.old) inside (move_of s step.entry)) }
+    ensures { Steps result (parsed_of parsed.new) (shown stack.new) (moved cx.now.text.now cx.now.token
+        (parsed_of parsed.old) inside (move_of (shown stack.old) step)) }
 {
     match step {
         Move::Go(mode) => Ok(Place::Within(inside, mode)),
-        Move::Ends(decl) => {
+        Move::Ends => {
+            let decl = stack.take_decl()?;
             parsed.declare(decl)?;
             on_after_item(cx, parsed, inside)
         }
@@ -80,13 +80,13 @@ pub(crate) fn step<'a>(
     place: Place<'a>,
 ) -> Result<Place<'a>, Stop<'a>>
     requires { IsSpan cx.now.text.now cx.now.token }
-    ensures { Steps result (parsed_of parsed.new) (frames stack.new) (step cx.now.text.now cx.now.token (state_of
-        (parsed_of parsed.old) (frames stack.old) place.entry)) }
+    ensures { Steps result (parsed_of parsed.new) (shown stack.new) (step cx.now.text.now cx.now.token (state_of
+        (parsed_of parsed.old) (shown stack.old) place.entry)) }
 {
     match place {
         Place::Between(inside, mode) => on_item_mode(cx, parsed, stack, inside, mode),
         Place::Within(inside, mode) => match on_mode(cx, stack, mode) {
-            Ok(step) => moved(cx, parsed, inside, step),
+            Ok(step) => moved(cx, parsed, stack, inside, step),
             Err(stop) => Err(stop),
         },
         Place::Done(_) => Err(Stop::Syntax(cx.token.from)),

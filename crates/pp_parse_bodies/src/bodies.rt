@@ -1,20 +1,20 @@
 //! The steps in bodies.
 
-ghost use Rattle.std.specs.Prelude.{List, option_map};
+ghost use Rattle.std.specs.Prelude.{option_map};
 ghost use Rattle.pp_tokens.specs.Spans.{IsSpan};
 ghost use Rattle.pp_tree.specs.Parts.{claim_parts};
 ghost use Rattle.pp_tree.specs.Shown.{tree_of};
-ghost use Rattle.pp_grammar.specs.Frames.{Frame as plain_frame};
 ghost use Rattle.pp_grammar.specs.StepBodies.{on_after_body, on_contracted_dot, on_contracted_end};
 ghost use Rattle.pp_grammar.specs.StepBodies.{on_contracted_name, on_contracted_operand, on_contracted_operator};
 ghost use Rattle.pp_grammar.specs.StepBodies.{on_have_contracted, on_misplaced, on_want_body};
+ghost use Rattle.pp_parse_state.specs.declared.stack.Stack.{Stack};
 ghost use Rattle.pp_parse_state.specs.Shown.{Moves, frames, placed_of};
 ghost use Rattle.pp_parse_state.specs.Words.{role_of};
 
 use pp_parse_exprs::infix::on_post_word;
 use pp_parse_exprs::operands::on_want;
 use pp_parse_frames::heads::def_ends;
-use pp_parse_frames::opening::{open, refuse_above};
+use pp_parse_frames::opening::{behind_expr, open};
 use pp_parse_state::operators::binary_of;
 use pp_parse_state::words::Role;
 use pp_parse_state::{Contracts, Current, Frame, Mode, Move, Placed, Stack, Stop};
@@ -23,17 +23,16 @@ use pp_tree::build::Claim;
 use pp_tree::{BinaryOp, Built, Expr};
 
 /// Behind the `=` of a function.
-pub fn on_want_body<'a>(cx: &Current<'a, '_>, stack: &mut Stack<'a>) -> Result<Move<'a>, Stop<'a>>
+pub fn on_want_body<'a>(cx: &Current<'a, '_>, stack: &mut Stack<'a>) -> Result<Move, Stop<'a>>
     requires { IsSpan cx.now.text.now cx.now.token }
-    ensures { Moves result (frames stack.new) (on_want_body cx.now.text.now cx.now.token (frames stack.old)
+    ensures { Moves result stack.new (on_want_body cx.now.text.now cx.now.token (frames stack.old)
         cx.now.token.kind) }
 {
     match cx.token.kind {
-        TokenKind::Mark(Bracket::OpenBrace) => open(
-            stack,
-            Frame::HeadBraces(Contracts::none(cx.alloc)),
-            Mode::WantStat,
-        ),
+        TokenKind::Mark(Bracket::OpenBrace) => {
+            stack.put_contracts(Contracts::none(cx.alloc))?;
+            open(stack, Frame::HeadBraces, Mode::WantStat)
+        }
         _ => on_want(cx, stack),
     }
 }
@@ -43,26 +42,29 @@ fn on_contracted_end<'a>(
     cx: &Current<'a, '_>,
     stack: &mut Stack<'a>,
     tree: &'a Built<Expr<'a>>,
-) -> Result<Move<'a>, Stop<'a>>
+) -> Result<Move, Stop<'a>>
     requires { IsSpan cx.now.text.now cx.now.token }
-    ensures { Moves result (frames stack.new) (on_contracted_end cx.now.text.now cx.now.token (frames stack.old)
+    ensures { Moves result stack.new (on_contracted_end cx.now.text.now cx.now.token (frames stack.old)
         (tree_of tree.now.tree)) }
 {
     let Some(frame) = stack.pop() else {
         return Err(cx.refuse());
     };
     match frame {
-        Frame::BodyOf(head, result, contracts) => {
-            def_ends(cx, head, result, contracts, tree, None)
+        Frame::BodyOf => {
+            let head = stack.take_head()?;
+            let result = stack.take_type()?;
+            let contracts = stack.take_contracts()?;
+            def_ends(cx, stack, head, result, contracts, tree, None)
         }
-        other => Err(refuse_above(cx, other)),
+        _ => Err(cx.refuse()),
     }
 }
 
 /// A block with contracts is no operand: its first contract can't stand there.
-fn on_misplaced<'a>(cx: &Current<'a, '_>, first: Option<Placed<'a>>) -> Result<Move<'a>, Stop<'a>>
+fn on_misplaced<'a>(cx: &Current<'a, '_>, first: Option<Placed<'a>>) -> Result<Move, Stop<'a>>
     requires { IsSpan cx.now.text.now cx.now.token }
-    ensures { (s : List plain_frame) → Moves result s (on_misplaced cx.now.text.now cx.now.token
+    ensures { (s : Stack) → Moves result s (on_misplaced cx.now.text.now cx.now.token
         (option_map placed_of first.entry)) }
 {
     match first {
@@ -72,19 +74,19 @@ fn on_misplaced<'a>(cx: &Current<'a, '_>, first: Option<Placed<'a>>) -> Result<M
 }
 
 /// A block with contracts stands as an operand.
-fn on_contracted_operand<'a>(
-    cx: &Current<'a, '_>,
-    stack: &mut Stack<'a>,
-) -> Result<Move<'a>, Stop<'a>>
+fn on_contracted_operand<'a>(cx: &Current<'a, '_>, stack: &mut Stack<'a>) -> Result<Move, Stop<'a>>
     requires { IsSpan cx.now.text.now cx.now.token }
-    ensures { Moves result (frames stack.new) (on_contracted_operand cx.now.text.now cx.now.token (frames stack.old)) }
+    ensures { Moves result stack.new (on_contracted_operand cx.now.text.now cx.now.token (frames stack.old)) }
 {
     let Some(frame) = stack.pop() else {
         return Err(cx.refuse());
     };
     match frame {
-        Frame::BodyOf(_, _, contracts) => on_misplaced(cx, contracts.first),
-        other => Err(refuse_above(cx, other)),
+        Frame::BodyOf => {
+            let contracts = stack.take_contracts()?;
+            on_misplaced(cx, contracts.first)
+        }
+        _ => Err(cx.refuse()),
     }
 }
 
@@ -93,9 +95,9 @@ fn on_contracted_operator<'a>(
     cx: &Current<'a, '_>,
     stack: &mut Stack<'a>,
     op: Option<BinaryOp>,
-) -> Result<Move<'a>, Stop<'a>>
+) -> Result<Move, Stop<'a>>
     requires { IsSpan cx.now.text.now cx.now.token }
-    ensures { Moves result (frames stack.new) (on_contracted_operator cx.now.text.now cx.now.token (frames stack.old)
+    ensures { Moves result stack.new (on_contracted_operator cx.now.text.now cx.now.token (frames stack.old)
         op) }
 {
     match op {
@@ -109,13 +111,13 @@ pub fn on_have_contracted<'a>(
     cx: &Current<'a, '_>,
     stack: &mut Stack<'a>,
     tree: &'a Built<Expr<'a>>,
-) -> Result<Move<'a>, Stop<'a>>
+) -> Result<Move, Stop<'a>>
     requires { IsSpan cx.now.text.now cx.now.token }
-    ensures { Moves result (frames stack.new) (on_have_contracted cx.now.text.now cx.now.token (frames stack.old)
+    ensures { Moves result stack.new (on_have_contracted cx.now.text.now cx.now.token (frames stack.old)
         (tree_of tree.now.tree) cx.now.token.kind) }
 {
     match cx.token.kind {
-        TokenKind::Mark(Bracket::Dot) => Ok(Move::Go(Mode::AfterContractedDot(tree))),
+        TokenKind::Mark(Bracket::Dot) => behind_expr(stack, tree, Mode::AfterContractedDot),
         TokenKind::Name => on_post_word(cx, stack, tree, false, cx.role()),
         TokenKind::Newline
         | TokenKind::Mark(Bracket::Semicolon)
@@ -132,9 +134,9 @@ fn on_contracted_name<'a>(
     stack: &mut Stack<'a>,
     tree: &'a Built<Expr<'a>>,
     role: Role,
-) -> Result<Move<'a>, Stop<'a>>
+) -> Result<Move, Stop<'a>>
     requires { IsSpan cx.now.text.now cx.now.token }
-    ensures { Moves result (frames stack.new) (on_contracted_name cx.now.text.now cx.now.token (frames stack.old)
+    ensures { Moves result stack.new (on_contracted_name cx.now.text.now cx.now.token (frames stack.old)
         (tree_of tree.now.tree) (role_of role)) }
 {
     match role {
@@ -148,9 +150,9 @@ pub fn on_contracted_dot<'a>(
     cx: &Current<'a, '_>,
     stack: &mut Stack<'a>,
     tree: &'a Built<Expr<'a>>,
-) -> Result<Move<'a>, Stop<'a>>
+) -> Result<Move, Stop<'a>>
     requires { IsSpan cx.now.text.now cx.now.token }
-    ensures { Moves result (frames stack.new) (on_contracted_dot cx.now.text.now cx.now.token (frames stack.old)
+    ensures { Moves result stack.new (on_contracted_dot cx.now.text.now cx.now.token (frames stack.old)
         (tree_of tree.now.tree) cx.now.token.kind) }
 {
     match cx.token.kind {
@@ -165,18 +167,21 @@ pub fn on_after_body<'a>(
     stack: &mut Stack<'a>,
     tree: &'a Built<Expr<'a>>,
     post: Option<&'a Claim<'a>>,
-) -> Result<Move<'a>, Stop<'a>>
+) -> Result<Move, Stop<'a>>
     requires { IsSpan cx.now.text.now cx.now.token }
-    ensures { Moves result (frames stack.new) (on_after_body cx.now.text.now cx.now.token (frames stack.old)
+    ensures { Moves result stack.new (on_after_body cx.now.text.now cx.now.token (frames stack.old)
         (tree_of tree.now.tree) (option_map (λ p. claim_parts p.now) post.entry)) }
 {
     let Some(frame) = stack.pop() else {
         return Err(cx.refuse());
     };
     match frame {
-        Frame::BodyOf(head, result, contracts) => {
-            def_ends(cx, head, result, contracts, tree, post)
+        Frame::BodyOf => {
+            let head = stack.take_head()?;
+            let result = stack.take_type()?;
+            let contracts = stack.take_contracts()?;
+            def_ends(cx, stack, head, result, contracts, tree, post)
         }
-        other => Err(refuse_above(cx, other)),
+        _ => Err(cx.refuse()),
     }
 }

@@ -1,14 +1,15 @@
 //! The steps in statements and contracts.
 
-ghost use Rattle.std.specs.Prelude.{List, [], ◌∷◌};
+ghost use Rattle.std.specs.Prelude.{[], ◌∷◌};
 ghost use Rattle.pp_tokens.specs.Spans.{IsSpan};
 ghost use Rattle.pp_tree.specs.Shown.{tree_of};
-ghost use Rattle.pp_grammar.specs.Frames.{Frame as plain_frame, measuring};
+ghost use Rattle.pp_grammar.specs.Frames.{measuring};
 ghost use Rattle.pp_grammar.specs.Joining.{has_measure};
 ghost use Rattle.pp_grammar.specs.StepBodies.{on_after_decreases, on_after_last, on_after_require, on_after_stat};
 ghost use Rattle.pp_grammar.specs.StepBodies.{on_after_tuple, on_assert_word, on_decreases, on_decreases_word};
 ghost use Rattle.pp_grammar.specs.StepBodies.{on_measure_open, on_require, on_require_word, on_stat_name};
 ghost use Rattle.pp_grammar.specs.StepBodies.{on_tuple_closed, on_val_name, on_val_word, on_want_stat};
+ghost use Rattle.pp_parse_state.specs.declared.stack.Stack.{Stack};
 ghost use Rattle.pp_parse_state.specs.Shown.{contracts_of, frames, Moves, stacked};
 ghost use Rattle.pp_parse_state.specs.Words.{role_of};
 
@@ -16,7 +17,7 @@ use pp_parse_exprs::claims::on_measured;
 use pp_parse_exprs::closing::{on_sealed_brace, on_sealed_case};
 use pp_parse_exprs::operands::{on_operand_name, on_want};
 use pp_parse_frames::contracts::with_word;
-use pp_parse_frames::opening::{open, refuse_above};
+use pp_parse_frames::opening::{behind_expr, behind_name, open};
 use pp_parse_state::words::Role;
 use pp_parse_state::{Contracts, Current, Frame, Mode, Move, Stack, Stop};
 use pp_tokens::{Bracket, Operator, Reserved, TokenKind};
@@ -27,16 +28,17 @@ fn on_require_word<'a>(
     cx: &Current<'a, '_>,
     stack: &mut Stack<'a>,
     contracts: Contracts<'a>,
-) -> Result<Move<'a>, Stop<'a>>
+) -> Result<Move, Stop<'a>>
     requires { IsSpan cx.now.text.now cx.now.token }
-    ensures { Moves result (frames stack.new) (on_require_word cx.now.text.now cx.now.token (frames stack.old)
+    ensures { Moves result stack.new (on_require_word cx.now.text.now cx.now.token (frames stack.old)
         (contracts_of contracts.entry) (contracts_of contracts.entry).late) }
 {
     if let Some(at) = contracts.late {
         return Err(Stop::Syntax(at));
     }
     let contracts = with_word(contracts, cx.word()?, cx.token.from);
-    open(stack, Frame::HeadBraces(contracts), Mode::AfterRequire)
+    stack.put_contracts(contracts)?;
+    open(stack, Frame::HeadBraces, Mode::AfterRequire)
 }
 
 /// `decreases` at the head of a body: a second one can't stand there.
@@ -44,9 +46,9 @@ fn on_decreases_word<'a>(
     cx: &Current<'a, '_>,
     stack: &mut Stack<'a>,
     contracts: Contracts<'a>,
-) -> Result<Move<'a>, Stop<'a>>
+) -> Result<Move, Stop<'a>>
     requires { IsSpan cx.now.text.now cx.now.token }
-    ensures { Moves result (frames stack.new) (on_decreases_word cx.now.text.now cx.now.token (frames stack.old)
+    ensures { Moves result stack.new (on_decreases_word cx.now.text.now cx.now.token (frames stack.old)
         (contracts_of contracts.entry) (has_measure (contracts_of contracts.entry).measure)) }
 {
     let from = cx.token.from;
@@ -54,38 +56,41 @@ fn on_decreases_word<'a>(
         return Err(Stop::Syntax(from));
     }
     let contracts = with_word(contracts, cx.word()?, from);
-    open(
-        stack,
-        Frame::HeadBraces(contracts),
-        Mode::AfterDecreases(from),
-    )
+    stack.put_contracts(contracts)?;
+    open(stack, Frame::HeadBraces, Mode::AfterDecreases(from))
 }
 
 /// `require` where a statement may stand: contracts stand at the head of a body alone.
-fn on_require<'a>(cx: &Current<'a, '_>, stack: &mut Stack<'a>) -> Result<Move<'a>, Stop<'a>>
+fn on_require<'a>(cx: &Current<'a, '_>, stack: &mut Stack<'a>) -> Result<Move, Stop<'a>>
     requires { IsSpan cx.now.text.now cx.now.token }
-    ensures { Moves result (frames stack.new) (on_require cx.now.text.now cx.now.token (frames stack.old)) }
+    ensures { Moves result stack.new (on_require cx.now.text.now cx.now.token (frames stack.old)) }
 {
     let Some(frame) = stack.pop() else {
         return Err(cx.refuse());
     };
     match frame {
-        Frame::HeadBraces(contracts) => on_require_word(cx, stack, contracts),
-        other => Err(refuse_above(cx, other)),
+        Frame::HeadBraces => {
+            let contracts = stack.take_contracts()?;
+            on_require_word(cx, stack, contracts)
+        }
+        _ => Err(cx.refuse()),
     }
 }
 
 /// `decreases` where a statement may stand.
-fn on_decreases<'a>(cx: &Current<'a, '_>, stack: &mut Stack<'a>) -> Result<Move<'a>, Stop<'a>>
+fn on_decreases<'a>(cx: &Current<'a, '_>, stack: &mut Stack<'a>) -> Result<Move, Stop<'a>>
     requires { IsSpan cx.now.text.now cx.now.token }
-    ensures { Moves result (frames stack.new) (on_decreases cx.now.text.now cx.now.token (frames stack.old)) }
+    ensures { Moves result stack.new (on_decreases cx.now.text.now cx.now.token (frames stack.old)) }
 {
     let Some(frame) = stack.pop() else {
         return Err(cx.refuse());
     };
     match frame {
-        Frame::HeadBraces(contracts) => on_decreases_word(cx, stack, contracts),
-        other => Err(refuse_above(cx, other)),
+        Frame::HeadBraces => {
+            let contracts = stack.take_contracts()?;
+            on_decreases_word(cx, stack, contracts)
+        }
+        _ => Err(cx.refuse()),
     }
 }
 
@@ -94,23 +99,23 @@ fn on_stat_name<'a>(
     cx: &Current<'a, '_>,
     stack: &mut Stack<'a>,
     role: Role,
-) -> Result<Move<'a>, Stop<'a>>
+) -> Result<Move, Stop<'a>>
     requires { IsSpan cx.now.text.now cx.now.token }
-    ensures { Moves result (frames stack.new) (on_stat_name cx.now.text.now cx.now.token (frames stack.old)
+    ensures { Moves result stack.new (on_stat_name cx.now.text.now cx.now.token (frames stack.old)
         (role_of role)) }
 {
     match role {
         Role::Assert => Ok(Move::Go(Mode::AfterAssertWord(cx.token.from))),
         Role::Require => on_require(cx, stack),
         Role::Decreases => on_decreases(cx, stack),
-        _ => on_operand_name(cx, role),
+        _ => on_operand_name(cx, stack, role),
     }
 }
 
 /// A contract, a statement or the last expression is wanted.
-pub fn on_want_stat<'a>(cx: &Current<'a, '_>, stack: &mut Stack<'a>) -> Result<Move<'a>, Stop<'a>>
+pub fn on_want_stat<'a>(cx: &Current<'a, '_>, stack: &mut Stack<'a>) -> Result<Move, Stop<'a>>
     requires { IsSpan cx.now.text.now cx.now.token }
-    ensures { Moves result (frames stack.new) (on_want_stat cx.now.text.now cx.now.token (frames stack.old)
+    ensures { Moves result stack.new (on_want_stat cx.now.text.now cx.now.token (frames stack.old)
         cx.now.token.kind) }
 {
     match cx.token.kind {
@@ -122,9 +127,9 @@ pub fn on_want_stat<'a>(cx: &Current<'a, '_>, stack: &mut Stack<'a>) -> Result<M
 }
 
 /// Behind a statement.
-pub fn on_after_stat<'a>(cx: &Current<'a, '_>) -> Result<Move<'a>, Stop<'a>>
+pub fn on_after_stat<'a>(cx: &Current<'a, '_>) -> Result<Move, Stop<'a>>
     requires { IsSpan cx.now.text.now cx.now.token }
-    ensures { (s : List plain_frame) → Moves result s (on_after_stat cx.now.text.now cx.now.token s cx.now.token.kind) }
+    ensures { (s : Stack) → Moves result s (on_after_stat cx.now.text.now cx.now.token (frames s) cx.now.token.kind) }
 {
     match cx.token.kind {
         TokenKind::Newline | TokenKind::Mark(Bracket::Semicolon) => Ok(Move::Go(Mode::WantStat)),
@@ -137,15 +142,17 @@ pub fn on_after_last<'a>(
     cx: &Current<'a, '_>,
     stack: &mut Stack<'a>,
     tree: &'a Built<Expr<'a>>,
-) -> Result<Move<'a>, Stop<'a>>
+) -> Result<Move, Stop<'a>>
     requires { IsSpan cx.now.text.now cx.now.token }
-    ensures { Moves result (frames stack.new) (on_after_last cx.now.text.now cx.now.token (frames stack.old)
+    ensures { Moves result stack.new (on_after_last cx.now.text.now cx.now.token (frames stack.old)
         (tree_of tree.now.tree) cx.now.token.kind) }
 {
     match cx.token.kind {
-        TokenKind::Newline | TokenKind::Mark(Bracket::Semicolon) => Ok(Move::Go(Mode::AfterLast(
+        TokenKind::Newline | TokenKind::Mark(Bracket::Semicolon) => behind_expr(
+            stack,
             tree,
-        ))),
+            Mode::AfterLast,
+        ),
         TokenKind::Mark(Bracket::CloseBrace) => on_sealed_brace(cx, stack, tree),
         TokenKind::Word(Reserved::Case) => on_sealed_case(cx, stack, tree),
         _ => Err(cx.refuse()),
@@ -153,13 +160,17 @@ pub fn on_after_last<'a>(
 }
 
 /// Behind `val`.
-pub fn on_val_word<'a>(cx: &Current<'a, '_>, at: u32) -> Result<Move<'a>, Stop<'a>>
+pub fn on_val_word<'a>(
+    cx: &Current<'a, '_>,
+    stack: &mut Stack<'a>,
+    at: u32,
+) -> Result<Move, Stop<'a>>
     requires { IsSpan cx.now.text.now cx.now.token }
-    ensures { (s : List plain_frame) → Moves result s (on_val_word cx.now.text.now cx.now.token s at
+    ensures { Moves result stack.new (on_val_word cx.now.text.now cx.now.token (frames stack.old) at
         cx.now.token.kind) }
 {
     match cx.token.kind {
-        TokenKind::Name => Ok(Move::Go(Mode::AfterValName(at, cx.word()?))),
+        TokenKind::Name => behind_name(stack, cx.word()?, Mode::AfterValName(at)),
         _ => Err(cx.refuse()),
     }
 }
@@ -170,14 +181,21 @@ pub fn on_val_name<'a>(
     stack: &mut Stack<'a>,
     at: u32,
     name: &'a str,
-) -> Result<Move<'a>, Stop<'a>>
+) -> Result<Move, Stop<'a>>
     requires { IsSpan cx.now.text.now cx.now.token }
-    ensures { Moves result (frames stack.new) (on_val_name cx.now.text.now cx.now.token (frames stack.old) at name.now
+    ensures { Moves result stack.new (on_val_name cx.now.text.now cx.now.token (frames stack.old) at name.now
         cx.now.token.kind) }
 {
     match cx.token.kind {
-        TokenKind::Op(Operator::Colon) => open(stack, Frame::ValType(at, name), Mode::WantType),
-        TokenKind::Op(Operator::Assign) => open(stack, Frame::ValValue(at, name, None), Mode::Want),
+        TokenKind::Op(Operator::Colon) => {
+            stack.put_name(name)?;
+            open(stack, Frame::ValType(at), Mode::WantType)
+        }
+        TokenKind::Op(Operator::Assign) => {
+            stack.put_name(name)?;
+            stack.put_given_type(None)?;
+            open(stack, Frame::ValValue(at), Mode::Want)
+        }
         _ => Err(cx.refuse()),
     }
 }
@@ -187,9 +205,9 @@ pub fn on_assert_word<'a>(
     cx: &Current<'a, '_>,
     stack: &mut Stack<'a>,
     at: u32,
-) -> Result<Move<'a>, Stop<'a>>
+) -> Result<Move, Stop<'a>>
     requires { IsSpan cx.now.text.now cx.now.token }
-    ensures { Moves result (frames stack.new) (on_assert_word cx.now.text.now cx.now.token (frames stack.old) at
+    ensures { Moves result stack.new (on_assert_word cx.now.text.now cx.now.token (frames stack.old) at
         cx.now.token.kind) }
 {
     match cx.token.kind {
@@ -199,12 +217,9 @@ pub fn on_assert_word<'a>(
 }
 
 /// Behind `require`.
-pub fn on_after_require<'a>(
-    cx: &Current<'a, '_>,
-    stack: &mut Stack<'a>,
-) -> Result<Move<'a>, Stop<'a>>
+pub fn on_after_require<'a>(cx: &Current<'a, '_>, stack: &mut Stack<'a>) -> Result<Move, Stop<'a>>
     requires { IsSpan cx.now.text.now cx.now.token }
-    ensures { Moves result (frames stack.new) (on_after_require cx.now.text.now cx.now.token (frames stack.old)
+    ensures { Moves result stack.new (on_after_require cx.now.text.now cx.now.token (frames stack.old)
         cx.now.token.kind) }
 {
     match cx.token.kind {
@@ -218,28 +233,24 @@ pub fn on_after_decreases<'a>(
     cx: &Current<'a, '_>,
     stack: &mut Stack<'a>,
     at: u32,
-) -> Result<Move<'a>, Stop<'a>>
+) -> Result<Move, Stop<'a>>
     requires { IsSpan cx.now.text.now cx.now.token }
-    ensures { Moves result (frames stack.new) (on_after_decreases cx.now.text.now cx.now.token (frames stack.old) at
+    ensures { Moves result stack.new (on_after_decreases cx.now.text.now cx.now.token (frames stack.old) at
         cx.now.token.kind) }
 {
     match cx.token.kind {
-        TokenKind::Mark(Bracket::OpenRound) => open(
-            stack,
-            Frame::Measuring(at, Vec::new(cx.alloc)),
-            Mode::MeasureOpen,
-        ),
+        TokenKind::Mark(Bracket::OpenRound) => {
+            stack.put_expr_list(Vec::new(cx.alloc))?;
+            open(stack, Frame::Measuring(at), Mode::MeasureOpen)
+        }
         _ => Err(cx.refuse()),
     }
 }
 
 /// Behind `decreases(`.
-pub fn on_measure_open<'a>(
-    cx: &Current<'a, '_>,
-    stack: &mut Stack<'a>,
-) -> Result<Move<'a>, Stop<'a>>
+pub fn on_measure_open<'a>(cx: &Current<'a, '_>, stack: &mut Stack<'a>) -> Result<Move, Stop<'a>>
     requires { IsSpan cx.now.text.now cx.now.token }
-    ensures { Moves result (frames stack.new) (on_measure_open cx.now.text.now cx.now.token (frames stack.old)
+    ensures { Moves result stack.new (on_measure_open cx.now.text.now cx.now.token (frames stack.old)
         cx.now.token.kind) }
 {
     match cx.token.kind {
@@ -253,17 +264,20 @@ fn on_tuple_closed<'a>(
     cx: &Current<'a, '_>,
     stack: &mut Stack<'a>,
     components: Vec<Built<Expr<'a>>>,
-) -> Result<Move<'a>, Stop<'a>>
+) -> Result<Move, Stop<'a>>
     requires { IsSpan cx.now.text.now cx.now.token }
-    ensures { Moves result (frames stack.new) (on_tuple_closed cx.now.text.now cx.now.token (frames stack.old)
+    ensures { Moves result stack.new (on_tuple_closed cx.now.text.now cx.now.token (frames stack.old)
         (stacked (λ e. tree_of e.tree) components.entry.items [])) }
 {
     let Some(frame) = stack.pop() else {
         return Err(cx.refuse());
     };
     match frame {
-        Frame::Measuring(at, outer) => on_tuple_within(cx, stack, at, outer, components),
-        other => Err(refuse_above(cx, other)),
+        Frame::Measuring(at) => {
+            let outer = stack.take_expr_list()?;
+            on_tuple_within(cx, stack, at, outer, components)
+        }
+        _ => Err(cx.refuse()),
     }
 }
 
@@ -276,9 +290,9 @@ fn on_tuple_within<'a>(
     at: u32,
     outer: Vec<Built<Expr<'a>>>,
     components: Vec<Built<Expr<'a>>>,
-) -> Result<Move<'a>, Stop<'a>>
+) -> Result<Move, Stop<'a>>
     requires { IsSpan cx.now.text.now cx.now.token }
-    ensures { Moves result (frames stack.new) (on_tuple_closed cx.now.text.now cx.now.token
+    ensures { Moves result stack.new (on_tuple_closed cx.now.text.now cx.now.token
         (measuring at (stacked (λ e. tree_of e.tree) outer.entry.items []) ∷ frames stack.old)
         (stacked (λ e. tree_of e.tree) components.entry.items [])) }
 {
@@ -293,9 +307,9 @@ pub fn on_after_tuple<'a>(
     cx: &Current<'a, '_>,
     stack: &mut Stack<'a>,
     components: Vec<Built<Expr<'a>>>,
-) -> Result<Move<'a>, Stop<'a>>
+) -> Result<Move, Stop<'a>>
     requires { IsSpan cx.now.text.now cx.now.token }
-    ensures { Moves result (frames stack.new) (on_after_tuple cx.now.text.now cx.now.token (frames stack.old)
+    ensures { Moves result stack.new (on_after_tuple cx.now.text.now cx.now.token (frames stack.old)
         (stacked (λ e. tree_of e.tree) components.entry.items []) cx.now.token.kind) }
 {
     match cx.token.kind {

@@ -1,1 +1,2 @@
+mod ArgsOpen
 mod Semicolons

@@ -6,10 +6,11 @@ use Rattle.pp_grammar.specs.Frames.{Frame as plain_frame}
 use Rattle.pp_grammar.specs.StepExprs.{on_semi, on_semicolon}
 use Rattle.pp_parse_state.specs.declared.frame.Frame.{Frame}
 use Rattle.pp_parse_state.specs.declared.frame.Frame.TheVariants as frame
+use Rattle.pp_parse_state.specs.Parts.{Parts}
 use Rattle.pp_parse_state.specs.Shown.{frame_of}
 
-pub semicolon_as_newline : (text : Word) (t : Token) (f : Frame) (s : List plain_frame) (e : Tree)
-    → ((at : _) (c : _) → f ≡ frame.IfThen at c → ⊥)
-    → on_semicolon text t (frame_of f ∷ s) e ≡ on_semi text t (frame_of f ∷ s) e
-semicolon_as_newline text t (frame.IfThen at c) s e unlike = absurd (unlike at c refl)
-semicolon_as_newline text t _ s e unlike = refl
+pub semicolon_as_newline : (text : Word) (t : Token) (f : Frame) (p : Parts) (s : List plain_frame) (e : Tree)
+    → ((at : _) → f ≡ frame.IfThen at → ⊥)
+    → on_semicolon text t (frame_of f p ∷ s) e ≡ on_semi text t (frame_of f p ∷ s) e
+semicolon_as_newline text t (frame.IfThen at) p s e unlike = absurd (unlike at refl)
+semicolon_as_newline text t _ p s e unlike = refl

@@ -9,7 +9,7 @@ ghost use Rattle.pp_grammar.specs.StepExprs.{on_required};
 ghost use Rattle.pp_parse_state.specs.Shown.{Moves, frames, stacked};
 
 use pp_parse_frames::contracts::{RES, claimed, with_measure, with_requirement};
-use pp_parse_frames::opening::{open, refuse_above};
+use pp_parse_frames::opening::open;
 use pp_parse_state::{Around, Current, Frame, Mode, Move, Stack, Stop};
 use pp_tokens::{Bracket, TokenKind};
 use pp_tree::{Built, Expr, TypeText};
@@ -21,23 +21,24 @@ pub fn on_claim_round<'a>(
     name: &'a str,
     of: Option<&'a Built<TypeText<'a>>>,
     claim: &'a Built<Expr<'a>>,
-) -> Result<Move<'a>, Stop<'a>>
+) -> Result<Move, Stop<'a>>
     requires { IsSpan cx.now.text.now cx.now.token }
-    ensures { Moves result (frames stack.new) (on_claim_round cx.now.text.now cx.now.token (frames stack.old) name.now
+    ensures { Moves result stack.new (on_claim_round cx.now.text.now cx.now.token (frames stack.old) name.now
         (option_map (λ t. type_of t.now.tree) of.entry) (tree_of claim.now.tree)) }
 {
     let Some(frame) = stack.pop() else {
         return Err(cx.refuse());
     };
     match frame {
-        Frame::PostOf(at, body, around) => match around {
+        Frame::PostOf(at, around) => match around {
             Around::Parentheses => {
                 let post = claimed(cx, at, name, of, claim)?;
-                Ok(Move::Go(Mode::AfterBody(body, Some(post))))
+                stack.put_post(Some(post))?;
+                Ok(Move::Go(Mode::AfterBody))
             }
             Around::Braces => Err(cx.refuse()),
         },
-        other => Err(refuse_above(cx, other)),
+        _ => Err(cx.refuse()),
     }
 }
 
@@ -48,23 +49,24 @@ pub fn on_claim_brace<'a>(
     name: &'a str,
     of: Option<&'a Built<TypeText<'a>>>,
     claim: &'a Built<Expr<'a>>,
-) -> Result<Move<'a>, Stop<'a>>
+) -> Result<Move, Stop<'a>>
     requires { IsSpan cx.now.text.now cx.now.token }
-    ensures { Moves result (frames stack.new) (on_claim_brace cx.now.text.now cx.now.token (frames stack.old) name.now
+    ensures { Moves result stack.new (on_claim_brace cx.now.text.now cx.now.token (frames stack.old) name.now
         (option_map (λ t. type_of t.now.tree) of.entry) (tree_of claim.now.tree)) }
 {
     let Some(frame) = stack.pop() else {
         return Err(cx.refuse());
     };
     match frame {
-        Frame::PostOf(at, body, around) => match around {
+        Frame::PostOf(at, around) => match around {
             Around::Braces => {
                 let post = claimed(cx, at, name, of, claim)?;
-                Ok(Move::Go(Mode::AfterBody(body, Some(post))))
+                stack.put_post(Some(post))?;
+                Ok(Move::Go(Mode::AfterBody))
             }
             Around::Parentheses => Err(cx.refuse()),
         },
-        other => Err(refuse_above(cx, other)),
+        _ => Err(cx.refuse()),
     }
 }
 
@@ -75,23 +77,25 @@ pub fn on_claim_semi<'a>(
     name: &'a str,
     of: Option<&'a Built<TypeText<'a>>>,
     claim: &'a Built<Expr<'a>>,
-) -> Result<Move<'a>, Stop<'a>>
+) -> Result<Move, Stop<'a>>
     requires { IsSpan cx.now.text.now cx.now.token }
-    ensures { Moves result (frames stack.new) (on_claim_semi cx.now.text.now cx.now.token (frames stack.old) name.now
+    ensures { Moves result stack.new (on_claim_semi cx.now.text.now cx.now.token (frames stack.old) name.now
         (option_map (λ t. type_of t.now.tree) of.entry) (tree_of claim.now.tree)) }
 {
     let Some(frame) = stack.pop() else {
         return Err(cx.refuse());
     };
     match frame {
-        Frame::PostOf(at, body, around) => match around {
+        Frame::PostOf(at, around) => match around {
             Around::Braces => {
-                let post = Frame::PostOf(at, body, Around::Braces);
-                open(stack, post, Mode::AfterClaim(name, of, claim))
+                stack.put_name(name)?;
+                stack.put_given_type(of)?;
+                stack.put_expr(claim)?;
+                open(stack, Frame::PostOf(at, around), Mode::AfterClaim)
             }
             Around::Parentheses => Err(cx.refuse()),
         },
-        other => Err(refuse_above(cx, other)),
+        _ => Err(cx.refuse()),
     }
 }
 
@@ -100,20 +104,22 @@ pub fn on_required<'a>(
     cx: &Current<'a, '_>,
     stack: &mut Stack<'a>,
     claim: &'a Built<Expr<'a>>,
-) -> Result<Move<'a>, Stop<'a>>
+) -> Result<Move, Stop<'a>>
     requires { IsSpan cx.now.text.now cx.now.token }
-    ensures { Moves result (frames stack.new) (on_required cx.now.text.now cx.now.token (frames stack.old)
+    ensures { Moves result stack.new (on_required cx.now.text.now cx.now.token (frames stack.old)
         (tree_of claim.now.tree)) }
 {
     let Some(frame) = stack.pop() else {
         return Err(cx.refuse());
     };
     match frame {
-        Frame::HeadBraces(contracts) => {
+        Frame::HeadBraces => {
+            let contracts = stack.take_contracts()?;
             let contracts = with_requirement(contracts, claim)?;
-            open(stack, Frame::HeadBraces(contracts), Mode::AfterStat)
+            stack.put_contracts(contracts)?;
+            open(stack, Frame::HeadBraces, Mode::AfterStat)
         }
-        other => Err(refuse_above(cx, other)),
+        _ => Err(cx.refuse()),
     }
 }
 
@@ -123,20 +129,22 @@ pub fn on_measured<'a>(
     stack: &mut Stack<'a>,
     at: u32,
     components: Vec<Built<Expr<'a>>>,
-) -> Result<Move<'a>, Stop<'a>>
+) -> Result<Move, Stop<'a>>
     requires { IsSpan cx.now.text.now cx.now.token }
-    ensures { Moves result (frames stack.new) (on_measured cx.now.text.now cx.now.token (frames stack.old) at
+    ensures { Moves result stack.new (on_measured cx.now.text.now cx.now.token (frames stack.old) at
         (stacked (λ e. tree_of e.tree) components.entry.items [])) }
 {
     let Some(frame) = stack.pop() else {
         return Err(cx.refuse());
     };
     match frame {
-        Frame::HeadBraces(contracts) => {
+        Frame::HeadBraces => {
+            let contracts = stack.take_contracts()?;
             let contracts = with_measure(contracts, at, components);
-            open(stack, Frame::HeadBraces(contracts), Mode::AfterStat)
+            stack.put_contracts(contracts)?;
+            open(stack, Frame::HeadBraces, Mode::AfterStat)
         }
-        other => Err(refuse_above(cx, other)),
+        _ => Err(cx.refuse()),
     }
 }
 
@@ -145,9 +153,9 @@ pub fn on_hole_end<'a>(
     cx: &Current<'a, '_>,
     stack: &mut Stack<'a>,
     tree: &'a Built<Expr<'a>>,
-) -> Result<Move<'a>, Stop<'a>>
+) -> Result<Move, Stop<'a>>
     requires { IsSpan cx.now.text.now cx.now.token }
-    ensures { Moves result (frames stack.new) (on_hole_end cx.now.text.now cx.now.token (frames stack.old)
+    ensures { Moves result stack.new (on_hole_end cx.now.text.now cx.now.token (frames stack.old)
         (tree_of tree.now.tree) cx.now.token.kind) }
 {
     let Some(frame) = stack.pop() else {
@@ -155,7 +163,7 @@ pub fn on_hole_end<'a>(
     };
     match frame {
         Frame::ClaimingHole => on_hole_claim(cx, stack, tree),
-        other => Err(refuse_above(cx, other)),
+        _ => Err(cx.refuse()),
     }
 }
 
@@ -164,9 +172,9 @@ fn on_hole_claim<'a>(
     cx: &Current<'a, '_>,
     stack: &mut Stack<'a>,
     tree: &'a Built<Expr<'a>>,
-) -> Result<Move<'a>, Stop<'a>>
+) -> Result<Move, Stop<'a>>
     requires { IsSpan cx.now.text.now cx.now.token }
-    ensures { Moves result (frames stack.new) (on_hole_end cx.now.text.now cx.now.token
+    ensures { Moves result stack.new (on_hole_end cx.now.text.now cx.now.token
         (claiming_hole ∷ frames stack.old) (tree_of tree.now.tree) cx.now.token.kind) }
 {
     match cx.token.kind {

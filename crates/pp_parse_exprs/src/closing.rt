@@ -1,20 +1,20 @@
 //! The steps behind a whole expression, at a token that ends it.
 
-ghost use Rattle.std.specs.Prelude.{◌∷◌};
 ghost use Rattle.pp_tokens.specs.Spans.{IsSpan};
 ghost use Rattle.pp_tree.specs.Shown.{tree_of};
 ghost use Rattle.pp_grammar.specs.Joining.{seal};
-ghost use Rattle.pp_grammar.specs.StepExprs.{on_brace_closed, on_case_ended, on_comma, on_else, on_end, on_expr_end};
+ghost use Rattle.pp_grammar.specs.StepExprs.{on_brace_closed, on_case_ended, on_comma, on_end, on_expr_end};
 ghost use Rattle.pp_grammar.specs.StepExprs.{on_head_closed, on_match_closed, on_next_case, on_round_closed};
 ghost use Rattle.pp_grammar.specs.StepExprs.{on_sealed_brace, on_sealed_case, on_semi, on_semicolon};
-ghost use Rattle.pp_parse_state.specs.Shown.{Moves, case_text, contracts_of, frame_of, frames};
+ghost use Rattle.pp_parse_state.specs.Shown.{case_text, contracts_of, frames, frames_above, Moves};
 
 use crate::claims::{
     on_claim_brace, on_claim_round, on_claim_semi, on_hole_end, on_measured, on_required,
 };
+use crate::matches::on_else;
 use pp_parse_frames::heads::def_ends;
 use pp_parse_frames::lists::{applied, arm_case, pushed, whole_match, with_case};
-use pp_parse_frames::opening::{open, refuse_above};
+use pp_parse_frames::opening::{behind_expr, open};
 use pp_parse_state::{Contracts, Current, Frame, Mode, Move, Stack, Stop, seal};
 use pp_tokens::{Bracket, Reserved, TokenKind};
 use pp_tree::{Built, Case, Expr};
@@ -24,33 +24,47 @@ fn on_round_closed<'a>(
     cx: &Current<'a, '_>,
     stack: &mut Stack<'a>,
     tree: &'a Built<Expr<'a>>,
-) -> Result<Move<'a>, Stop<'a>>
+) -> Result<Move, Stop<'a>>
     requires { IsSpan cx.now.text.now cx.now.token }
-    ensures { Moves result (frames stack.new) (on_round_closed cx.now.text.now cx.now.token (frames stack.old)
+    ensures { Moves result stack.new (on_round_closed cx.now.text.now cx.now.token (frames stack.old)
         (tree_of tree.now.tree)) }
 {
     let Some(frame) = stack.pop() else {
         return Err(cx.refuse());
     };
     match frame {
-        Frame::Round | Frame::TupleOrRound => Ok(Move::Go(Mode::Have(tree, false))),
-        Frame::Args(at, name, types, args) => {
+        Frame::Round | Frame::TupleOrRound => behind_expr(stack, tree, Mode::Have(false)),
+        Frame::Args(at) => {
+            let name = stack.take_name()?;
+            let types = stack.take_type_list()?;
+            let args = stack.take_expr_list()?;
             let tree = applied(cx, at, name, types, args, tree)?;
-            Ok(Move::Go(Mode::Have(tree, false)))
+            behind_expr(stack, tree, Mode::Have(false))
         }
-        Frame::IfTest(at) => open(stack, Frame::IfThen(at, tree), Mode::WantThen),
-        Frame::Asserting(at) => open(stack, Frame::AfterAssert(at, tree), Mode::AfterStat),
+        Frame::IfTest(at) => {
+            stack.put_expr(tree)?;
+            open(stack, Frame::IfThen(at), Mode::WantThen)
+        }
+        Frame::Asserting(at) => {
+            stack.put_expr(tree)?;
+            open(stack, Frame::AfterAssert(at), Mode::AfterStat)
+        }
         Frame::Requiring => on_required(cx, stack, tree),
-        Frame::Measuring(at, components) => {
-            let components = pushed(components, tree)?;
+        Frame::Measuring(at) => {
+            let components = pushed(stack.take_expr_list()?, tree)?;
             on_measured(cx, stack, at, components)
         }
-        Frame::InTuple(components) => {
-            let components = pushed(components, tree)?;
-            Ok(Move::Go(Mode::AfterTuple(components)))
+        Frame::InTuple => {
+            let components = pushed(stack.take_expr_list()?, tree)?;
+            stack.put_expr_list(components)?;
+            Ok(Move::Go(Mode::AfterTuple))
         }
-        Frame::Claiming(name, of) => on_claim_round(cx, stack, name, of, tree),
-        other => Err(refuse_above(cx, other)),
+        Frame::Claiming => {
+            let name = stack.take_name()?;
+            let of = stack.take_given_type()?;
+            on_claim_round(cx, stack, name, of, tree)
+        }
+        _ => Err(cx.refuse()),
     }
 }
 
@@ -59,51 +73,25 @@ fn on_comma<'a>(
     cx: &Current<'a, '_>,
     stack: &mut Stack<'a>,
     tree: &'a Built<Expr<'a>>,
-) -> Result<Move<'a>, Stop<'a>>
+) -> Result<Move, Stop<'a>>
     requires { IsSpan cx.now.text.now cx.now.token }
-    ensures { Moves result (frames stack.new) (on_comma cx.now.text.now cx.now.token (frames stack.old)
+    ensures { Moves result stack.new (on_comma cx.now.text.now cx.now.token (frames stack.old)
         (tree_of tree.now.tree)) }
 {
     let Some(frame) = stack.pop() else {
         return Err(cx.refuse());
     };
     match frame {
-        Frame::Args(at, name, types, args) => {
-            let args = pushed(args, tree)?;
-            open(stack, Frame::Args(at, name, types, args), Mode::Want)
-        }
-        Frame::Measuring(at, components) => {
-            let components = pushed(components, tree)?;
-            open(stack, Frame::Measuring(at, components), Mode::Want)
+        Frame::Args(_) | Frame::Measuring(_) | Frame::InTuple => {
+            let items = pushed(stack.take_expr_list()?, tree)?;
+            stack.put_expr_list(items)?;
+            open(stack, frame, Mode::Want)
         }
         Frame::TupleOrRound => {
-            let components = pushed(Vec::new(cx.alloc), tree)?;
-            open(stack, Frame::InTuple(components), Mode::Want)
+            stack.put_expr_list(pushed(Vec::new(cx.alloc), tree)?)?;
+            open(stack, Frame::InTuple, Mode::Want)
         }
-        Frame::InTuple(components) => {
-            let components = pushed(components, tree)?;
-            open(stack, Frame::InTuple(components), Mode::Want)
-        }
-        other => Err(refuse_above(cx, other)),
-    }
-}
-
-/// `else` stands behind an expression.
-pub fn on_else<'a>(
-    cx: &Current<'a, '_>,
-    stack: &mut Stack<'a>,
-    tree: &'a Built<Expr<'a>>,
-) -> Result<Move<'a>, Stop<'a>>
-    requires { IsSpan cx.now.text.now cx.now.token }
-    ensures { Moves result (frames stack.new) (on_else cx.now.text.now cx.now.token (frames stack.old)
-        (tree_of tree.now.tree)) }
-{
-    let Some(frame) = stack.pop() else {
-        return Err(cx.refuse());
-    };
-    match frame {
-        Frame::IfThen(at, test) => open(stack, Frame::IfRest(at, test, tree), Mode::Want),
-        other => Err(refuse_above(cx, other)),
+        _ => Err(cx.refuse()),
     }
 }
 
@@ -113,30 +101,26 @@ fn on_head_closed<'a>(
     stack: &mut Stack<'a>,
     contracts: Contracts<'a>,
     tree: &'a Built<Expr<'a>>,
-) -> Result<Move<'a>, Stop<'a>>
+) -> Result<Move, Stop<'a>>
     requires { IsSpan cx.now.text.now cx.now.token }
-    ensures { Moves result (frames stack.new) (on_head_closed cx.now.text.now cx.now.token (frames stack.old)
+    ensures { Moves result stack.new (on_head_closed cx.now.text.now cx.now.token (frames stack.old)
         (contracts_of contracts.entry) (contracts_of contracts.entry).first (tree_of tree.now.tree)) }
 {
     let Some(frame) = stack.pop() else {
         return Err(cx.refuse());
     };
     match frame {
-        Frame::BodyOf(head, result, old) => {
+        Frame::BodyOf => {
             if contracts.first.is_none() {
-                return open(
-                    stack,
-                    Frame::BodyOf(head, result, old),
-                    Mode::Have(tree, false),
-                );
+                stack.put_expr(tree)?;
+                return open(stack, Frame::BodyOf, Mode::Have(false));
             }
-            open(
-                stack,
-                Frame::BodyOf(head, result, contracts),
-                Mode::HaveContracted(tree),
-            )
+            stack.take_contracts()?;
+            stack.put_contracts(contracts)?;
+            stack.put_expr(tree)?;
+            open(stack, Frame::BodyOf, Mode::HaveContracted)
         }
-        other => Err(refuse_above(cx, other)),
+        _ => Err(cx.refuse()),
     }
 }
 
@@ -145,20 +129,22 @@ fn on_match_closed<'a>(
     cx: &Current<'a, '_>,
     stack: &mut Stack<'a>,
     case: &'a Built<Case<'a>>,
-) -> Result<Move<'a>, Stop<'a>>
+) -> Result<Move, Stop<'a>>
     requires { IsSpan cx.now.text.now cx.now.token }
-    ensures { Moves result (frames stack.new) (on_match_closed cx.now.text.now cx.now.token (frames stack.old)
+    ensures { Moves result stack.new (on_match_closed cx.now.text.now cx.now.token (frames stack.old)
         (case_text case.now.tree)) }
 {
     let Some(frame) = stack.pop() else {
         return Err(cx.refuse());
     };
     match frame {
-        Frame::CasesOf(at, matched, cases) => {
+        Frame::CasesOf(at) => {
+            let matched = stack.take_expr()?;
+            let cases = stack.take_case_list()?;
             let tree = whole_match(cx, at, matched, cases, case)?;
-            Ok(Move::Go(Mode::HaveMatched(tree)))
+            behind_expr(stack, tree, Mode::HaveMatched)
         }
-        other => Err(refuse_above(cx, other)),
+        _ => Err(cx.refuse()),
     }
 }
 
@@ -167,20 +153,22 @@ fn on_next_case<'a>(
     cx: &Current<'a, '_>,
     stack: &mut Stack<'a>,
     case: &'a Built<Case<'a>>,
-) -> Result<Move<'a>, Stop<'a>>
+) -> Result<Move, Stop<'a>>
     requires { IsSpan cx.now.text.now cx.now.token }
-    ensures { Moves result (frames stack.new) (on_next_case cx.now.text.now cx.now.token (frames stack.old)
+    ensures { Moves result stack.new (on_next_case cx.now.text.now cx.now.token (frames stack.old)
         (case_text case.now.tree)) }
 {
     let Some(frame) = stack.pop() else {
         return Err(cx.refuse());
     };
     match frame {
-        Frame::CasesOf(at, matched, cases) => {
+        Frame::CasesOf(at) => {
+            let cases = stack.take_case_list()?;
             let cases = with_case(cases, case)?;
-            open(stack, Frame::CasesOf(at, matched, cases), Mode::WantPattern)
+            stack.put_case_list(cases)?;
+            open(stack, Frame::CasesOf(at), Mode::WantPattern)
         }
-        other => Err(refuse_above(cx, other)),
+        _ => Err(cx.refuse()),
     }
 }
 
@@ -189,26 +177,38 @@ fn on_brace_closed<'a>(
     cx: &Current<'a, '_>,
     stack: &mut Stack<'a>,
     tree: &'a Built<Expr<'a>>,
-) -> Result<Move<'a>, Stop<'a>>
+) -> Result<Move, Stop<'a>>
     requires { IsSpan cx.now.text.now cx.now.token }
-    ensures { Moves result (frames stack.new) (on_brace_closed cx.now.text.now cx.now.token (frames stack.old)
+    ensures { Moves result stack.new (on_brace_closed cx.now.text.now cx.now.token (frames stack.old)
         (tree_of tree.now.tree)) }
 {
     let Some(frame) = stack.pop() else {
         return Err(cx.refuse());
     };
     match frame {
-        Frame::Braces => Ok(Move::Go(Mode::Have(tree, false))),
-        Frame::HeadBraces(contracts) => on_head_closed(cx, stack, contracts, tree),
-        Frame::Arm(pattern, guard) => {
+        Frame::Braces => behind_expr(stack, tree, Mode::Have(false)),
+        Frame::HeadBraces => {
+            let contracts = stack.take_contracts()?;
+            on_head_closed(cx, stack, contracts, tree)
+        }
+        Frame::Arm => {
+            let pattern = stack.take_pattern()?;
+            let guard = stack.take_guard()?;
             let case = arm_case(cx, pattern, guard, tree)?;
             on_match_closed(cx, stack, case)
         }
-        Frame::Claiming(name, of) => on_claim_brace(cx, stack, name, of, tree),
-        Frame::BodyOf(head, result, contracts) => {
-            def_ends(cx, head, result, contracts, tree, None)
+        Frame::Claiming => {
+            let name = stack.take_name()?;
+            let of = stack.take_given_type()?;
+            on_claim_brace(cx, stack, name, of, tree)
         }
-        other => Err(refuse_above(cx, other)),
+        Frame::BodyOf => {
+            let head = stack.take_head()?;
+            let result = stack.take_type()?;
+            let contracts = stack.take_contracts()?;
+            def_ends(cx, stack, head, result, contracts, tree, None)
+        }
+        _ => Err(cx.refuse()),
     }
 }
 
@@ -217,20 +217,22 @@ fn on_case_ended<'a>(
     cx: &Current<'a, '_>,
     stack: &mut Stack<'a>,
     tree: &'a Built<Expr<'a>>,
-) -> Result<Move<'a>, Stop<'a>>
+) -> Result<Move, Stop<'a>>
     requires { IsSpan cx.now.text.now cx.now.token }
-    ensures { Moves result (frames stack.new) (on_case_ended cx.now.text.now cx.now.token (frames stack.old)
+    ensures { Moves result stack.new (on_case_ended cx.now.text.now cx.now.token (frames stack.old)
         (tree_of tree.now.tree)) }
 {
     let Some(frame) = stack.pop() else {
         return Err(cx.refuse());
     };
     match frame {
-        Frame::Arm(pattern, guard) => {
+        Frame::Arm => {
+            let pattern = stack.take_pattern()?;
+            let guard = stack.take_guard()?;
             let case = arm_case(cx, pattern, guard, tree)?;
             on_next_case(cx, stack, case)
         }
-        other => Err(refuse_above(cx, other)),
+        _ => Err(cx.refuse()),
     }
 }
 
@@ -239,9 +241,9 @@ fn on_semi<'a>(
     cx: &Current<'a, '_>,
     stack: &mut Stack<'a>,
     tree: &'a Built<Expr<'a>>,
-) -> Result<Move<'a>, Stop<'a>>
+) -> Result<Move, Stop<'a>>
     requires { IsSpan cx.now.text.now cx.now.token }
-    ensures { Moves result (frames stack.new) (on_semi cx.now.text.now cx.now.token (frames stack.old)
+    ensures { Moves result stack.new (on_semi cx.now.text.now cx.now.token (frames stack.old)
         (tree_of tree.now.tree)) }
 {
     match stack.pop() {
@@ -254,27 +256,38 @@ fn on_semi<'a>(
 fn on_semi_above<'a>(
     cx: &Current<'a, '_>,
     stack: &mut Stack<'a>,
-    frame: Frame<'a>,
+    frame: Frame,
     tree: &'a Built<Expr<'a>>,
-) -> Result<Move<'a>, Stop<'a>>
+) -> Result<Move, Stop<'a>>
     requires { IsSpan cx.now.text.now cx.now.token }
-    ensures { Moves result (frames stack.new) (on_semi cx.now.text.now cx.now.token
-        (frame_of frame.entry ∷ frames stack.old) (tree_of tree.now.tree)) }
+    ensures { Moves result stack.new (on_semi cx.now.text.now cx.now.token
+        (frames_above frame stack.old) (tree_of tree.now.tree)) }
 {
     match frame {
-        Frame::ValValue(at, name, of) => {
-            open(stack, Frame::AfterVal(at, name, of, tree), Mode::WantStat)
+        Frame::ValValue(at) => {
+            stack.put_expr(tree)?;
+            open(stack, Frame::AfterVal(at), Mode::WantStat)
         }
-        Frame::Claiming(name, of) => on_claim_semi(cx, stack, name, of, tree),
-        Frame::BodyOf(head, result, contracts) => {
-            def_ends(cx, head, result, contracts, tree, None)
+        Frame::Claiming => {
+            let name = stack.take_name()?;
+            let of = stack.take_given_type()?;
+            on_claim_semi(cx, stack, name, of, tree)
         }
-        frame @ Frame::AfterVal(_, _, _, _) => open(stack, frame, Mode::AfterLast(tree)),
-        frame @ Frame::AfterAssert(_, _) => open(stack, frame, Mode::AfterLast(tree)),
-        frame @ Frame::Braces => open(stack, frame, Mode::AfterLast(tree)),
-        frame @ Frame::HeadBraces(_) => open(stack, frame, Mode::AfterLast(tree)),
-        frame @ Frame::Arm(_, _) => open(stack, frame, Mode::AfterLast(tree)),
-        other => Err(refuse_above(cx, other)),
+        Frame::BodyOf => {
+            let head = stack.take_head()?;
+            let result = stack.take_type()?;
+            let contracts = stack.take_contracts()?;
+            def_ends(cx, stack, head, result, contracts, tree, None)
+        }
+        Frame::AfterVal(_)
+        | Frame::AfterAssert(_)
+        | Frame::Braces
+        | Frame::HeadBraces
+        | Frame::Arm => {
+            stack.put_expr(tree)?;
+            open(stack, frame, Mode::AfterLast)
+        }
+        _ => Err(cx.refuse()),
     }
 }
 
@@ -283,16 +296,19 @@ fn on_semicolon<'a>(
     cx: &Current<'a, '_>,
     stack: &mut Stack<'a>,
     tree: &'a Built<Expr<'a>>,
-) -> Result<Move<'a>, Stop<'a>>
+) -> Result<Move, Stop<'a>>
     requires { IsSpan cx.now.text.now cx.now.token }
-    ensures { Moves result (frames stack.new) (on_semicolon cx.now.text.now cx.now.token (frames stack.old)
+    ensures { Moves result stack.new (on_semicolon cx.now.text.now cx.now.token (frames stack.old)
         (tree_of tree.now.tree)) }
 {
     let Some(frame) = stack.pop() else {
         return Err(cx.refuse());
     };
     match frame {
-        Frame::IfThen(at, test) => open(stack, Frame::IfThen(at, test), Mode::WantElse(tree)),
+        Frame::IfThen(at) => {
+            stack.put_expr(tree)?;
+            open(stack, Frame::IfThen(at), Mode::WantElse)
+        }
         other => on_semi_above(cx, stack, other, tree),
     }
 }
@@ -302,9 +318,9 @@ pub fn on_sealed_brace<'a>(
     cx: &Current<'a, '_>,
     stack: &mut Stack<'a>,
     tree: &'a Built<Expr<'a>>,
-) -> Result<Move<'a>, Stop<'a>>
+) -> Result<Move, Stop<'a>>
     requires { IsSpan cx.now.text.now cx.now.token }
-    ensures { Moves result (frames stack.new) (on_sealed_brace cx.now.text.now cx.now.token
+    ensures { Moves result stack.new (on_sealed_brace cx.now.text.now cx.now.token
         (seal (frames stack.old) (tree_of tree.now.tree))) }
 {
     let sealed = seal(cx.arena, stack, tree)?;
@@ -316,9 +332,9 @@ pub fn on_sealed_case<'a>(
     cx: &Current<'a, '_>,
     stack: &mut Stack<'a>,
     tree: &'a Built<Expr<'a>>,
-) -> Result<Move<'a>, Stop<'a>>
+) -> Result<Move, Stop<'a>>
     requires { IsSpan cx.now.text.now cx.now.token }
-    ensures { Moves result (frames stack.new) (on_sealed_case cx.now.text.now cx.now.token
+    ensures { Moves result stack.new (on_sealed_case cx.now.text.now cx.now.token
         (seal (frames stack.old) (tree_of tree.now.tree))) }
 {
     let sealed = seal(cx.arena, stack, tree)?;
@@ -330,9 +346,9 @@ fn on_expr_end<'a>(
     cx: &Current<'a, '_>,
     stack: &mut Stack<'a>,
     tree: &'a Built<Expr<'a>>,
-) -> Result<Move<'a>, Stop<'a>>
+) -> Result<Move, Stop<'a>>
     requires { IsSpan cx.now.text.now cx.now.token }
-    ensures { Moves result (frames stack.new) (on_expr_end cx.now.text.now cx.now.token (frames stack.old)
+    ensures { Moves result stack.new (on_expr_end cx.now.text.now cx.now.token (frames stack.old)
         (tree_of tree.now.tree) cx.now.token.kind) }
 {
     match cx.token.kind {
@@ -353,9 +369,9 @@ pub fn on_end<'a>(
     stack: &mut Stack<'a>,
     tree: &'a Built<Expr<'a>>,
     holed: bool,
-) -> Result<Move<'a>, Stop<'a>>
+) -> Result<Move, Stop<'a>>
     requires { IsSpan cx.now.text.now cx.now.token }
-    ensures { Moves result (frames stack.new) (on_end cx.now.text.now cx.now.token (frames stack.old)
+    ensures { Moves result stack.new (on_end cx.now.text.now cx.now.token (frames stack.old)
         (tree_of tree.now.tree) holed cx.now.token.kind) }
 {
     if holed {

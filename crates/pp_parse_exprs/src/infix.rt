@@ -1,20 +1,20 @@
 //! The steps behind an operand.
 
-ghost use Rattle.std.specs.Prelude.{◌≡◌, IfOk, List};
+ghost use Rattle.std.specs.Prelude.{◌≡◌, IfOk};
 ghost use Rattle.pp_tokens.specs.Spans.{IsSpan};
 ghost use Rattle.pp_tree.specs.Plain.{field};
 ghost use Rattle.pp_tree.specs.Shown.{tree_of};
 ghost use Rattle.pp_grammar.specs.Words.{word};
-ghost use Rattle.pp_grammar.specs.Frames.{Frame as plain_frame};
 ghost use Rattle.pp_grammar.specs.StepExprs.{on_binary, on_dot, on_dot_name, on_ensuring, on_guard, on_have};
 ghost use Rattle.pp_grammar.specs.StepExprs.{on_have_negative, on_holds, on_match, on_negative_dot};
 ghost use Rattle.pp_grammar.specs.StepExprs.{on_negative_field, on_operand, on_post_word};
+ghost use Rattle.pp_parse_state.specs.declared.stack.Stack.{Stack};
 ghost use Rattle.pp_parse_state.specs.Shown.{frames, Moves};
 ghost use Rattle.pp_parse_state.specs.Words.{role_of};
 
 use crate::closing::on_end;
 use pp_parse_frames::contracts::holding;
-use pp_parse_frames::opening::{open, refuse_above};
+use pp_parse_frames::opening::{behind_expr, open};
 use pp_parse_state::operators::{LOOSEST, binary_of, level};
 use pp_parse_state::words::Role;
 use pp_parse_state::{Current, Frame, Mode, Move, NoMemory, Stack, Stop, keep, unwind};
@@ -30,22 +30,23 @@ fn on_guard<'a>(
     stack: &mut Stack<'a>,
     tree: &'a Built<Expr<'a>>,
     holed: bool,
-) -> Result<Move<'a>, Stop<'a>>
+) -> Result<Move, Stop<'a>>
     requires { IsSpan cx.now.text.now cx.now.token }
-    ensures { Moves result (frames stack.new) (on_guard cx.now.text.now cx.now.token (frames stack.old)
+    ensures { Moves result stack.new (on_guard cx.now.text.now cx.now.token (frames stack.old)
         (tree_of tree.now.tree) holed) }
 {
     let Some(frame) = stack.pop() else {
         return Err(cx.refuse());
     };
     match frame {
-        Frame::Guarding(pattern) => {
+        Frame::Guarding => {
             if holed {
                 return Err(cx.refuse());
             }
-            open(stack, Frame::Arm(pattern, Some(tree)), Mode::WantStat)
+            stack.put_guard(Some(tree))?;
+            open(stack, Frame::Arm, Mode::WantStat)
         }
-        other => Err(refuse_above(cx, other)),
+        _ => Err(cx.refuse()),
     }
 }
 
@@ -55,15 +56,15 @@ fn on_match<'a>(
     stack: &mut Stack<'a>,
     tree: &'a Built<Expr<'a>>,
     holed: bool,
-) -> Result<Move<'a>, Stop<'a>>
+) -> Result<Move, Stop<'a>>
     requires { IsSpan cx.now.text.now cx.now.token }
-    ensures { Moves result (frames stack.new) (on_match cx.now.text.now cx.now.token (frames stack.old)
+    ensures { Moves result stack.new (on_match cx.now.text.now cx.now.token (frames stack.old)
         (tree_of tree.now.tree) holed) }
 {
     if holed || stack.floor() > 0 {
         return Err(cx.refuse());
     }
-    Ok(Move::Go(Mode::AfterMatch(cx.token.from, tree)))
+    behind_expr(stack, tree, Mode::AfterMatch(cx.token.from))
 }
 
 /// `ensuring` stands behind what the body of a function is.
@@ -72,23 +73,23 @@ fn on_ensuring<'a>(
     stack: &mut Stack<'a>,
     tree: &'a Built<Expr<'a>>,
     holed: bool,
-) -> Result<Move<'a>, Stop<'a>>
+) -> Result<Move, Stop<'a>>
     requires { IsSpan cx.now.text.now cx.now.token }
-    ensures { Moves result (frames stack.new) (on_ensuring cx.now.text.now cx.now.token (frames stack.old)
+    ensures { Moves result stack.new (on_ensuring cx.now.text.now cx.now.token (frames stack.old)
         (tree_of tree.now.tree) holed) }
 {
     let Some(frame) = stack.pop() else {
         return Err(cx.refuse());
     };
     match frame {
-        Frame::BodyOf(head, result, contracts) => {
+        Frame::BodyOf => {
             if holed {
                 return Err(cx.refuse());
             }
-            let body = Frame::BodyOf(head, result, contracts);
-            open(stack, body, Mode::AfterEnsuring(cx.token.from, tree))
+            stack.put_expr(tree)?;
+            open(stack, Frame::BodyOf, Mode::AfterEnsuring(cx.token.from))
         }
-        other => Err(refuse_above(cx, other)),
+        _ => Err(cx.refuse()),
     }
 }
 
@@ -98,24 +99,25 @@ fn on_holds<'a>(
     stack: &mut Stack<'a>,
     tree: &'a Built<Expr<'a>>,
     holed: bool,
-) -> Result<Move<'a>, Stop<'a>>
+) -> Result<Move, Stop<'a>>
     requires { IsSpan cx.now.text.now cx.now.token }
-    ensures { Moves result (frames stack.new) (on_holds cx.now.text.now cx.now.token (frames stack.old)
+    ensures { Moves result stack.new (on_holds cx.now.text.now cx.now.token (frames stack.old)
         (tree_of tree.now.tree) holed) }
 {
     let Some(frame) = stack.pop() else {
         return Err(cx.refuse());
     };
     match frame {
-        Frame::BodyOf(head, result, contracts) => {
+        Frame::BodyOf => {
             if holed {
                 return Err(cx.refuse());
             }
-            let body = Frame::BodyOf(head, result, contracts);
             let post = holding(cx, cx.token.from)?;
-            open(stack, body, Mode::AfterBody(tree, Some(post)))
+            stack.put_expr(tree)?;
+            stack.put_post(Some(post))?;
+            open(stack, Frame::BodyOf, Mode::AfterBody)
         }
-        other => Err(refuse_above(cx, other)),
+        _ => Err(cx.refuse()),
     }
 }
 
@@ -126,9 +128,9 @@ pub fn on_post_word<'a>(
     tree: &'a Built<Expr<'a>>,
     holed: bool,
     role: Role,
-) -> Result<Move<'a>, Stop<'a>>
+) -> Result<Move, Stop<'a>>
     requires { IsSpan cx.now.text.now cx.now.token }
-    ensures { Moves result (frames stack.new) (on_post_word cx.now.text.now cx.now.token (frames stack.old)
+    ensures { Moves result stack.new (on_post_word cx.now.text.now cx.now.token (frames stack.old)
         (tree_of tree.now.tree) holed (role_of role)) }
 {
     match role {
@@ -145,16 +147,20 @@ fn on_binary<'a>(
     tree: &'a Built<Expr<'a>>,
     holed: bool,
     op: Option<BinaryOp>,
-) -> Result<Move<'a>, Stop<'a>>
+) -> Result<Move, Stop<'a>>
     requires { IsSpan cx.now.text.now cx.now.token }
-    ensures { Moves result (frames stack.new) (on_binary cx.now.text.now cx.now.token (frames stack.old)
+    ensures { Moves result stack.new (on_binary cx.now.text.now cx.now.token (frames stack.old)
         (tree_of tree.now.tree) holed op) }
 {
     match op {
         Some(op) => {
             let left = unwind(cx.arena, stack, level(op), tree, holed)?;
-            let frame = Frame::Left(cx.token.from, op, left.tree, left.holed);
-            open(stack, frame, Mode::Want)
+            stack.put_expr(left.tree)?;
+            open(
+                stack,
+                Frame::Left(cx.token.from, op, left.holed),
+                Mode::Want,
+            )
         }
         None => Err(cx.refuse()),
     }
@@ -166,9 +172,9 @@ pub fn on_operand<'a>(
     stack: &mut Stack<'a>,
     tree: &'a Built<Expr<'a>>,
     holed: bool,
-) -> Result<Move<'a>, Stop<'a>>
+) -> Result<Move, Stop<'a>>
     requires { IsSpan cx.now.text.now cx.now.token }
-    ensures { Moves result (frames stack.new) (on_operand cx.now.text.now cx.now.token (frames stack.old)
+    ensures { Moves result stack.new (on_operand cx.now.text.now cx.now.token (frames stack.old)
         (tree_of tree.now.tree) holed cx.now.token.kind) }
 {
     match cx.token.kind {
@@ -198,13 +204,13 @@ pub fn on_have<'a>(
     stack: &mut Stack<'a>,
     tree: &'a Built<Expr<'a>>,
     holed: bool,
-) -> Result<Move<'a>, Stop<'a>>
+) -> Result<Move, Stop<'a>>
     requires { IsSpan cx.now.text.now cx.now.token }
-    ensures { Moves result (frames stack.new) (on_have cx.now.text.now cx.now.token (frames stack.old)
+    ensures { Moves result stack.new (on_have cx.now.text.now cx.now.token (frames stack.old)
         (tree_of tree.now.tree) holed cx.now.token.kind) }
 {
     match cx.token.kind {
-        TokenKind::Mark(Bracket::Dot) => Ok(Move::Go(Mode::AfterDot(tree, holed))),
+        TokenKind::Mark(Bracket::Dot) => behind_expr(stack, tree, Mode::AfterDot(holed)),
         _ => on_operand(cx, stack, tree, holed),
     }
 }
@@ -229,15 +235,15 @@ fn on_dot_name<'a>(
     tree: &'a Built<Expr<'a>>,
     holed: bool,
     role: Role,
-) -> Result<Move<'a>, Stop<'a>>
+) -> Result<Move, Stop<'a>>
     requires { IsSpan cx.now.text.now cx.now.token }
-    ensures { Moves result (frames stack.new) (on_dot_name cx.now.text.now cx.now.token (frames stack.old)
+    ensures { Moves result stack.new (on_dot_name cx.now.text.now cx.now.token (frames stack.old)
         (tree_of tree.now.tree) holed (role_of role)) }
 {
     match role {
         Role::Plain => {
             let field = field_of(cx, tree)?;
-            Ok(Move::Go(Mode::Have(field, holed)))
+            behind_expr(stack, field, Mode::Have(holed))
         }
         _ => on_post_word(cx, stack, tree, holed, role),
     }
@@ -249,9 +255,9 @@ pub fn on_dot<'a>(
     stack: &mut Stack<'a>,
     tree: &'a Built<Expr<'a>>,
     holed: bool,
-) -> Result<Move<'a>, Stop<'a>>
+) -> Result<Move, Stop<'a>>
     requires { IsSpan cx.now.text.now cx.now.token }
-    ensures { Moves result (frames stack.new) (on_dot cx.now.text.now cx.now.token (frames stack.old)
+    ensures { Moves result stack.new (on_dot cx.now.text.now cx.now.token (frames stack.old)
         (tree_of tree.now.tree) holed cx.now.token.kind) }
 {
     match cx.token.kind {
@@ -265,13 +271,13 @@ pub fn on_have_negative<'a>(
     cx: &Current<'a, '_>,
     stack: &mut Stack<'a>,
     tree: &'a Built<Expr<'a>>,
-) -> Result<Move<'a>, Stop<'a>>
+) -> Result<Move, Stop<'a>>
     requires { IsSpan cx.now.text.now cx.now.token }
-    ensures { Moves result (frames stack.new) (on_have_negative cx.now.text.now cx.now.token (frames stack.old)
+    ensures { Moves result stack.new (on_have_negative cx.now.text.now cx.now.token (frames stack.old)
         (tree_of tree.now.tree) cx.now.token.kind) }
 {
     match cx.token.kind {
-        TokenKind::Mark(Bracket::Dot) => Ok(Move::Go(Mode::AfterNegativeDot(tree))),
+        TokenKind::Mark(Bracket::Dot) => behind_expr(stack, tree, Mode::AfterNegativeDot),
         _ => on_operand(cx, stack, tree, false),
     }
 }
@@ -279,17 +285,18 @@ pub fn on_have_negative<'a>(
 /// A name behind a number with a sign and a dot.
 fn on_negative_field<'a>(
     cx: &Current<'a, '_>,
+    stack: &mut Stack<'a>,
     tree: &'a Built<Expr<'a>>,
     role: Role,
-) -> Result<Move<'a>, Stop<'a>>
+) -> Result<Move, Stop<'a>>
     requires { IsSpan cx.now.text.now cx.now.token }
-    ensures { (s : List plain_frame) → Moves result s (on_negative_field cx.now.text.now cx.now.token s
+    ensures { Moves result stack.new (on_negative_field cx.now.text.now cx.now.token (frames stack.old)
         (tree_of tree.now.tree) (role_of role)) }
 {
     match role {
         Role::Plain => {
             let field = field_of(cx, tree)?;
-            Ok(Move::Go(Mode::HaveNegative(field)))
+            behind_expr(stack, field, Mode::HaveNegative)
         }
         _ => Err(cx.refuse()),
     }
@@ -298,14 +305,15 @@ fn on_negative_field<'a>(
 /// Behind a number with a sign and a dot.
 pub fn on_negative_dot<'a>(
     cx: &Current<'a, '_>,
+    stack: &mut Stack<'a>,
     tree: &'a Built<Expr<'a>>,
-) -> Result<Move<'a>, Stop<'a>>
+) -> Result<Move, Stop<'a>>
     requires { IsSpan cx.now.text.now cx.now.token }
-    ensures { (s : List plain_frame) → Moves result s (on_negative_dot cx.now.text.now cx.now.token s
+    ensures { Moves result stack.new (on_negative_dot cx.now.text.now cx.now.token (frames stack.old)
         (tree_of tree.now.tree) cx.now.token.kind) }
 {
     match cx.token.kind {
-        TokenKind::Name => on_negative_field(cx, tree, cx.role()),
+        TokenKind::Name => on_negative_field(cx, stack, tree, cx.role()),
         _ => Err(cx.refuse()),
     }
 }

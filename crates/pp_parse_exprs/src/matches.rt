@@ -1,16 +1,15 @@
 //! The steps behind a match, and behind the words `match` and `else`.
 
-ghost use Rattle.std.specs.Prelude.{List};
 ghost use Rattle.pp_tokens.specs.Spans.{IsSpan};
 ghost use Rattle.pp_tree.specs.Shown.{tree_of};
-ghost use Rattle.pp_grammar.specs.Frames.{Frame as plain_frame};
-ghost use Rattle.pp_grammar.specs.StepExprs.{on_have_matched, on_match_dot, on_match_word, on_matched_dot};
+ghost use Rattle.pp_grammar.specs.StepExprs.{on_else, on_have_matched, on_match_dot, on_match_word, on_matched_dot};
 ghost use Rattle.pp_grammar.specs.StepExprs.{on_want_case, on_want_else};
+ghost use Rattle.pp_parse_state.specs.declared.stack.Stack.{Stack};
 ghost use Rattle.pp_parse_state.specs.Shown.{Moves, frames};
 
-use crate::closing::{on_else, on_end};
+use crate::closing::on_end;
 use crate::infix::{ANY, on_post_word};
-use pp_parse_frames::opening::{open, refuse_above};
+use pp_parse_frames::opening::open;
 use pp_parse_state::{Current, Frame, Mode, Move, Stack, Stop, unwind};
 use pp_tokens::{Bracket, Reserved, TokenKind};
 use pp_tree::{Built, Expr};
@@ -20,17 +19,20 @@ fn on_match_dot<'a>(
     cx: &Current<'a, '_>,
     stack: &mut Stack<'a>,
     tree: &'a Built<Expr<'a>>,
-) -> Result<Move<'a>, Stop<'a>>
+) -> Result<Move, Stop<'a>>
     requires { IsSpan cx.now.text.now cx.now.token }
-    ensures { Moves result (frames stack.new) (on_match_dot cx.now.text.now cx.now.token (frames stack.old)
+    ensures { Moves result stack.new (on_match_dot cx.now.text.now cx.now.token (frames stack.old)
         (tree_of tree.now.tree)) }
 {
     let Some(frame) = stack.pop() else {
         return Err(cx.refuse());
     };
     match frame {
-        frame @ Frame::BodyOf(_, _, _) => open(stack, frame, Mode::AfterMatchedDot(tree)),
-        other => Err(refuse_above(cx, other)),
+        Frame::BodyOf => {
+            stack.put_expr(tree)?;
+            open(stack, Frame::BodyOf, Mode::AfterMatchedDot)
+        }
+        _ => Err(cx.refuse()),
     }
 }
 
@@ -39,9 +41,9 @@ pub fn on_have_matched<'a>(
     cx: &Current<'a, '_>,
     stack: &mut Stack<'a>,
     tree: &'a Built<Expr<'a>>,
-) -> Result<Move<'a>, Stop<'a>>
+) -> Result<Move, Stop<'a>>
     requires { IsSpan cx.now.text.now cx.now.token }
-    ensures { Moves result (frames stack.new) (on_have_matched cx.now.text.now cx.now.token (frames stack.old)
+    ensures { Moves result stack.new (on_have_matched cx.now.text.now cx.now.token (frames stack.old)
         (tree_of tree.now.tree) cx.now.token.kind) }
 {
     match cx.token.kind {
@@ -59,9 +61,9 @@ pub fn on_matched_dot<'a>(
     cx: &Current<'a, '_>,
     stack: &mut Stack<'a>,
     tree: &'a Built<Expr<'a>>,
-) -> Result<Move<'a>, Stop<'a>>
+) -> Result<Move, Stop<'a>>
     requires { IsSpan cx.now.text.now cx.now.token }
-    ensures { Moves result (frames stack.new) (on_matched_dot cx.now.text.now cx.now.token (frames stack.old)
+    ensures { Moves result stack.new (on_matched_dot cx.now.text.now cx.now.token (frames stack.old)
         (tree_of tree.now.tree) cx.now.token.kind) }
 {
     match cx.token.kind {
@@ -76,28 +78,50 @@ pub fn on_match_word<'a>(
     stack: &mut Stack<'a>,
     at: u32,
     tree: &'a Built<Expr<'a>>,
-) -> Result<Move<'a>, Stop<'a>>
+) -> Result<Move, Stop<'a>>
     requires { IsSpan cx.now.text.now cx.now.token }
-    ensures { Moves result (frames stack.new) (on_match_word cx.now.text.now cx.now.token (frames stack.old) at
+    ensures { Moves result stack.new (on_match_word cx.now.text.now cx.now.token (frames stack.old) at
         (tree_of tree.now.tree) cx.now.token.kind) }
 {
     match cx.token.kind {
-        TokenKind::Mark(Bracket::OpenBrace) => open(
-            stack,
-            Frame::CasesOf(at, tree, Vec::new(cx.alloc)),
-            Mode::WantCase,
-        ),
+        TokenKind::Mark(Bracket::OpenBrace) => {
+            stack.put_expr(tree)?;
+            stack.put_case_list(Vec::new(cx.alloc))?;
+            open(stack, Frame::CasesOf(at), Mode::WantCase)
+        }
         _ => Err(cx.refuse()),
     }
 }
 
 /// The first case of a match is wanted.
-pub fn on_want_case<'a>(cx: &Current<'a, '_>) -> Result<Move<'a>, Stop<'a>>
+pub fn on_want_case<'a>(cx: &Current<'a, '_>) -> Result<Move, Stop<'a>>
     requires { IsSpan cx.now.text.now cx.now.token }
-    ensures { (s : List plain_frame) → Moves result s (on_want_case cx.now.text.now cx.now.token s cx.now.token.kind) }
+    ensures { (s : Stack) → Moves result s (on_want_case cx.now.text.now cx.now.token (frames s) cx.now.token.kind) }
 {
     match cx.token.kind {
         TokenKind::Word(Reserved::Case) => Ok(Move::Go(Mode::WantPattern)),
+        _ => Err(cx.refuse()),
+    }
+}
+
+/// `else` stands behind an expression.
+pub fn on_else<'a>(
+    cx: &Current<'a, '_>,
+    stack: &mut Stack<'a>,
+    tree: &'a Built<Expr<'a>>,
+) -> Result<Move, Stop<'a>>
+    requires { IsSpan cx.now.text.now cx.now.token }
+    ensures { Moves result stack.new (on_else cx.now.text.now cx.now.token (frames stack.old)
+        (tree_of tree.now.tree)) }
+{
+    let Some(frame) = stack.pop() else {
+        return Err(cx.refuse());
+    };
+    match frame {
+        Frame::IfThen(at) => {
+            stack.put_expr(tree)?;
+            open(stack, Frame::IfRest(at), Mode::Want)
+        }
         _ => Err(cx.refuse()),
     }
 }
@@ -107,9 +131,9 @@ pub fn on_want_else<'a>(
     cx: &Current<'a, '_>,
     stack: &mut Stack<'a>,
     tree: &'a Built<Expr<'a>>,
-) -> Result<Move<'a>, Stop<'a>>
+) -> Result<Move, Stop<'a>>
     requires { IsSpan cx.now.text.now cx.now.token }
-    ensures { Moves result (frames stack.new) (on_want_else cx.now.text.now cx.now.token (frames stack.old)
+    ensures { Moves result stack.new (on_want_else cx.now.text.now cx.now.token (frames stack.old)
         (tree_of tree.now.tree) cx.now.token.kind) }
 {
     match cx.token.kind {

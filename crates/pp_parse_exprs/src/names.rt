@@ -1,22 +1,24 @@
 //! The steps behind a name in an expression.
 
-ghost use Rattle.std.specs.Prelude.{◌≡◌, IfOk, List, [], ◌∷◌, false, map};
+ghost use Rattle.std.specs.Prelude.{[], ◌∷◌, false};
 ghost use Rattle.pp_tokens.specs.Spans.{IsSpan};
-ghost use Rattle.pp_tree.specs.Plain.{apply, no_trees};
-ghost use Rattle.pp_tree.specs.Shown.{tree_of, type_of, type_trees};
-ghost use Rattle.pp_grammar.specs.Frames.{Frame as plain_frame, args};
+ghost use Rattle.pp_tree.specs.Plain.{apply, no_trees, no_types};
+ghost use Rattle.pp_tree.specs.Shown.{type_of};
+ghost use Rattle.pp_grammar.specs.Frames.{args};
+ghost use Rattle.pp_grammar.specs.Joining.{types_onto};
 ghost use Rattle.pp_grammar.specs.StepExprs.{on_args_open, on_bound, on_have, on_int, on_int_dot, on_name};
-ghost use Rattle.pp_grammar.specs.StepExprs.{on_name_types};
-ghost use Rattle.pp_grammar.specs.StepExprs.{on_want};
-ghost use Rattle.pp_parse_state.specs.Shown.{frames, Moves};
+ghost use Rattle.pp_grammar.specs.StepExprs.{on_name_types, on_want};
+ghost use Rattle.pp_parse_state.specs.declared.stack.Stack.{Stack};
+ghost use Rattle.pp_parse_state.specs.Shown.{frames, stacked, Moves};
 
 use crate::infix::on_have;
 use crate::operands::on_want;
-use pp_parse_frames::opening::open;
+use pp_parse_frames::lists::applied_alone;
+use pp_parse_frames::opening::{behind_expr, open};
 use pp_parse_state::words::bound_of;
-use pp_parse_state::{Current, Frame, Mode, Move, NoMemory, Stack, Stop, keep};
+use pp_parse_state::{Current, Frame, Mode, Move, Stack, Stop, keep};
 use pp_tokens::{Bracket, TokenKind};
-use pp_tree::{Built, Expr, TypeText, build};
+use pp_tree::{Built, TypeText, build};
 
 /// Behind a name.
 pub fn on_name<'a>(
@@ -24,22 +26,22 @@ pub fn on_name<'a>(
     stack: &mut Stack<'a>,
     at: u32,
     name: &'a str,
-) -> Result<Move<'a>, Stop<'a>>
+) -> Result<Move, Stop<'a>>
     requires { IsSpan cx.now.text.now cx.now.token }
-    ensures { Moves result (frames stack.new) (on_name cx.now.text.now cx.now.token (frames stack.old) at name.now
+    ensures { Moves result stack.new (on_name cx.now.text.now cx.now.token (frames stack.old) at name.now
         cx.now.token.kind) }
 {
     match cx.token.kind {
-        TokenKind::Mark(Bracket::OpenSquare) => open(
-            stack,
-            Frame::NameTypes(at, name, Vec::new(cx.alloc)),
-            Mode::WantType,
-        ),
-        TokenKind::Mark(Bracket::OpenRound) => Ok(Move::Go(Mode::ArgsOpen(
-            at,
-            name,
-            Vec::new(cx.alloc),
-        ))),
+        TokenKind::Mark(Bracket::OpenSquare) => {
+            stack.put_name(name)?;
+            stack.put_type_list(Vec::new(cx.alloc))?;
+            open(stack, Frame::NameTypes(at), Mode::WantType)
+        }
+        TokenKind::Mark(Bracket::OpenRound) => {
+            stack.put_name(name)?;
+            stack.put_type_list(Vec::new(cx.alloc))?;
+            Ok(Move::Go(Mode::ArgsOpen(at)))
+        }
         _ => {
             let tree = keep(cx.arena, build::name(at, name))?;
             on_have(cx, stack, tree, false)
@@ -54,29 +56,19 @@ pub fn on_name_types<'a>(
     at: u32,
     name: &'a str,
     types: Vec<Built<TypeText<'a>>>,
-) -> Result<Move<'a>, Stop<'a>>
+) -> Result<Move, Stop<'a>>
     requires { IsSpan cx.now.text.now cx.now.token }
-    ensures { Moves result (frames stack.new) (on_name_types cx.now.text.now cx.now.token (frames stack.old) at
-        name.now (type_trees (map (λ t. type_of t.tree) types.entry.items)) cx.now.token.kind) }
+    ensures { Moves result stack.new (on_name_types cx.now.text.now cx.now.token (frames stack.old) at
+        name.now (types_onto (stacked (λ t. type_of t.tree) types.entry.items []) no_types) cx.now.token.kind) }
 {
     match cx.token.kind {
-        TokenKind::Mark(Bracket::OpenRound) => Ok(Move::Go(Mode::ArgsOpen(at, name, types))),
+        TokenKind::Mark(Bracket::OpenRound) => {
+            stack.put_name(name)?;
+            stack.put_type_list(types)?;
+            Ok(Move::Go(Mode::ArgsOpen(at)))
+        }
         _ => on_bare_types(cx, stack, at, name, types),
     }
-}
-
-/// The name with type arguments and no others.
-fn bare<'a>(
-    cx: &Current<'a, '_>,
-    at: u32,
-    name: &'a str,
-    types: Vec<Built<TypeText<'a>>>,
-) -> Result<&'a Built<Expr<'a>>, NoMemory>
-    ensures { IfOk result (λ e. tree_of e.now.tree ≡ apply at name.now
-        (type_trees (map (λ t. type_of t.tree) types.entry.items)) no_trees) }
-{
-    let tree = build::apply(cx.arena, at, name, &types, &[])?;
-    keep(cx.arena, tree)
 }
 
 /// Behind a name with type arguments and no others.
@@ -86,13 +78,13 @@ fn on_bare_types<'a>(
     at: u32,
     name: &'a str,
     types: Vec<Built<TypeText<'a>>>,
-) -> Result<Move<'a>, Stop<'a>>
+) -> Result<Move, Stop<'a>>
     requires { IsSpan cx.now.text.now cx.now.token }
-    ensures { Moves result (frames stack.new) (on_have cx.now.text.now cx.now.token (frames stack.old)
-        (apply at name.now (type_trees (map (λ t. type_of t.tree) types.entry.items)) no_trees) false
+    ensures { Moves result stack.new (on_have cx.now.text.now cx.now.token (frames stack.old)
+        (apply at name.now (types_onto (stacked (λ t. type_of t.tree) types.entry.items []) no_types) no_trees) false
         cx.now.token.kind) }
 {
-    let tree = bare(cx, at, name, types)?;
+    let tree = applied_alone(cx, at, name, types)?;
     on_have(cx, stack, tree, false)
 }
 
@@ -103,18 +95,16 @@ pub fn on_args_open<'a>(
     at: u32,
     name: &'a str,
     types: Vec<Built<TypeText<'a>>>,
-) -> Result<Move<'a>, Stop<'a>>
+) -> Result<Move, Stop<'a>>
     requires { IsSpan cx.now.text.now cx.now.token }
-    ensures { Moves result (frames stack.new) (on_args_open cx.now.text.now cx.now.token (frames stack.old) at
-        name.now (type_trees (map (λ t. type_of t.tree) types.entry.items)) cx.now.token.kind) }
+    ensures { Moves result stack.new (on_args_open cx.now.text.now cx.now.token (frames stack.old) at name.now
+        (types_onto (stacked (λ t. type_of t.tree) types.entry.items []) no_types) cx.now.token.kind) }
 {
-    match cx.token.kind {
-        TokenKind::Mark(Bracket::CloseRound) => {
-            let tree = bare(cx, at, name, types)?;
-            Ok(Move::Go(Mode::Have(tree, false)))
-        }
-        _ => on_first_arg(cx, stack, at, name, types),
+    if !cx.closes_round() {
+        return on_first_arg(cx, stack, at, name, types);
     }
+    let tree = applied_alone(cx, at, name, types)?;
+    behind_expr(stack, tree, Mode::Have(false))
 }
 
 /// The first argument begins.
@@ -124,20 +114,23 @@ fn on_first_arg<'a>(
     at: u32,
     name: &'a str,
     types: Vec<Built<TypeText<'a>>>,
-) -> Result<Move<'a>, Stop<'a>>
+) -> Result<Move, Stop<'a>>
     requires { IsSpan cx.now.text.now cx.now.token }
-    ensures { Moves result (frames stack.new) (on_want cx.now.text.now cx.now.token
-        (args at name.now (type_trees (map (λ t. type_of t.tree) types.entry.items)) [] ∷ frames stack.old)
-        cx.now.token.kind) }
+    ensures { Moves result stack.new (on_want cx.now.text.now cx.now.token
+        (args at name.now (types_onto (stacked (λ t. type_of t.tree) types.entry.items []) no_types) []
+        ∷ frames stack.old) cx.now.token.kind) }
 {
-    stack.push(Frame::Args(at, name, types, Vec::new(cx.alloc)))?;
+    stack.put_name(name)?;
+    stack.put_type_list(types)?;
+    stack.put_expr_list(Vec::new(cx.alloc))?;
+    stack.push(Frame::Args(at))?;
     on_want(cx, stack)
 }
 
 /// Behind `Int`, which stands before its bounds alone.
-pub fn on_int<'a>(cx: &Current<'a, '_>, at: u32) -> Result<Move<'a>, Stop<'a>>
+pub fn on_int<'a>(cx: &Current<'a, '_>, at: u32) -> Result<Move, Stop<'a>>
     requires { IsSpan cx.now.text.now cx.now.token }
-    ensures { (s : List plain_frame) → Moves result s (on_int cx.now.text.now cx.now.token s at cx.now.token.kind) }
+    ensures { (s : Stack) → Moves result s (on_int cx.now.text.now cx.now.token (frames s) at cx.now.token.kind) }
 {
     match cx.token.kind {
         TokenKind::Mark(Bracket::Dot) => Ok(Move::Go(Mode::AfterIntDot(at))),
@@ -146,23 +139,32 @@ pub fn on_int<'a>(cx: &Current<'a, '_>, at: u32) -> Result<Move<'a>, Stop<'a>>
 }
 
 /// A bound of `Int`.
-fn on_bound<'a>(cx: &Current<'a, '_>, at: u32, value: Option<i32>) -> Result<Move<'a>, Stop<'a>>
+fn on_bound<'a>(
+    cx: &Current<'a, '_>,
+    stack: &mut Stack<'a>,
+    at: u32,
+    value: Option<i32>,
+) -> Result<Move, Stop<'a>>
     requires { IsSpan cx.now.text.now cx.now.token }
-    ensures { (s : List plain_frame) → Moves result s (on_bound cx.now.text.now cx.now.token s at value) }
+    ensures { Moves result stack.new (on_bound cx.now.text.now cx.now.token (frames stack.old) at value) }
 {
     match value {
-        Some(n) => Ok(Move::Go(Mode::Have(keep(cx.arena, build::int(at, n))?, false))),
+        Some(n) => behind_expr(stack, keep(cx.arena, build::int(at, n))?, Mode::Have(false)),
         None => Err(cx.refuse()),
     }
 }
 
 /// Behind `Int` and a dot.
-pub fn on_int_dot<'a>(cx: &Current<'a, '_>, at: u32) -> Result<Move<'a>, Stop<'a>>
+pub fn on_int_dot<'a>(
+    cx: &Current<'a, '_>,
+    stack: &mut Stack<'a>,
+    at: u32,
+) -> Result<Move, Stop<'a>>
     requires { IsSpan cx.now.text.now cx.now.token }
-    ensures { (s : List plain_frame) → Moves result s (on_int_dot cx.now.text.now cx.now.token s at cx.now.token.kind) }
+    ensures { Moves result stack.new (on_int_dot cx.now.text.now cx.now.token (frames stack.old) at cx.now.token.kind) }
 {
     match cx.token.kind {
-        TokenKind::Name => on_bound(cx, at, bound_of(cx.text())),
+        TokenKind::Name => on_bound(cx, stack, at, bound_of(cx.text())),
         _ => Err(cx.refuse()),
     }
 }

@@ -1,8 +1,8 @@
 //! The steps where an operand is wanted.
 
-ghost use Rattle.std.specs.Prelude.{List, ◌∷◌, cond, false, nat_le};
+ghost use Rattle.std.specs.Prelude.{◌∷◌, cond, false, nat_le};
 ghost use Rattle.pp_tokens.specs.Spans.{IsSpan};
-ghost use Rattle.pp_grammar.specs.Frames.{Frame as plain_frame, go, have, prefixing, want};
+ghost use Rattle.pp_grammar.specs.Frames.{go, have, prefixing, want};
 ghost use Rattle.pp_grammar.specs.Joining.{floor};
 ghost use Rattle.pp_grammar.specs.StepExprs.{on_if, on_minus, on_negative, on_number, on_operand_name, on_want};
 ghost use Rattle.pp_grammar.specs.StepExprs.{on_want_then};
@@ -16,7 +16,7 @@ ghost use Rattle.pp_tree.specs.Plain.{bool as plain_bool};
 ghost use Rattle.pp_grammar.specs.StepTypes.{refuse};
 
 use pp_parse_frames::contracts::RES;
-use pp_parse_frames::opening::open;
+use pp_parse_frames::opening::{behind_expr, behind_name, open};
 use pp_parse_state::numbers::{is_signed, negative_of, number_of};
 use pp_parse_state::operators::TIGHTEST;
 use pp_parse_state::words::Role;
@@ -26,49 +26,61 @@ use pp_tree::UnaryOp;
 use pp_tree::build::{bool, int, name};
 
 /// A number as an operand.
-fn on_number<'a>(cx: &Current<'a, '_>, value: Option<i32>) -> Result<Move<'a>, Stop<'a>>
+fn on_number<'a>(
+    cx: &Current<'a, '_>,
+    stack: &mut Stack<'a>,
+    value: Option<i32>,
+) -> Result<Move, Stop<'a>>
     requires { IsSpan cx.now.text.now cx.now.token }
-    ensures { (s : List plain_frame) → Moves result s (on_number cx.now.text.now cx.now.token s value) }
+    ensures { Moves result stack.new (on_number cx.now.text.now cx.now.token (frames stack.old) value) }
 {
     match value {
-        Some(n) => Ok(Move::Go(Mode::Have(keep(cx.arena, int(cx.token.from, n))?, false))),
+        Some(n) => behind_expr(
+            stack,
+            keep(cx.arena, int(cx.token.from, n))?,
+            Mode::Have(false),
+        ),
         None => Err(cx.refuse()),
     }
 }
 
 /// A name as an operand.
-pub fn on_operand_name<'a>(cx: &Current<'a, '_>, role: Role) -> Result<Move<'a>, Stop<'a>>
+pub fn on_operand_name<'a>(
+    cx: &Current<'a, '_>,
+    stack: &mut Stack<'a>,
+    role: Role,
+) -> Result<Move, Stop<'a>>
     requires { IsSpan cx.now.text.now cx.now.token }
-    ensures { (s : List plain_frame) → Moves result s (on_operand_name cx.now.text.now cx.now.token s (role_of role)) }
+    ensures { Moves result stack.new (on_operand_name cx.now.text.now cx.now.token (frames stack.old) (role_of role)) }
 {
     let from = cx.token.from;
     match role {
-        Role::Plain => Ok(Move::Go(Mode::AfterName(from, cx.word()?))),
+        Role::Plain => behind_name(stack, cx.word()?, Mode::AfterName(from)),
         Role::Int => Ok(Move::Go(Mode::AfterInt(from))),
         _ => Err(cx.refuse()),
     }
 }
 
 /// A truth value as an operand.
-fn on_bool<'a>(cx: &Current<'a, '_>, value: bool) -> Result<Move<'a>, Stop<'a>>
-    ensures { (s : List plain_frame) → Moves result s (go s (have (plain_bool cx.now.token.from value) false)) }
+fn on_bool<'a>(cx: &Current<'a, '_>, stack: &mut Stack<'a>, value: bool) -> Result<Move, Stop<'a>>
+    ensures { Moves result stack.new (go (frames stack.old) (have (plain_bool cx.now.token.from value) false)) }
 {
     let tree = keep(cx.arena, bool(cx.token.from, value))?;
-    Ok(Move::Go(Mode::Have(tree, false)))
+    behind_expr(stack, tree, Mode::Have(false))
 }
 
 /// An operand is wanted, with or without a prefix.
-pub fn on_want<'a>(cx: &Current<'a, '_>, stack: &mut Stack<'a>) -> Result<Move<'a>, Stop<'a>>
+pub fn on_want<'a>(cx: &Current<'a, '_>, stack: &mut Stack<'a>) -> Result<Move, Stop<'a>>
     requires { IsSpan cx.now.text.now cx.now.token }
-    ensures { Moves result (frames stack.new) (on_want cx.now.text.now cx.now.token (frames stack.old)
+    ensures { Moves result stack.new (on_want cx.now.text.now cx.now.token (frames stack.old)
         cx.now.token.kind) }
 {
     match cx.token.kind {
-        TokenKind::Number(_) => on_number(cx, number_of(cx.token.kind)),
-        TokenKind::Hex(_) => on_number(cx, number_of(cx.token.kind)),
-        TokenKind::Name => on_operand_name(cx, cx.role()),
-        TokenKind::Word(Reserved::True) => on_bool(cx, true),
-        TokenKind::Word(Reserved::False) => on_bool(cx, false),
+        TokenKind::Number(_) => on_number(cx, stack, number_of(cx.token.kind)),
+        TokenKind::Hex(_) => on_number(cx, stack, number_of(cx.token.kind)),
+        TokenKind::Name => on_operand_name(cx, stack, cx.role()),
+        TokenKind::Word(Reserved::True) => on_bool(cx, stack, true),
+        TokenKind::Word(Reserved::False) => on_bool(cx, stack, false),
         TokenKind::Hole => on_hole(cx, stack),
         TokenKind::Op(Operator::Minus) => on_minus_sign(cx, stack),
         TokenKind::Op(Operator::Not) => on_prefix(cx, stack, UnaryOp::Not),
@@ -81,12 +93,17 @@ pub fn on_want<'a>(cx: &Current<'a, '_>, stack: &mut Stack<'a>) -> Result<Move<'
 }
 
 /// A number whose sign stands at the offset.
-fn on_negative<'a>(cx: &Current<'a, '_>, at: u32, value: Option<i32>) -> Result<Move<'a>, Stop<'a>>
+fn on_negative<'a>(
+    cx: &Current<'a, '_>,
+    stack: &mut Stack<'a>,
+    at: u32,
+    value: Option<i32>,
+) -> Result<Move, Stop<'a>>
     requires { IsSpan cx.now.text.now cx.now.token }
-    ensures { (s : List plain_frame) → Moves result s (on_negative cx.now.text.now cx.now.token s at value) }
+    ensures { Moves result stack.new (on_negative cx.now.text.now cx.now.token (frames stack.old) at value) }
 {
     match value {
-        Some(n) => Ok(Move::Go(Mode::HaveNegative(keep(cx.arena, int(at, n))?))),
+        Some(n) => behind_expr(stack, keep(cx.arena, int(at, n))?, Mode::HaveNegative),
         None => Err(cx.refuse()),
     }
 }
@@ -97,22 +114,22 @@ pub fn on_minus<'a>(
     stack: &mut Stack<'a>,
     at: u32,
     end: u32,
-) -> Result<Move<'a>, Stop<'a>>
+) -> Result<Move, Stop<'a>>
     requires { IsSpan cx.now.text.now cx.now.token }
-    ensures { Moves result (frames stack.new) (on_minus cx.now.text.now cx.now.token (frames stack.old) at end
+    ensures { Moves result stack.new (on_minus cx.now.text.now cx.now.token (frames stack.old) at end
         cx.now.token.kind) }
 {
     if is_signed(end, cx.token) {
-        return on_negative(cx, at, negative_of(cx.token.kind));
+        return on_negative(cx, stack, at, negative_of(cx.token.kind));
     }
     stack.push(Frame::Prefixing(at, UnaryOp::Neg))?;
     on_want(cx, stack)
 }
 
 /// Behind `if`.
-pub fn on_if<'a>(cx: &Current<'a, '_>, stack: &mut Stack<'a>, at: u32) -> Result<Move<'a>, Stop<'a>>
+pub fn on_if<'a>(cx: &Current<'a, '_>, stack: &mut Stack<'a>, at: u32) -> Result<Move, Stop<'a>>
     requires { IsSpan cx.now.text.now cx.now.token }
-    ensures { Moves result (frames stack.new) (on_if cx.now.text.now cx.now.token (frames stack.old) at
+    ensures { Moves result stack.new (on_if cx.now.text.now cx.now.token (frames stack.old) at
         cx.now.token.kind) }
 {
     match cx.token.kind {
@@ -122,9 +139,9 @@ pub fn on_if<'a>(cx: &Current<'a, '_>, stack: &mut Stack<'a>, at: u32) -> Result
 }
 
 /// The first branch of an `if` is wanted.
-pub fn on_want_then<'a>(cx: &Current<'a, '_>, stack: &mut Stack<'a>) -> Result<Move<'a>, Stop<'a>>
+pub fn on_want_then<'a>(cx: &Current<'a, '_>, stack: &mut Stack<'a>) -> Result<Move, Stop<'a>>
     requires { IsSpan cx.now.text.now cx.now.token }
-    ensures { Moves result (frames stack.new) (on_want_then cx.now.text.now cx.now.token (frames stack.old)
+    ensures { Moves result stack.new (on_want_then cx.now.text.now cx.now.token (frames stack.old)
         cx.now.token.kind) }
 {
     match cx.token.kind {
@@ -134,20 +151,24 @@ pub fn on_want_then<'a>(cx: &Current<'a, '_>, stack: &mut Stack<'a>) -> Result<M
 }
 
 /// The hole as an operand.
-fn on_hole<'a>(cx: &Current<'a, '_>, stack: &mut Stack<'a>) -> Result<Move<'a>, Stop<'a>>
+fn on_hole<'a>(cx: &Current<'a, '_>, stack: &mut Stack<'a>) -> Result<Move, Stop<'a>>
     requires { IsSpan cx.now.text.now cx.now.token }
-    ensures { Moves result (frames stack.new) (on_want cx.now.text.now cx.now.token (frames stack.old) Hole) }
+    ensures { Moves result stack.new (on_want cx.now.text.now cx.now.token (frames stack.old) Hole) }
 {
     if !stack.takes_hole() {
         return Err(cx.refuse());
     }
-    Ok(Move::Go(Mode::Have(keep(cx.arena, name(cx.token.from, RES))?, true)))
+    behind_expr(
+        stack,
+        keep(cx.arena, name(cx.token.from, RES))?,
+        Mode::Have(true),
+    )
 }
 
 /// A minus sign before an operand.
-fn on_minus_sign<'a>(cx: &Current<'a, '_>, stack: &mut Stack<'a>) -> Result<Move<'a>, Stop<'a>>
+fn on_minus_sign<'a>(cx: &Current<'a, '_>, stack: &mut Stack<'a>) -> Result<Move, Stop<'a>>
     requires { IsSpan cx.now.text.now cx.now.token }
-    ensures { Moves result (frames stack.new) (on_want cx.now.text.now cx.now.token (frames stack.old) (Op Minus)) }
+    ensures { Moves result stack.new (on_want cx.now.text.now cx.now.token (frames stack.old) (Op Minus)) }
 {
     if stack.floor() > TIGHTEST {
         return Err(cx.refuse());
@@ -156,13 +177,9 @@ fn on_minus_sign<'a>(cx: &Current<'a, '_>, stack: &mut Stack<'a>) -> Result<Move
 }
 
 /// Another prefix before an operand.
-fn on_prefix<'a>(
-    cx: &Current<'a, '_>,
-    stack: &mut Stack<'a>,
-    op: UnaryOp,
-) -> Result<Move<'a>, Stop<'a>>
+fn on_prefix<'a>(cx: &Current<'a, '_>, stack: &mut Stack<'a>, op: UnaryOp) -> Result<Move, Stop<'a>>
     requires { IsSpan cx.now.text.now cx.now.token }
-    ensures { Moves result (frames stack.new) (cond (nat_le (floor (frames stack.old)) tightest) (go
+    ensures { Moves result stack.new (cond (nat_le (floor (frames stack.old)) tightest) (go
         (prefixing cx.now.token.from op ∷ frames stack.old) want) (refuse cx.now.text.now cx.now.token)) }
 {
     if stack.floor() > TIGHTEST {
@@ -172,9 +189,9 @@ fn on_prefix<'a>(
 }
 
 /// `if` where an operand is wanted.
-fn on_if_word<'a>(cx: &Current<'a, '_>, stack: &mut Stack<'a>) -> Result<Move<'a>, Stop<'a>>
+fn on_if_word<'a>(cx: &Current<'a, '_>, stack: &mut Stack<'a>) -> Result<Move, Stop<'a>>
     requires { IsSpan cx.now.text.now cx.now.token }
-    ensures { Moves result (frames stack.new) (on_want cx.now.text.now cx.now.token (frames stack.old) (Reserve If)) }
+    ensures { Moves result stack.new (on_want cx.now.text.now cx.now.token (frames stack.old) (Reserve If)) }
 {
     if stack.floor() > 0 {
         return Err(cx.refuse());

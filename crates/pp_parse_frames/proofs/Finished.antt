@@ -25,11 +25,14 @@ types_stacked : {B : Type 0} (f : B → TypeTree) (xs : List B) (ds us : List Ty
 types_stacked f [] ds us = refl
 types_stacked f (x ∷ xs) ds us = types_stacked f xs (f x ∷ ds) us
 
+pub types_whole : {B : Type 0} (f : B → TypeTree) (xs : List B)
+    → types_onto (stacked f xs []) no_types ≡ type_trees (map f xs)
+types_whole f xs = types_stacked f xs [] [] ∙ ap type_trees (append-nil (map f xs))
+
 pub types_finished : {B : Type 0} (f : B → TypeTree) (xs : List B) (x : B)
     → types_onto (f x ∷ stacked f xs []) no_types ≡ type_trees (map f (xs ++ x ∷ []))
 types_finished f xs x =
-    ap (λ ts. types_onto ts no_types) (sym (stacked_push f xs x [])) ∙ types_stacked f (xs ++ x ∷ []) [] []
-    ∙ ap type_trees (append-nil (map f (xs ++ x ∷ [])))
+    ap (λ ts. types_onto ts no_types) (sym (stacked_push f xs x [])) ∙ types_whole f (xs ++ x ∷ [])
 
 trees_stacked : {B : Type 0} (f : B → Tree) (xs : List B) (ds us : List Tree)
     → trees_onto (stacked f xs ds) (trees us) ≡ trees_onto ds (trees (map f xs ++ us))

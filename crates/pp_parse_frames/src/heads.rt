@@ -1,16 +1,16 @@
 //! Heads of classes and functions, and what they end in.
 
-ghost use Rattle.std.specs.Prelude.{◌≡◌, List, IfOk, option_map};
+ghost use Rattle.std.specs.Prelude.{◌≡◌, IfOk, option_map};
 ghost use Rattle.pp_tree.specs.Shown.{class_of, decl_of, tree_of, type_of};
 ghost use Rattle.pp_tree.specs.Parts.{claim_parts};
 ghost use Rattle.pp_grammar.specs.Units.{class_decl};
-ghost use Rattle.pp_grammar.specs.Frames.{Frame as plain_frame, ends};
+ghost use Rattle.pp_grammar.specs.Frames.{ends};
 ghost use Rattle.pp_grammar.specs.Joining.{class_tree, def_tree, head_at, object_tree, with_list, with_param};
 ghost use Rattle.pp_grammar.specs.Joining.{with_type_param};
 ghost use Rattle.pp_parse_state.specs.Shown.{Moves, contracts_of, head_of};
 
 use pp_parse_state::{
-    Contracts, Current, Head, Move, NoMemory, Stop, claim_itself, keep, type_itself,
+    Contracts, Current, Head, Move, NoMemory, Stack, Stop, claim_itself, keep, type_itself,
 };
 use pp_tree::build::{Claim, ClassParts, DefParts, class, def, param};
 use pp_tree::{Built, Checked, ClassDecl, Decl, Expr, TypeText};
@@ -65,13 +65,14 @@ fn declared<'a>(
 #[tactic(auto, using(crate::proofs::Finished::list_finished))]
 pub fn class_ends<'a>(
     cx: &Current<'a, '_>,
+    stack: &mut Stack<'a>,
     sealed: bool,
     case: bool,
     is_trait: bool,
     head: Head<'a>,
     parent: Option<&'a Built<TypeText<'a>>>,
-) -> Result<Move<'a>, Stop<'a>>
-    ensures { (s : List plain_frame) → Moves result s (ends (class_decl sealed case is_trait
+) -> Result<Move, Stop<'a>>
+    ensures { Moves result stack.new (ends (class_decl sealed case is_trait
         (class_tree (head_of head.entry) (option_map (λ t. type_of t.now.tree) parent.entry)))) }
 {
     let parts = ClassParts {
@@ -83,17 +84,20 @@ pub fn class_ends<'a>(
         object: false,
     };
     let class = class(cx.arena, parts)?;
-    Ok(Move::Ends(keep(cx.arena, declared(sealed, case, is_trait, class))?))
+    let decl = keep(cx.arena, declared(sealed, case, is_trait, class))?;
+    stack.put_decl(decl)?;
+    Ok(Move::Ends)
 }
 
 /// The case object ends.
 pub fn object_ends<'a>(
     cx: &Current<'a, '_>,
+    stack: &mut Stack<'a>,
     at: u32,
     name: &'a str,
     of: &'a Built<TypeText<'a>>,
-) -> Result<Move<'a>, Stop<'a>>
-    ensures { (s : List plain_frame) → Moves result s (ends (object_tree at name.now (type_of of.now.tree))) }
+) -> Result<Move, Stop<'a>>
+    ensures { Moves result stack.new (ends (object_tree at name.now (type_of of.now.tree))) }
 {
     let parts = ClassParts {
         at,
@@ -109,7 +113,8 @@ pub fn object_ends<'a>(
         tree,
         deep: class.deep,
     };
-    Ok(Move::Ends(keep(cx.arena, decl)?))
+    stack.put_decl(keep(cx.arena, decl)?)?;
+    Ok(Move::Ends)
 }
 
 /// The head that begins with the name.
@@ -139,13 +144,14 @@ pub fn with_type_param<'a>(head: Head<'a>, name: &'a str) -> Result<Head<'a>, No
 #[tactic(auto, using(crate::proofs::Finished::list_finished))]
 pub fn def_ends<'a>(
     cx: &Current<'a, '_>,
+    stack: &mut Stack<'a>,
     head: Head<'a>,
     result_type: &'a Built<TypeText<'a>>,
     contracts: Contracts<'a>,
     body: &'a Built<Expr<'a>>,
     post: Option<&'a Claim<'a>>,
-) -> Result<Move<'a>, Stop<'a>>
-    ensures { (s : List plain_frame) → Moves result s (ends (def_tree (head_of head.entry)
+) -> Result<Move, Stop<'a>>
+    ensures { Moves result stack.new (ends (def_tree (head_of head.entry)
         (type_of result_type.now.tree) (contracts_of contracts.entry) (tree_of body.now.tree)
         (option_map (λ p. claim_parts p.now) post.entry))) }
 {
@@ -167,5 +173,6 @@ pub fn def_ends<'a>(
         tree,
         deep: def.deep,
     };
-    Ok(Move::Ends(keep(cx.arena, decl)?))
+    stack.put_decl(keep(cx.arena, decl)?)?;
+    Ok(Move::Ends)
 }

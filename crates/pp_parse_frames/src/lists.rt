@@ -129,7 +129,23 @@ fn all_cases<'a>(
     Ok(list)
 }
 
+/// The name with its type arguments, and no arguments.
+#[tactic(auto, using(crate::proofs::Finished::types_whole))]
+pub fn applied_alone<'a>(
+    cx: &Current<'a, '_>,
+    at: u32,
+    name: &'a str,
+    types: Vec<Built<TypeText<'a>>>,
+) -> Result<&'a Built<Expr<'a>>, NoMemory>
+    ensures { IfOk result (λ e. tree_of e.now.tree ≡ apply at name.now
+        (types_onto (stacked (λ t. type_of t.tree) types.entry.items []) no_types) no_trees) }
+{
+    let tree = build::apply(cx.arena, at, name, &types, &[])?;
+    keep(cx.arena, tree)
+}
+
 /// The name with its type arguments and its arguments, of which this is the last.
+#[tactic(auto, using(crate::proofs::Finished::types_whole))]
 pub fn applied<'a>(
     cx: &Current<'a, '_>,
     at: u32,
@@ -139,7 +155,7 @@ pub fn applied<'a>(
     last: &'a Built<Expr<'a>>,
 ) -> Result<&'a Built<Expr<'a>>, NoMemory>
     ensures { IfOk result (λ e. tree_of e.now.tree ≡ apply at name.now
-        (type_trees (map (λ t. type_of t.tree) types.entry.items)) (trees_onto
+        (types_onto (stacked (λ t. type_of t.tree) types.entry.items []) no_types) (trees_onto
         (tree_of last.now.tree ∷ stacked (λ a. tree_of a.tree) args.entry.items []) no_trees)) }
 {
     let args = all_trees(args, last)?;

@@ -1,10 +1,10 @@
 -- The states of the automaton that the parser's values stand for.
-use Rattle.std.specs.Prelude.{ℕ, ◌≡◌, List, [], Result, MatchResult}
+use Rattle.std.specs.Prelude.{◌≡◌, [], Result, MatchResult}
 use Rattle.pp_tree.specs.Shown.{decl_of, import_of, unit_of}
 use Rattle.pp_grammar.specs.Frames as plain
 use Rattle.pp_parse_state.specs.declared.fault.Stop.{Stop}
 use Rattle.pp_parse_state.specs.declared.fault.Stop.TheVariants.{Memory, Syntax, Unsupported}
-use Rattle.pp_parse_state.specs.Shown.{mode_of, placed_of, stacked}
+use Rattle.pp_parse_state.specs.Shown.{Shown, mode_of, placed_of, stacked, under_mode}
 use Rattle.pp_parse_items.specs.declared.place.ItemMode.{ItemMode}
 use Rattle.pp_parse_items.specs.declared.place.ItemMode.TheVariants as item
 use Rattle.pp_parse_items.specs.declared.place.Parsed.{Parsed}
@@ -38,10 +38,10 @@ parsed_of d = record {
   decls = stacked (λ x. decl_of x.tree) d.decls.items [];
 }
 
--- the state, with what is parsed and the frames
-abbrev pub state_of : plain.Parsed → List plain.Frame → Place → plain.State
+-- the state, with what is parsed and what lies on the stack
+abbrev pub state_of : plain.Parsed → Shown → Place → plain.State
 state_of d s (Between inside m) = plain.between d inside (item_mode_of m)
-state_of d s (Within inside m) = plain.within d inside s (mode_of m)
+state_of d s (Within inside m) = plain.within d inside (under_mode m s) (mode_of m s.parts)
 state_of d s (Done u) = plain.done (unit_of u.tree)
 
 -- where memory lasts, the automaton fails so
@@ -51,5 +51,5 @@ Fails (Syntax at) st = st ≡ plain.failed (plain.syntax_at at)
 Fails (Unsupported w at) st = st ≡ plain.failed (plain.unsupported_at w.now at)
 
 -- where memory lasts, the answer is the state of the automaton
-abbrev pub Steps : Result Place Stop → plain.Parsed → List plain.Frame → plain.State → Type 0
+abbrev pub Steps : Result Place Stop → plain.Parsed → Shown → plain.State → Type 0
 Steps r d s st = MatchResult r (λ p. st ≡ state_of d s p) (λ e. Fails e st)

@@ -6,7 +6,7 @@ ghost use Rattle.pp_grammar.specs.Words.{is_trait_word};
 ghost use Rattle.pp_grammar.specs.Frames.{Frame as plain_frame, Parsed as plain_parsed};
 ghost use Rattle.pp_grammar.specs.StepItems.{on_after_at, on_after_case, on_annotation, on_class_word};
 ghost use Rattle.pp_grammar.specs.StepItems.{on_declaration, on_def, on_item, on_modifiers, on_start};
-ghost use Rattle.pp_parse_state.specs.Shown.{frames};
+ghost use Rattle.pp_parse_state.specs.Shown.{Shown, shown};
 ghost use Rattle.pp_parse_items.specs.Shown.{Steps, parsed_of};
 
 use crate::items::{on_object_closed, on_object_word, on_unit_end};
@@ -35,7 +35,7 @@ fn on_class_word<'a>(
     case: bool,
 ) -> Result<Place<'a>, Stop<'a>>
     requires { IsSpan cx.now.text.now cx.now.token }
-    ensures { (d : plain_parsed) → Steps result d (frames stack.new) (on_class_word cx.now.text.now cx.now.token d
+    ensures { (d : plain_parsed) → Steps result d (shown stack.new) (on_class_word cx.now.text.now cx.now.token d
         inside (record { sealed = sealed; case = case }) (is_trait_word cx.now.token.kind)) }
 {
     match trait_word(cx.token.kind) {
@@ -61,7 +61,7 @@ pub fn on_modifiers<'a>(
     case: bool,
 ) -> Result<Place<'a>, Stop<'a>>
     requires { IsSpan cx.now.text.now cx.now.token }
-    ensures { (d : plain_parsed) → Steps result d (frames stack.new) (on_modifiers cx.now.text.now cx.now.token d
+    ensures { (d : plain_parsed) → Steps result d (shown stack.new) (on_modifiers cx.now.text.now cx.now.token d
         inside (record { sealed = sealed; case = case }) cx.now.token.kind) }
 {
     match cx.token.kind {
@@ -87,7 +87,7 @@ fn on_def<'a>(
     inside: bool,
 ) -> Result<Place<'a>, Stop<'a>>
     requires { IsSpan cx.now.text.now cx.now.token }
-    ensures { (d : plain_parsed) → Steps result d (frames stack.new) (on_def cx.now.text.now cx.now.token d inside) }
+    ensures { (d : plain_parsed) → Steps result d (shown stack.new) (on_def cx.now.text.now cx.now.token d inside) }
 {
     if !inside {
         return Err(cx.refuse());
@@ -103,7 +103,7 @@ pub fn on_declaration<'a>(
     inside: bool,
 ) -> Result<Place<'a>, Stop<'a>>
     requires { IsSpan cx.now.text.now cx.now.token }
-    ensures { (d : plain_parsed) → Steps result d (frames stack.new) (on_declaration cx.now.text.now cx.now.token d
+    ensures { (d : plain_parsed) → Steps result d (shown stack.new) (on_declaration cx.now.text.now cx.now.token d
         inside cx.now.token.kind) }
 {
     match cx.token.kind {
@@ -121,7 +121,7 @@ pub fn on_after_case<'a>(
     inside: bool,
 ) -> Result<Place<'a>, Stop<'a>>
     requires { IsSpan cx.now.text.now cx.now.token }
-    ensures { (d : plain_parsed) → Steps result d (frames stack.new) (on_after_case cx.now.text.now cx.now.token d
+    ensures { (d : plain_parsed) → Steps result d (shown stack.new) (on_after_case cx.now.text.now cx.now.token d
         inside cx.now.token.kind) }
 {
     match cx.token.kind {
@@ -136,7 +136,7 @@ pub fn on_after_case<'a>(
 /// Behind `@`.
 pub fn on_after_at<'a>(cx: &Current<'a, '_>, inside: bool) -> Result<Place<'a>, Stop<'a>>
     requires { IsSpan cx.now.text.now cx.now.token }
-    ensures { (d : plain_parsed) (s : List plain_frame) → Steps result d s (on_after_at cx.now.text.now cx.now.token d
+    ensures { (d : plain_parsed) (s : Shown) → Steps result d s (on_after_at cx.now.text.now cx.now.token d
         inside cx.now.token.kind) }
 {
     match cx.token.kind {
@@ -157,7 +157,7 @@ pub fn on_annotation<'a>(
     inside: bool,
 ) -> Result<Place<'a>, Stop<'a>>
     requires { IsSpan cx.now.text.now cx.now.token }
-    ensures { (d : plain_parsed) → Steps result d (frames stack.new) (on_annotation cx.now.text.now cx.now.token d
+    ensures { (d : plain_parsed) → Steps result d (shown stack.new) (on_annotation cx.now.text.now cx.now.token d
         inside cx.now.token.kind) }
 {
     match cx.token.kind {
@@ -174,7 +174,7 @@ pub fn on_item<'a>(
     inside: bool,
 ) -> Result<Place<'a>, Stop<'a>>
     requires { IsSpan cx.now.text.now cx.now.token }
-    ensures { Steps result (parsed_of parsed.new) (frames stack.new) (on_item cx.now.text.now cx.now.token
+    ensures { Steps result (parsed_of parsed.new) (shown stack.new) (on_item cx.now.text.now cx.now.token
         (parsed_of parsed.old) inside cx.now.token.kind) }
 {
     match cx.token.kind {
@@ -198,7 +198,7 @@ pub fn on_start<'a>(
     inside: bool,
 ) -> Result<Place<'a>, Stop<'a>>
     requires { IsSpan cx.now.text.now cx.now.token }
-    ensures { Steps result (parsed_of parsed.new) (frames stack.new) (on_start cx.now.text.now cx.now.token
+    ensures { Steps result (parsed_of parsed.new) (shown stack.new) (on_start cx.now.text.now cx.now.token
         (parsed_of parsed.old) inside cx.now.token.kind) }
 {
     match cx.token.kind {

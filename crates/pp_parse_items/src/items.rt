@@ -8,7 +8,7 @@ ghost use Rattle.pp_grammar.specs.StepItems.{on_chosen, on_import_all, on_object
 ghost use Rattle.pp_grammar.specs.StepItems.{on_object_line, on_object_title, on_object_word, on_other_import};
 ghost use Rattle.pp_grammar.specs.StepItems.{on_package_name, on_path_dot, on_path_end, on_path_name, on_unit_end};
 ghost use Rattle.pp_grammar.specs.StepItems.{on_want_chosen};
-ghost use Rattle.pp_parse_state.specs.Shown.{placed_of};
+ghost use Rattle.pp_parse_state.specs.Shown.{placed_of, Shown};
 ghost use Rattle.pp_parse_items.specs.Shown.{Steps, parsed_of};
 
 use crate::place::{ItemMode, Parsed, Place};
@@ -19,7 +19,7 @@ use pp_tokens::{Bracket, TokenKind};
 /// A brace closes an object.
 pub fn on_object_closed<'a>(cx: &Current<'a, '_>, inside: bool) -> Result<Place<'a>, Stop<'a>>
     requires { IsSpan cx.now.text.now cx.now.token }
-    ensures { (d : plain_parsed) (s : List plain_frame) → Steps result d s
+    ensures { (d : plain_parsed) (s : Shown) → Steps result d s
         (on_object_closed cx.now.text.now cx.now.token d inside) }
 {
     if !inside {
@@ -35,7 +35,7 @@ pub fn on_unit_end<'a>(
     inside: bool,
 ) -> Result<Place<'a>, Stop<'a>>
     requires { IsSpan cx.now.text.now cx.now.token }
-    ensures { (s : List plain_frame) → Steps result (parsed_of parsed.new) s (on_unit_end cx.now.text.now cx.now.token
+    ensures { (s : Shown) → Steps result (parsed_of parsed.new) s (on_unit_end cx.now.text.now cx.now.token
         (parsed_of parsed.old) inside) }
 {
     if inside {
@@ -51,7 +51,7 @@ pub fn on_after_item<'a>(
     inside: bool,
 ) -> Result<Place<'a>, Stop<'a>>
     requires { IsSpan cx.now.text.now cx.now.token }
-    ensures { (s : List plain_frame) → Steps result (parsed_of parsed.new) s (on_after_item cx.now.text.now
+    ensures { (s : Shown) → Steps result (parsed_of parsed.new) s (on_after_item cx.now.text.now
         cx.now.token (parsed_of parsed.old) inside cx.now.token.kind) }
 {
     match cx.token.kind {
@@ -73,7 +73,7 @@ fn on_other_import<'a>(
     library: bool,
 ) -> Result<Place<'a>, Stop<'a>>
     requires { IsSpan cx.now.text.now cx.now.token }
-    ensures { (d : plain_parsed) (s : List plain_frame) → Steps result d s (on_other_import cx.now.text.now
+    ensures { (d : plain_parsed) (s : Shown) → Steps result d s (on_other_import cx.now.text.now
         cx.now.token d inside (placed_of first.entry) library) }
 {
     if !library {
@@ -91,7 +91,7 @@ fn on_path_end<'a>(
     library: bool,
 ) -> Result<Place<'a>, Stop<'a>>
     requires { IsSpan cx.now.text.now cx.now.token }
-    ensures { (s : List plain_frame) → Steps result (parsed_of parsed.new) s (on_path_end cx.now.text.now cx.now.token
+    ensures { (s : Shown) → Steps result (parsed_of parsed.new) s (on_path_end cx.now.text.now cx.now.token
         (parsed_of parsed.old) inside (placed_of first.entry) library cx.now.token.kind) }
 {
     if !library {
@@ -109,7 +109,7 @@ fn on_object_import<'a>(
     library: bool,
 ) -> Result<Place<'a>, Stop<'a>>
     requires { IsSpan cx.now.text.now cx.now.token }
-    ensures { (s : List plain_frame) → Steps result (parsed_of parsed.new) s (on_object_import cx.now.text.now
+    ensures { (s : Shown) → Steps result (parsed_of parsed.new) s (on_object_import cx.now.text.now
         cx.now.token (parsed_of parsed.old) inside (placed_of first.entry) library) }
 {
     if !library {
@@ -127,7 +127,7 @@ fn on_import_all<'a>(
     one: bool,
 ) -> Result<Place<'a>, Stop<'a>>
     requires { IsSpan cx.now.text.now cx.now.token }
-    ensures { (s : List plain_frame) → Steps result (parsed_of parsed.new) s (on_import_all cx.now.text.now
+    ensures { (s : Shown) → Steps result (parsed_of parsed.new) s (on_import_all cx.now.text.now
         cx.now.token (parsed_of parsed.old) inside (placed_of first.entry) one) }
 {
     let library = is_library(first.word);
@@ -140,7 +140,7 @@ fn on_import_all<'a>(
 /// Behind `import`.
 pub fn on_after_import<'a>(cx: &Current<'a, '_>, inside: bool) -> Result<Place<'a>, Stop<'a>>
     requires { IsSpan cx.now.text.now cx.now.token }
-    ensures { (d : plain_parsed) (s : List plain_frame) → Steps result d s (on_after_import cx.now.text.now
+    ensures { (d : plain_parsed) (s : Shown) → Steps result d s (on_after_import cx.now.text.now
         cx.now.token d inside cx.now.token.kind) }
 {
     match cx.token.kind {
@@ -164,7 +164,7 @@ pub fn on_path_name<'a>(
     one: bool,
 ) -> Result<Place<'a>, Stop<'a>>
     requires { IsSpan cx.now.text.now cx.now.token }
-    ensures { (s : List plain_frame) → Steps result (parsed_of parsed.new) s (on_path_name cx.now.text.now
+    ensures { (s : Shown) → Steps result (parsed_of parsed.new) s (on_path_name cx.now.text.now
         cx.now.token (parsed_of parsed.old) inside (placed_of first.entry) one cx.now.token.kind) }
 {
     match cx.token.kind {
@@ -185,7 +185,7 @@ pub fn on_path_dot<'a>(
     one: bool,
 ) -> Result<Place<'a>, Stop<'a>>
     requires { IsSpan cx.now.text.now cx.now.token }
-    ensures { (s : List plain_frame) → Steps result (parsed_of parsed.new) s (on_path_dot cx.now.text.now cx.now.token
+    ensures { (s : Shown) → Steps result (parsed_of parsed.new) s (on_path_dot cx.now.text.now cx.now.token
         (parsed_of parsed.old) inside (placed_of first.entry) one cx.now.token.kind) }
 {
     match cx.token.kind {
@@ -206,7 +206,7 @@ pub fn on_want_chosen<'a>(
     first: Placed<'a>,
 ) -> Result<Place<'a>, Stop<'a>>
     requires { IsSpan cx.now.text.now cx.now.token }
-    ensures { (d : plain_parsed) (s : List plain_frame) → Steps result d s (on_want_chosen cx.now.text.now
+    ensures { (d : plain_parsed) (s : Shown) → Steps result d s (on_want_chosen cx.now.text.now
         cx.now.token d inside (placed_of first.entry) cx.now.token.kind) }
 {
     match cx.token.kind {
@@ -222,7 +222,7 @@ pub fn on_chosen<'a>(
     first: Placed<'a>,
 ) -> Result<Place<'a>, Stop<'a>>
     requires { IsSpan cx.now.text.now cx.now.token }
-    ensures { (d : plain_parsed) (s : List plain_frame) → Steps result d s (on_chosen cx.now.text.now cx.now.token d
+    ensures { (d : plain_parsed) (s : Shown) → Steps result d s (on_chosen cx.now.text.now cx.now.token d
         inside (placed_of first.entry) cx.now.token.kind) }
 {
     match cx.token.kind {
@@ -237,7 +237,7 @@ pub fn on_chosen<'a>(
 /// Behind `package`.
 pub fn on_after_package<'a>(cx: &Current<'a, '_>, inside: bool) -> Result<Place<'a>, Stop<'a>>
     requires { IsSpan cx.now.text.now cx.now.token }
-    ensures { (d : plain_parsed) (s : List plain_frame) → Steps result d s (on_after_package cx.now.text.now
+    ensures { (d : plain_parsed) (s : Shown) → Steps result d s (on_after_package cx.now.text.now
         cx.now.token d inside cx.now.token.kind) }
 {
     match cx.token.kind {
@@ -249,7 +249,7 @@ pub fn on_after_package<'a>(cx: &Current<'a, '_>, inside: bool) -> Result<Place<
 /// Behind a name of a package's path.
 pub fn on_package_name<'a>(cx: &Current<'a, '_>, inside: bool) -> Result<Place<'a>, Stop<'a>>
     requires { IsSpan cx.now.text.now cx.now.token }
-    ensures { (d : plain_parsed) (s : List plain_frame) → Steps result d s (on_package_name cx.now.text.now
+    ensures { (d : plain_parsed) (s : Shown) → Steps result d s (on_package_name cx.now.text.now
         cx.now.token d inside cx.now.token.kind) }
 {
     match cx.token.kind {
@@ -269,7 +269,7 @@ pub fn on_after_object<'a>(
     inside: bool,
 ) -> Result<Place<'a>, Stop<'a>>
     requires { IsSpan cx.now.text.now cx.now.token }
-    ensures { (s : List plain_frame) → Steps result (parsed_of parsed.new) s (on_after_object cx.now.text.now
+    ensures { (s : Shown) → Steps result (parsed_of parsed.new) s (on_after_object cx.now.text.now
         cx.now.token (parsed_of parsed.old) inside cx.now.token.kind) }
 {
     match cx.token.kind {
@@ -284,7 +284,7 @@ pub fn on_after_object<'a>(
 /// The brace of an object is wanted.
 pub fn on_object_line<'a>(cx: &Current<'a, '_>) -> Result<Place<'a>, Stop<'a>>
     requires { IsSpan cx.now.text.now cx.now.token }
-    ensures { (d : plain_parsed) (s : List plain_frame) → Steps result d s (on_object_line cx.now.text.now
+    ensures { (d : plain_parsed) (s : Shown) → Steps result d s (on_object_line cx.now.text.now
         cx.now.token d cx.now.token.kind) }
 {
     match cx.token.kind {
@@ -296,7 +296,7 @@ pub fn on_object_line<'a>(cx: &Current<'a, '_>) -> Result<Place<'a>, Stop<'a>>
 /// Behind the name of an object.
 pub fn on_object_title<'a>(cx: &Current<'a, '_>) -> Result<Place<'a>, Stop<'a>>
     requires { IsSpan cx.now.text.now cx.now.token }
-    ensures { (d : plain_parsed) (s : List plain_frame) → Steps result d s (on_object_title cx.now.text.now
+    ensures { (d : plain_parsed) (s : Shown) → Steps result d s (on_object_title cx.now.text.now
         cx.now.token d cx.now.token.kind) }
 {
     match cx.token.kind {
@@ -308,7 +308,7 @@ pub fn on_object_title<'a>(cx: &Current<'a, '_>) -> Result<Place<'a>, Stop<'a>>
 /// `object`: objects stand outside of objects alone.
 pub fn on_object_word<'a>(cx: &Current<'a, '_>, inside: bool) -> Result<Place<'a>, Stop<'a>>
     requires { IsSpan cx.now.text.now cx.now.token }
-    ensures { (d : plain_parsed) (s : List plain_frame) → Steps result d s
+    ensures { (d : plain_parsed) (s : Shown) → Steps result d s
         (on_object_word cx.now.text.now cx.now.token d inside) }
 {
     if inside {

@@ -40,7 +40,7 @@ pub struct Parsed<'a> {
 #[derive(Drop)]
 pub enum Place<'a> {
     Between(bool, ItemMode<'a>),
-    Within(bool, Mode<'a>),
+    Within(bool, Mode),
     Done(Checked<Unit<'a>>),
 }
 

@@ -1,19 +1,19 @@
 //! The steps in patterns.
 
-ghost use Rattle.std.specs.Prelude.{◌≡◌, List, [], ◌∷◌, IfOk, None, option_map};
+ghost use Rattle.std.specs.Prelude.{◌≡◌, [], ◌∷◌, IfOk, None, option_map};
 ghost use Rattle.pp_tokens.specs.Spans.{IsSpan};
 ghost use Rattle.pp_tree.specs.Plain.{any as plain_any, bool_pattern as plain_bool};
 ghost use Rattle.pp_tree.specs.Shown.{pattern_of};
-ghost use Rattle.pp_grammar.specs.Frames.{Frame as plain_frame, go, have_pattern};
+ghost use Rattle.pp_grammar.specs.Frames.{go, have_pattern, pattern_args};
 ghost use Rattle.pp_grammar.specs.Patterns.{named_at};
 ghost use Rattle.pp_grammar.specs.StepTypes.{on_int_pattern, on_want_pattern, on_pattern_minus, on_pattern_arg};
 ghost use Rattle.pp_grammar.specs.StepTypes.{on_pattern_round, on_case_pattern, on_named_pattern, on_naming};
 ghost use Rattle.pp_grammar.specs.StepTypes.{on_have_pattern, on_pattern_at, on_pattern_name, on_pattern_args_open};
 ghost use Rattle.pp_grammar.specs.StepTypes.{pattern_of_name, pattern_place};
-ghost use Rattle.pp_parse_state.specs.Shown.{frame_of, frames, stacked, Moves};
+ghost use Rattle.pp_parse_state.specs.Shown.{frames, frames_above, stacked, Moves};
 
 use pp_parse_frames::lists::with_pattern;
-use pp_parse_frames::opening::{open, refuse_above};
+use pp_parse_frames::opening::{behind_name, behind_pattern, open};
 use pp_parse_state::numbers::{is_signed, negated_of, negative_of, number_of};
 use pp_parse_state::words::binds;
 use pp_parse_state::{Current, Frame, Mode, Move, NoMemory, Stack, Stop, keep};
@@ -71,62 +71,72 @@ fn pattern_of_name<'a>(
 /// An integer pattern, if the token is a number that may stand there.
 fn on_int_pattern<'a>(
     cx: &Current<'a, '_>,
+    stack: &mut Stack<'a>,
     at: u32,
     value: Option<i32>,
-) -> Result<Move<'a>, Stop<'a>>
+) -> Result<Move, Stop<'a>>
     requires { IsSpan cx.now.text.now cx.now.token }
-    ensures { (s : List plain_frame) → Moves result s (on_int_pattern cx.now.text.now cx.now.token s at value) }
+    ensures { Moves result stack.new (on_int_pattern cx.now.text.now cx.now.token (frames stack.old) at value) }
 {
     match value {
-        Some(n) => Ok(Move::Go(Mode::HavePattern(keep(cx.arena, int_pattern(at, None, n))?))),
+        Some(n) => {
+            let pattern = keep(cx.arena, int_pattern(at, None, n))?;
+            behind_pattern(stack, pattern, Mode::HavePattern)
+        }
         None => Err(cx.refuse()),
     }
 }
 
 /// A truth value as a pattern.
-fn on_bool_pattern<'a>(cx: &Current<'a, '_>, value: bool) -> Result<Move<'a>, Stop<'a>>
-    ensures { (s : List plain_frame) → Moves result s (go s (have_pattern (plain_bool cx.now.token.from None
+fn on_bool_pattern<'a>(
+    cx: &Current<'a, '_>,
+    stack: &mut Stack<'a>,
+    value: bool,
+) -> Result<Move, Stop<'a>>
+    ensures { Moves result stack.new (go (frames stack.old) (have_pattern (plain_bool cx.now.token.from None
         value))) }
 {
     let pattern = keep(cx.arena, bool_pattern(cx.token.from, None, value))?;
-    Ok(Move::Go(Mode::HavePattern(pattern)))
+    behind_pattern(stack, pattern, Mode::HavePattern)
 }
 
 /// `_` as a pattern.
-fn on_any_pattern<'a>(cx: &Current<'a, '_>) -> Result<Move<'a>, Stop<'a>>
-    ensures { (s : List plain_frame) → Moves result s (go s (have_pattern (plain_any cx.now.token.from None))) }
+fn on_any_pattern<'a>(cx: &Current<'a, '_>, stack: &mut Stack<'a>) -> Result<Move, Stop<'a>>
+    ensures { Moves result stack.new (go (frames stack.old) (have_pattern (plain_any cx.now.token.from None))) }
 {
     let pattern = keep(cx.arena, any(cx.token.from, None))?;
-    Ok(Move::Go(Mode::HavePattern(pattern)))
+    behind_pattern(stack, pattern, Mode::HavePattern)
 }
 
 /// A pattern is wanted.
-pub fn on_want_pattern<'a>(
-    cx: &Current<'a, '_>,
-    stack: &mut Stack<'a>,
-) -> Result<Move<'a>, Stop<'a>>
+pub fn on_want_pattern<'a>(cx: &Current<'a, '_>, stack: &mut Stack<'a>) -> Result<Move, Stop<'a>>
     requires { IsSpan cx.now.text.now cx.now.token }
-    ensures { Moves result (frames stack.new) (on_want_pattern cx.now.text.now cx.now.token (frames stack.old)
+    ensures { Moves result stack.new (on_want_pattern cx.now.text.now cx.now.token (frames stack.old)
         cx.now.token.kind) }
 {
     let from = cx.token.from;
     match cx.token.kind {
-        TokenKind::Name => Ok(Move::Go(Mode::AfterPatternName(from, cx.word()?))),
-        TokenKind::Hole => on_any_pattern(cx),
-        TokenKind::Number(_) => on_int_pattern(cx, from, number_of(cx.token.kind)),
-        TokenKind::Hex(_) => on_int_pattern(cx, from, number_of(cx.token.kind)),
+        TokenKind::Name => behind_name(stack, cx.word()?, Mode::AfterPatternName(from)),
+        TokenKind::Hole => on_any_pattern(cx, stack),
+        TokenKind::Number(_) => on_int_pattern(cx, stack, from, number_of(cx.token.kind)),
+        TokenKind::Hex(_) => on_int_pattern(cx, stack, from, number_of(cx.token.kind)),
         TokenKind::Op(Operator::Minus) => Ok(Move::Go(Mode::AfterPatternMinus(from, cx.token.to))),
-        TokenKind::Word(Reserved::True) => on_bool_pattern(cx, true),
-        TokenKind::Word(Reserved::False) => on_bool_pattern(cx, false),
+        TokenKind::Word(Reserved::True) => on_bool_pattern(cx, stack, true),
+        TokenKind::Word(Reserved::False) => on_bool_pattern(cx, stack, false),
         TokenKind::Mark(Bracket::OpenRound) => open(stack, Frame::PatternRound, Mode::WantPattern),
         _ => Err(cx.refuse()),
     }
 }
 
 /// Behind a minus sign that ends at the offset.
-pub fn on_pattern_minus<'a>(cx: &Current<'a, '_>, at: u32, end: u32) -> Result<Move<'a>, Stop<'a>>
+pub fn on_pattern_minus<'a>(
+    cx: &Current<'a, '_>,
+    stack: &mut Stack<'a>,
+    at: u32,
+    end: u32,
+) -> Result<Move, Stop<'a>>
     requires { IsSpan cx.now.text.now cx.now.token }
-    ensures { (s : List plain_frame) → Moves result s (on_pattern_minus cx.now.text.now cx.now.token s at end
+    ensures { Moves result stack.new (on_pattern_minus cx.now.text.now cx.now.token (frames stack.old) at end
         cx.now.token.kind) }
 {
     let value = if is_signed(end, cx.token) {
@@ -134,7 +144,7 @@ pub fn on_pattern_minus<'a>(cx: &Current<'a, '_>, at: u32, end: u32) -> Result<M
     } else {
         negated_of(cx.token.kind)
     };
-    on_int_pattern(cx, at, value)
+    on_int_pattern(cx, stack, at, value)
 }
 
 /// Behind an argument of a constructor.
@@ -145,22 +155,22 @@ fn on_pattern_arg<'a>(
     name: &'a str,
     fields: Vec<Built<Pattern<'a>>>,
     field: &'a Built<Pattern<'a>>,
-) -> Result<Move<'a>, Stop<'a>>
+) -> Result<Move, Stop<'a>>
     requires { IsSpan cx.now.text.now cx.now.token }
-    ensures { Moves result (frames stack.new) (on_pattern_arg cx.now.text.now cx.now.token (frames stack.old) at
+    ensures { Moves result stack.new (on_pattern_arg cx.now.text.now cx.now.token (frames stack.old) at
         name.now (stacked (λ p. pattern_of p.tree) fields.entry.items []) (pattern_of field.now.tree)
         cx.now.token.kind) }
 {
     let fields = with_pattern(fields, field)?;
     match cx.token.kind {
-        TokenKind::Mark(Bracket::Comma) => open(
-            stack,
-            Frame::PatternArgs(at, name, fields),
-            Mode::WantPattern,
-        ),
+        TokenKind::Mark(Bracket::Comma) => {
+            stack.put_name(name)?;
+            stack.put_pattern_list(fields)?;
+            open(stack, Frame::PatternArgs(at), Mode::WantPattern)
+        }
         TokenKind::Mark(Bracket::CloseRound) => {
             let pattern = ctor_pattern(cx.arena, at, None, name, &fields)?;
-            Ok(Move::Go(Mode::HavePattern(keep(cx.arena, pattern)?)))
+            behind_pattern(stack, keep(cx.arena, pattern)?, Mode::HavePattern)
         }
         _ => Err(cx.refuse()),
     }
@@ -169,14 +179,15 @@ fn on_pattern_arg<'a>(
 /// Behind a pattern in round brackets.
 fn on_pattern_round<'a>(
     cx: &Current<'a, '_>,
+    stack: &mut Stack<'a>,
     pattern: &'a Built<Pattern<'a>>,
-) -> Result<Move<'a>, Stop<'a>>
+) -> Result<Move, Stop<'a>>
     requires { IsSpan cx.now.text.now cx.now.token }
-    ensures { (s : List plain_frame) → Moves result s (on_pattern_round cx.now.text.now cx.now.token s
+    ensures { Moves result stack.new (on_pattern_round cx.now.text.now cx.now.token (frames stack.old)
         (pattern_of pattern.now.tree) cx.now.token.kind) }
 {
     match cx.token.kind {
-        TokenKind::Mark(Bracket::CloseRound) => Ok(Move::Go(Mode::HavePattern(pattern))),
+        TokenKind::Mark(Bracket::CloseRound) => behind_pattern(stack, pattern, Mode::HavePattern),
         _ => Err(cx.refuse()),
     }
 }
@@ -186,14 +197,21 @@ fn on_case_pattern<'a>(
     cx: &Current<'a, '_>,
     stack: &mut Stack<'a>,
     pattern: &'a Built<Pattern<'a>>,
-) -> Result<Move<'a>, Stop<'a>>
+) -> Result<Move, Stop<'a>>
     requires { IsSpan cx.now.text.now cx.now.token }
-    ensures { Moves result (frames stack.new) (on_case_pattern cx.now.text.now cx.now.token (frames stack.old)
+    ensures { Moves result stack.new (on_case_pattern cx.now.text.now cx.now.token (frames stack.old)
         (pattern_of pattern.now.tree) cx.now.token.kind) }
 {
     match cx.token.kind {
-        TokenKind::Word(Reserved::If) => open(stack, Frame::Guarding(pattern), Mode::Want),
-        TokenKind::Op(Operator::Arrow) => open(stack, Frame::Arm(pattern, None), Mode::WantStat),
+        TokenKind::Word(Reserved::If) => {
+            stack.put_pattern(pattern)?;
+            open(stack, Frame::Guarding, Mode::Want)
+        }
+        TokenKind::Op(Operator::Arrow) => {
+            stack.put_pattern(pattern)?;
+            stack.put_guard(None)?;
+            open(stack, Frame::Arm, Mode::WantStat)
+        }
         _ => Err(cx.refuse()),
     }
 }
@@ -203,9 +221,9 @@ fn on_named_pattern<'a>(
     cx: &Current<'a, '_>,
     stack: &mut Stack<'a>,
     pattern: &'a Built<Pattern<'a>>,
-) -> Result<Move<'a>, Stop<'a>>
+) -> Result<Move, Stop<'a>>
     requires { IsSpan cx.now.text.now cx.now.token }
-    ensures { Moves result (frames stack.new) (on_named_pattern cx.now.text.now cx.now.token (frames stack.old)
+    ensures { Moves result stack.new (on_named_pattern cx.now.text.now cx.now.token (frames stack.old)
         (pattern_of pattern.now.tree) cx.now.token.kind) }
 {
     match stack.pop() {
@@ -218,23 +236,25 @@ fn on_named_pattern<'a>(
 fn on_named_above<'a>(
     cx: &Current<'a, '_>,
     stack: &mut Stack<'a>,
-    frame: Frame<'a>,
+    frame: Frame,
     pattern: &'a Built<Pattern<'a>>,
-) -> Result<Move<'a>, Stop<'a>>
+) -> Result<Move, Stop<'a>>
     requires { IsSpan cx.now.text.now cx.now.token }
-    ensures { Moves result (frames stack.new) (on_named_pattern cx.now.text.now cx.now.token
-        (frame_of frame.entry ∷ frames stack.old) (pattern_of pattern.now.tree) cx.now.token.kind) }
+    ensures { Moves result stack.new (on_named_pattern cx.now.text.now cx.now.token
+        (frames_above frame stack.old) (pattern_of pattern.now.tree) cx.now.token.kind) }
 {
     match frame {
-        Frame::PatternRound => on_pattern_round(cx, pattern),
-        Frame::PatternArgs(at, name, fields) => {
+        Frame::PatternRound => on_pattern_round(cx, stack, pattern),
+        Frame::PatternArgs(at) => {
+            let name = stack.take_name()?;
+            let fields = stack.take_pattern_list()?;
             on_pattern_arg(cx, stack, at, name, fields, pattern)
         }
-        Frame::CasesOf(at, matched, cases) => {
-            stack.push(Frame::CasesOf(at, matched, cases))?;
+        Frame::CasesOf(at) => {
+            stack.push(Frame::CasesOf(at))?;
             on_case_pattern(cx, stack, pattern)
         }
-        other => Err(refuse_above(cx, other)),
+        _ => Err(cx.refuse()),
     }
 }
 
@@ -244,9 +264,9 @@ fn on_naming<'a>(
     stack: &mut Stack<'a>,
     named: Option<&'a Built<Pattern<'a>>>,
     pattern: &'a Built<Pattern<'a>>,
-) -> Result<Move<'a>, Stop<'a>>
+) -> Result<Move, Stop<'a>>
     requires { IsSpan cx.now.text.now cx.now.token }
-    ensures { Moves result (frames stack.new) (on_naming cx.now.text.now cx.now.token (frames stack.old)
+    ensures { Moves result stack.new (on_naming cx.now.text.now cx.now.token (frames stack.old)
         (option_map (λ p. pattern_of p.now.tree) named.entry) (pattern_of pattern.now.tree) cx.now.token.kind) }
 {
     match named {
@@ -260,16 +280,17 @@ pub fn on_have_pattern<'a>(
     cx: &Current<'a, '_>,
     stack: &mut Stack<'a>,
     pattern: &'a Built<Pattern<'a>>,
-) -> Result<Move<'a>, Stop<'a>>
+) -> Result<Move, Stop<'a>>
     requires { IsSpan cx.now.text.now cx.now.token }
-    ensures { Moves result (frames stack.new) (on_have_pattern cx.now.text.now cx.now.token (frames stack.old)
+    ensures { Moves result stack.new (on_have_pattern cx.now.text.now cx.now.token (frames stack.old)
         (pattern_of pattern.now.tree) cx.now.token.kind) }
 {
     let Some(frame) = stack.pop() else {
         return Err(cx.refuse());
     };
     match frame {
-        Frame::Naming(at, name) => {
+        Frame::Naming(at) => {
+            let name = stack.take_name()?;
             let named = named_at(cx, at, name, pattern)?;
             on_naming(cx, stack, named, pattern)
         },
@@ -283,19 +304,21 @@ fn on_pattern_at<'a>(
     stack: &mut Stack<'a>,
     at: u32,
     name: &'a str,
-) -> Result<Move<'a>, Stop<'a>>
+) -> Result<Move, Stop<'a>>
     requires { IsSpan cx.now.text.now cx.now.token }
-    ensures { Moves result (frames stack.new) (on_pattern_at cx.now.text.now cx.now.token (frames stack.old) at
+    ensures { Moves result stack.new (on_pattern_at cx.now.text.now cx.now.token (frames stack.old) at
         name.now) }
 {
     let Some(frame) = stack.pop() else {
-        return open(stack, Frame::Naming(at, name), Mode::WantPattern);
+        stack.put_name(name)?;
+        return open(stack, Frame::Naming(at), Mode::WantPattern);
     };
     match frame {
-        Frame::Naming(_, _) => Err(cx.refuse()),
+        Frame::Naming(_) => Err(cx.refuse()),
         other => {
             stack.push(other)?;
-            open(stack, Frame::Naming(at, name), Mode::WantPattern)
+            stack.put_name(name)?;
+            open(stack, Frame::Naming(at), Mode::WantPattern)
         }
     }
 }
@@ -306,13 +329,13 @@ pub fn on_pattern_name<'a>(
     stack: &mut Stack<'a>,
     at: u32,
     name: &'a str,
-) -> Result<Move<'a>, Stop<'a>>
+) -> Result<Move, Stop<'a>>
     requires { IsSpan cx.now.text.now cx.now.token }
-    ensures { Moves result (frames stack.new) (on_pattern_name cx.now.text.now cx.now.token (frames stack.old) at
+    ensures { Moves result stack.new (on_pattern_name cx.now.text.now cx.now.token (frames stack.old) at
         name.now cx.now.token.kind) }
 {
     match cx.token.kind {
-        TokenKind::Mark(Bracket::OpenRound) => Ok(Move::Go(Mode::PatternArgsOpen(at, name))),
+        TokenKind::Mark(Bracket::OpenRound) => behind_name(stack, name, Mode::PatternArgsOpen(at)),
         TokenKind::Op(Operator::At) => on_pattern_at(cx, stack, at, name),
         _ => {
             let pattern = pattern_of_name(cx, at, name)?;
@@ -321,25 +344,37 @@ pub fn on_pattern_name<'a>(
     }
 }
 
+/// The first argument of a constructor begins.
+fn on_first_arg<'a>(
+    cx: &Current<'a, '_>,
+    stack: &mut Stack<'a>,
+    at: u32,
+    name: &'a str,
+) -> Result<Move, Stop<'a>>
+    requires { IsSpan cx.now.text.now cx.now.token }
+    ensures { Moves result stack.new (on_want_pattern cx.now.text.now cx.now.token
+        (pattern_args at name.now [] ∷ frames stack.old) cx.now.token.kind) }
+{
+    stack.put_name(name)?;
+    stack.put_pattern_list(Vec::new(cx.alloc))?;
+    stack.push(Frame::PatternArgs(at))?;
+    on_want_pattern(cx, stack)
+}
+
 /// Behind `NAME(` in a pattern.
 pub fn on_pattern_args_open<'a>(
     cx: &Current<'a, '_>,
     stack: &mut Stack<'a>,
     at: u32,
     name: &'a str,
-) -> Result<Move<'a>, Stop<'a>>
+) -> Result<Move, Stop<'a>>
     requires { IsSpan cx.now.text.now cx.now.token }
-    ensures { Moves result (frames stack.new) (on_pattern_args_open cx.now.text.now cx.now.token (frames stack.old) at
-        name.now cx.now.token.kind) }
+    ensures { Moves result stack.new (on_pattern_args_open cx.now.text.now cx.now.token (frames stack.old) at name.now
+        cx.now.token.kind) }
 {
-    match cx.token.kind {
-        TokenKind::Mark(Bracket::CloseRound) => {
-            let pattern = ctor_pattern(cx.arena, at, None, name, &[])?;
-            Ok(Move::Go(Mode::HavePattern(keep(cx.arena, pattern)?)))
-        }
-        _ => {
-            stack.push(Frame::PatternArgs(at, name, Vec::new(cx.alloc)))?;
-            on_want_pattern(cx, stack)
-        }
+    if !cx.closes_round() {
+        return on_first_arg(cx, stack, at, name);
     }
+    let pattern = ctor_pattern(cx.arena, at, None, name, &[])?;
+    behind_pattern(stack, keep(cx.arena, pattern)?, Mode::HavePattern)
 }

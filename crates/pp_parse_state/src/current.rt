@@ -1,6 +1,8 @@
 //! The token at which the parser is, and what it works with.
 
-ghost use Rattle.std.specs.Prelude.{◌≡◌, IfOk};
+ghost use Rattle.std.specs.Prelude.{◌≡◌, IfOk, MatchBool};
+ghost use Rattle.pp_tokens.specs.declared.token.Bracket.TheVariants.{CloseRound};
+ghost use Rattle.pp_tokens.specs.declared.token.TokenKind.TheVariants.{Mark};
 ghost use Rattle.pp_tokens.specs.Spans.{IsSpan};
 ghost use Rattle.pp_grammar.specs.Words.{role, word};
 ghost use Rattle.pp_grammar.specs.Frames.{stop, unsupported_at};
@@ -11,7 +13,7 @@ ghost use Rattle.pp_parse_state.specs.Words.{role_of};
 use crate::words::{Role, classify};
 use crate::{NoMemory, Stop};
 use bumpalo::Bump;
-use pp_tokens::{Token, TokenKind};
+use pp_tokens::{Bracket, Token, TokenKind};
 use std::alloc::Global;
 
 /// The token at which the parser is, the text in which it stands, and the arena in which the trees are built.
@@ -46,6 +48,14 @@ impl<'a, 't> Current<'a, 't> {
         ensures { role_of result ≡ role (word self.now.text.now self.now.token) }
     {
         classify(self.text())
+    }
+
+    /// Whether the token is a round bracket that closes.
+    pub fn closes_round(&self) -> bool
+        ensures { MatchBool result (self.now.token.kind ≡ Mark CloseRound)
+            (¬ (self.now.token.kind ≡ Mark CloseRound)) }
+    {
+        matches!(self.token.kind, TokenKind::Mark(Bracket::CloseRound))
     }
 
     /// The language leaves out the token, which is a name.

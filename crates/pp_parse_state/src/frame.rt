@@ -1,6 +1,6 @@
-//! The frames: what is open around what is read next. Lists have the last at their end.
+//! The frames: what is open around what is read next. Their parts lie on the stack; lists have the last at their end.
 
-use pp_tree::{BinaryOp, Built, Case, Expr, Param, Pattern, TypeText, UnaryOp};
+use pp_tree::{BinaryOp, Built, Expr, Param, UnaryOp};
 use std::alloc::Global;
 
 /// A word and where it stands.
@@ -48,46 +48,46 @@ pub enum Around {
     Braces,
 }
 
-/// What is open. Each stands for the frame of `pp_grammar` that has its name.
-#[derive(Drop)]
-pub enum Frame<'a> {
-    Header(Kind, Head<'a>),
-    ParamType(u32, &'a str),
+/// What is open. Each stands for the frame of `pp_grammar` that has its name, whose parts lie on the stack.
+#[derive(Clone, Copy)]
+pub enum Frame {
+    Header(Kind),
+    ParamType(u32),
     ResultType,
     ParentType,
-    ObjectParent(u32, &'a str),
-    BodyOf(Head<'a>, &'a Built<TypeText<'a>>, Contracts<'a>),
-    HeadBraces(Contracts<'a>),
+    ObjectParent(u32),
+    BodyOf,
+    HeadBraces,
     Requiring,
-    Measuring(u32, Vec<Built<Expr<'a>>>),
+    Measuring(u32),
     TupleOrRound,
-    InTuple(Vec<Built<Expr<'a>>>),
-    PostOf(u32, &'a Built<Expr<'a>>, Around),
-    Claiming(&'a str, Option<&'a Built<TypeText<'a>>>),
+    InTuple,
+    PostOf(u32, Around),
+    Claiming,
     ClaimingHole,
-    ResultNameType(&'a str),
-    ResultNameTypeInRound(&'a str),
-    TypeArgs(u32, &'a str, Vec<Built<TypeText<'a>>>),
-    Naming(u32, &'a str),
+    ResultNameType,
+    ResultNameTypeInRound,
+    TypeArgs(u32),
+    Naming(u32),
     PatternRound,
-    PatternArgs(u32, &'a str, Vec<Built<Pattern<'a>>>),
+    PatternArgs(u32),
     Round,
-    NameTypes(u32, &'a str, Vec<Built<TypeText<'a>>>),
-    Args(u32, &'a str, Vec<Built<TypeText<'a>>>, Vec<Built<Expr<'a>>>),
+    NameTypes(u32),
+    Args(u32),
     Prefixing(u32, UnaryOp),
-    Left(u32, BinaryOp, &'a Built<Expr<'a>>, bool),
+    Left(u32, BinaryOp, bool),
     IfTest(u32),
-    IfThen(u32, &'a Built<Expr<'a>>),
-    IfRest(u32, &'a Built<Expr<'a>>, &'a Built<Expr<'a>>),
-    CasesOf(u32, &'a Built<Expr<'a>>, Vec<Built<Case<'a>>>),
-    Guarding(&'a Built<Pattern<'a>>),
-    Arm(&'a Built<Pattern<'a>>, Option<&'a Built<Expr<'a>>>),
+    IfThen(u32),
+    IfRest(u32),
+    CasesOf(u32),
+    Guarding,
+    Arm,
     Braces,
-    ValType(u32, &'a str),
-    ValValue(u32, &'a str, Option<&'a Built<TypeText<'a>>>),
-    AfterVal(u32, &'a str, Option<&'a Built<TypeText<'a>>>, &'a Built<Expr<'a>>),
+    ValType(u32),
+    ValValue(u32),
+    AfterVal(u32),
     Asserting(u32),
-    AfterAssert(u32, &'a Built<Expr<'a>>),
+    AfterAssert(u32),
 }
 
 impl<'a> Contracts<'a> {

@@ -3,8 +3,9 @@
 ghost use Rattle.std.specs.Prelude.{◌≡◌, IfOk};
 ghost use Rattle.pp_tree.specs.Shown.{tree_of};
 ghost use Rattle.pp_grammar.specs.Joining.{unwind, seal};
-ghost use Rattle.pp_parse_state.specs.Joining.{binds, join, operand_of, joined, is_statement, join_statement, sealed};
-ghost use Rattle.pp_parse_state.specs.Shown.{frame_of, frames};
+ghost use Rattle.pp_parse_state.specs.Joining.{binds, is_statement, join, join_statement, joined, left_joined};
+ghost use Rattle.pp_parse_state.specs.Joining.{left_sealed, operand_of, sealed};
+ghost use Rattle.pp_parse_state.specs.Shown.{frames, shown};
 
 use crate::kept::{keep, type_itself};
 use crate::operators::{TIGHTEST, level};
@@ -20,40 +21,52 @@ pub struct Operand<'a> {
 }
 
 /// Whether the frame is an operator before an operand that binds at least as tight as the level.
-pub(crate) fn binds(frame: &Frame, tight: u32) -> bool
-    ensures { result ≡ binds tight (frame_of frame.now) }
+pub(crate) fn binds(frame: Frame, tight: u32) -> bool
+    ensures { result ≡ binds tight frame }
 {
     match frame {
         Frame::Prefixing(_, _) => tight <= TIGHTEST,
-        Frame::Left(_, op, _, _) => tight <= level(*op),
-        Frame::IfRest(_, _, _) => tight == 0,
+        Frame::Left(_, op, _) => tight <= level(op),
+        Frame::IfRest(_) => tight == 0,
         _ => false,
     }
 }
 
-/// The operand with the operator before it.
+/// The operand with the operator before it, whose parts are taken off.
 fn join<'a>(
     arena: &'a Bump,
-    frame: Frame<'a>,
+    stack: &mut Stack<'a>,
+    frame: Frame,
     operand: Operand<'a>,
 ) -> Result<Operand<'a>, NoMemory>
-    ensures { IfOk result (λ o. operand_of o ≡ join (frame_of frame.entry) (operand_of operand.entry)) }
+    ensures operand { IfOk result (λ o. operand_of o ≡ join frame (shown stack.old).parts (operand_of operand.entry)) }
+    ensures rest { IfOk result (λ _. shown stack.new ≡ record (shown stack.old) {
+      parts = left_joined frame (shown stack.old).parts;
+    }) }
 {
-    match frame {
-        Frame::Prefixing(at, op) => Ok(Operand {
+    let joined = match frame {
+        Frame::Prefixing(at, op) => Operand {
             tree: keep(arena, build::unary(arena, at, op, *operand.tree)?)?,
             holed: operand.holed,
-        }),
-        Frame::Left(at, op, left, holed) => Ok(Operand {
-            tree: keep(arena, build::binary(arena, at, op, *left, *operand.tree)?)?,
-            holed: holed || operand.holed,
-        }),
-        Frame::IfRest(at, test, yes) => Ok(Operand {
-            tree: keep(arena, build::choice(arena, at, *test, *yes, *operand.tree)?)?,
-            holed: operand.holed,
-        }),
-        _ => Ok(operand),
-    }
+        },
+        Frame::Left(at, op, holed) => {
+            let left = stack.take_expr()?;
+            Operand {
+                tree: keep(arena, build::binary(arena, at, op, *left, *operand.tree)?)?,
+                holed: holed || operand.holed,
+            }
+        }
+        Frame::IfRest(at) => {
+            let yes = stack.take_expr()?;
+            let test = stack.take_expr()?;
+            Operand {
+                tree: keep(arena, build::choice(arena, at, *test, *yes, *operand.tree)?)?,
+                holed: operand.holed,
+            }
+        }
+        _ => operand,
+    };
+    Ok(joined)
 }
 
 /// The operand joined with all before it that binds at least as tight as the level.
@@ -70,36 +83,44 @@ pub fn unwind<'a>(
     let mut operand = Operand { tree, holed };
     while stack.binds(tight) {
         if let Some(frame) = stack.pop() {
-            operand = join(arena, frame, operand)?;
+            operand = join(arena, stack, frame, operand)?;
         }
     }
     Ok(operand)
 }
 
 /// Whether the frame is a finished statement.
-pub(crate) fn is_statement(frame: &Frame) -> bool
-    ensures { result ≡ is_statement (frame_of frame.now) }
+pub(crate) fn is_statement(frame: Frame) -> bool
+    ensures { result ≡ is_statement frame }
 {
-    matches!(
-        frame,
-        Frame::AfterVal(_, _, _, _) | Frame::AfterAssert(_, _)
-    )
+    matches!(frame, Frame::AfterVal(_) | Frame::AfterAssert(_))
 }
 
-/// The expression with the statement before it.
+/// The expression with the statement before it, whose parts are taken off.
 fn join_statement<'a>(
     arena: &'a Bump,
-    frame: Frame<'a>,
-    rest: Built<Expr<'a>>,
+    stack: &mut Stack<'a>,
+    frame: Frame,
+    last: Built<Expr<'a>>,
 ) -> Result<Built<Expr<'a>>, NoMemory>
-    ensures { IfOk result (λ e. tree_of e.tree ≡ join_statement (frame_of frame.entry) (tree_of rest.entry.tree)) }
+    ensures expression { IfOk result (λ e. tree_of e.tree ≡ join_statement frame (shown stack.old).parts
+        (tree_of last.entry.tree)) }
+    ensures rest { IfOk result (λ _. shown stack.new ≡ record (shown stack.old) {
+      parts = left_sealed frame (shown stack.old).parts;
+    }) }
 {
     match frame {
-        Frame::AfterVal(at, name, of, value) => {
-            build::val_in(arena, at, name, type_itself(of), *value, rest)
+        Frame::AfterVal(at) => {
+            let value = stack.take_expr()?;
+            let of = stack.take_given_type()?;
+            let name = stack.take_name()?;
+            build::val_in(arena, at, name, type_itself(of), *value, last)
         }
-        Frame::AfterAssert(at, claim) => build::assert_in(arena, at, *claim, rest),
-        _ => Ok(rest),
+        Frame::AfterAssert(at) => {
+            let claim = stack.take_expr()?;
+            build::assert_in(arena, at, *claim, last)
+        }
+        _ => Ok(last),
     }
 }
 
@@ -115,7 +136,7 @@ pub fn seal<'a>(
     let mut sealed = *last;
     while stack.ends_statement() {
         if let Some(frame) = stack.pop() {
-            sealed = join_statement(arena, frame, sealed)?;
+            sealed = join_statement(arena, stack, frame, sealed)?;
         }
     }
     keep(arena, sealed)

@@ -1,4 +1,4 @@
-//! Trees that are kept in the arena, so that frames and modes hold a reference and no tree.
+//! Trees that are kept in the arena, so that the stack holds references and no trees.
 
 ghost use Rattle.std.specs.Prelude.{◌≡◌, IfOk, option_map};
 ghost use Rattle.pp_tree.specs.Parts.{claim_parts};

@@ -1,4 +1,5 @@
-//! What the parser keeps: the frames of what is open, the modes, and the words and numbers of single tokens.
+//! What the parser keeps: the frames of what is open, the modes, the parts of both, and the words and numbers of single
+//! tokens. Frames and modes are numbers alone, and their parts lie on the stack, each kind in a list of its own.
 //!
 //! The parser is an automaton that takes one token at a time, whose definition stands in `pp_grammar`. Each value here
 //! stands for one of that definition: `specs/Shown.antt` says which.
@@ -12,6 +13,7 @@ mod kept;
 mod mode;
 pub mod numbers;
 pub mod operators;
+mod parts;
 mod stack;
 pub mod words;
 

@@ -1,61 +1,59 @@
 //! The modes: what was read last.
 
 use crate::Kind;
-use pp_tree::build::Claim;
-use pp_tree::{Built, Checked, Decl, Expr, Pattern, TypeText};
 
-/// What was read last. Each stands for the mode of `pp_grammar` that has its name.
-#[derive(Drop)]
-pub enum Mode<'a> {
+/// What was read last. Each stands for the mode of `pp_grammar` that has its name, whose parts lie on the stack.
+#[derive(Clone, Copy)]
+pub enum Mode {
     Want,
-    Have(&'a Built<Expr<'a>>, bool),
-    AfterName(u32, &'a str),
-    AfterNameTypes(u32, &'a str, Vec<Built<TypeText<'a>>>),
-    ArgsOpen(u32, &'a str, Vec<Built<TypeText<'a>>>),
+    Have(bool),
+    AfterName(u32),
+    AfterNameTypes(u32),
+    ArgsOpen(u32),
     AfterInt(u32),
     AfterIntDot(u32),
     AfterMinus(u32, u32),
-    HaveNegative(&'a Built<Expr<'a>>),
-    AfterNegativeDot(&'a Built<Expr<'a>>),
-    AfterDot(&'a Built<Expr<'a>>, bool),
+    HaveNegative,
+    AfterNegativeDot,
+    AfterDot(bool),
     AfterIf(u32),
     WantThen,
-    WantElse(&'a Built<Expr<'a>>),
-    AfterMatch(u32, &'a Built<Expr<'a>>),
+    WantElse,
+    AfterMatch(u32),
     WantCase,
-    HaveMatched(&'a Built<Expr<'a>>),
-    AfterMatchedDot(&'a Built<Expr<'a>>),
+    HaveMatched,
+    AfterMatchedDot,
     WantPattern,
-    AfterPatternName(u32, &'a str),
+    AfterPatternName(u32),
     AfterPatternMinus(u32, u32),
-    PatternArgsOpen(u32, &'a str),
-    HavePattern(&'a Built<Pattern<'a>>),
+    PatternArgsOpen(u32),
+    HavePattern,
     WantType,
-    AfterTypeName(u32, &'a str),
-    HaveType(&'a Built<TypeText<'a>>),
+    AfterTypeName(u32),
+    HaveType,
     WantStat,
     AfterStat,
-    AfterLast(&'a Built<Expr<'a>>),
+    AfterLast,
     AfterValWord(u32),
-    AfterValName(u32, &'a str),
+    AfterValName(u32),
     AfterAssertWord(u32),
     AfterRequire,
     AfterDecreases(u32),
     MeasureOpen,
-    AfterTuple(Vec<Built<Expr<'a>>>),
+    AfterTuple,
     WantBody,
-    HaveContracted(&'a Built<Expr<'a>>),
-    AfterContractedDot(&'a Built<Expr<'a>>),
-    AfterEnsuring(u32, &'a Built<Expr<'a>>),
+    HaveContracted,
+    AfterContractedDot,
+    AfterEnsuring(u32),
     WantLambdaOrSemi,
     WantLambda,
-    AfterLambdaName(u32, &'a str),
+    AfterLambdaName(u32),
     AfterLambdaRound,
-    AfterLambdaRoundName(u32, &'a str),
-    AfterLambdaClosed(u32, &'a str),
-    AfterLambdaTyped(&'a str, &'a Built<TypeText<'a>>),
-    AfterClaim(&'a str, Option<&'a Built<TypeText<'a>>>, &'a Built<Expr<'a>>),
-    AfterBody(&'a Built<Expr<'a>>, Option<&'a Claim<'a>>),
+    AfterLambdaRoundName(u32),
+    AfterLambdaClosed(u32),
+    AfterLambdaTyped,
+    AfterClaim,
+    AfterBody,
     WantName(Kind),
     AfterHeadName,
     WantTypeParam,
@@ -63,15 +61,16 @@ pub enum Mode<'a> {
     AfterTypeParams,
     ParamsOpen,
     WantParam,
-    AfterParamName(u32, &'a str),
+    AfterParamName(u32),
     AfterParams,
     WantObjectName,
-    AfterObjectName(u32, &'a str),
+    AfterObjectName(u32),
 }
 
-/// What a token does within a declaration: the reading goes on in a mode, or the declaration has ended before it.
-#[derive(Drop)]
-pub enum Move<'a> {
-    Go(Mode<'a>),
-    Ends(&'a Checked<Decl<'a>>),
+/// What a token does within a declaration: the reading goes on in a mode, or the declaration, which lies on the stack,
+/// has ended before it.
+#[derive(Clone, Copy)]
+pub enum Move {
+    Go(Mode),
+    Ends,
 }

@@ -1,20 +1,37 @@
-//! The frames of what is open, the last on top.
+//! The stack: the frames of what is open, the last on top, and the parts of them and of the mode.
 
 ghost use Rattle.std.specs.Prelude.{◌≡◌, List, [], ◌∷◌, IfOk, MatchOption};
 ghost use Rattle.pp_grammar.specs.Frames.{Frame as plain_frame};
 ghost use Rattle.pp_grammar.specs.Joining.{floor, takes_hole};
 ghost use Rattle.pp_parse_state.specs.Joining.{top_binds, top_is_statement, lets_hole, is_claim};
-ghost use Rattle.pp_parse_state.specs.Shown.{frame_of, frames};
+ghost use Rattle.pp_parse_state.specs.Parts.{Parts};
+ghost use Rattle.pp_parse_state.specs.Shown.{frame_of, frames, shown, with_frame};
 
 use crate::joining::{binds, is_statement};
 use crate::operators::{LOOSEST, TIGHTEST, level};
-use crate::{Frame, NoMemory};
+use crate::{Contracts, Frame, Head, NoMemory};
+use pp_tree::build::Claim;
+use pp_tree::{Built, Case, Checked, Decl, Expr, Pattern, TypeText};
 use std::alloc::Global;
 
-/// What is open, the last on top.
+/// What is open, and the parts of it and of what was read last, of each kind the last on top.
 #[derive(Drop)]
 pub struct Stack<'a> {
-    items: Vec<Frame<'a>>,
+    pub(crate) frames: Vec<Frame>,
+    pub(crate) names: Vec<&'a str>,
+    pub(crate) types: Vec<&'a Built<TypeText<'a>>>,
+    pub(crate) patterns: Vec<&'a Built<Pattern<'a>>>,
+    pub(crate) exprs: Vec<&'a Built<Expr<'a>>>,
+    pub(crate) given_types: Vec<Option<&'a Built<TypeText<'a>>>>,
+    pub(crate) guards: Vec<Option<&'a Built<Expr<'a>>>>,
+    pub(crate) type_lists: Vec<Vec<Built<TypeText<'a>>>>,
+    pub(crate) pattern_lists: Vec<Vec<Built<Pattern<'a>>>>,
+    pub(crate) expr_lists: Vec<Vec<Built<Expr<'a>>>>,
+    pub(crate) case_lists: Vec<Vec<Built<Case<'a>>>>,
+    pub(crate) heads: Vec<Head<'a>>,
+    pub(crate) contracts: Vec<Contracts<'a>>,
+    pub(crate) posts: Vec<Option<&'a Claim<'a>>>,
+    pub(crate) decls: Vec<&'a Checked<Decl<'a>>>,
 }
 
 impl<'a> Stack<'a> {
@@ -23,26 +40,40 @@ impl<'a> Stack<'a> {
         ensures { frames result ≡ [] }
     {
         Stack {
-            items: Vec::new(alloc),
+            frames: Vec::new(alloc),
+            names: Vec::new(alloc),
+            types: Vec::new(alloc),
+            patterns: Vec::new(alloc),
+            exprs: Vec::new(alloc),
+            given_types: Vec::new(alloc),
+            guards: Vec::new(alloc),
+            type_lists: Vec::new(alloc),
+            pattern_lists: Vec::new(alloc),
+            expr_lists: Vec::new(alloc),
+            case_lists: Vec::new(alloc),
+            heads: Vec::new(alloc),
+            contracts: Vec::new(alloc),
+            posts: Vec::new(alloc),
+            decls: Vec::new(alloc),
         }
     }
 
-    /// A frame is put on top. Where there is no memory, the frames stay as they were.
+    /// A frame is put on top, above its parts. Where there is no memory, the frames stay as they were.
     #[tactic(auto, using(crate::proofs::Stacked::stacked_push))]
-    pub fn push(&mut self, frame: Frame<'a>) -> Result<(), NoMemory>
-        ensures { IfOk result (λ _. frames self.new ≡ frame_of frame.entry ∷ frames self.old) }
+    pub fn push(&mut self, frame: Frame) -> Result<(), NoMemory>
+        ensures { IfOk result (λ _. shown self.new ≡ with_frame frame (shown self.old)) }
     {
-        self.items.push(frame)?;
+        self.frames.push(frame)?;
         Ok(())
     }
 
-    /// The frame on top is taken off.
+    /// The frame on top is taken off. Its parts stay.
     #[tactic(auto, using(crate::proofs::Stacked::stacked_push))]
-    pub fn pop(&mut self) -> Option<Frame<'a>>
+    pub fn pop(&mut self) -> Option<Frame>
         ensures { MatchOption result ((frames self.old ≡ []) × (frames self.new ≡ []))
-            (λ f. frames self.old ≡ frame_of f ∷ frames self.new) }
+            (λ f. shown self.old ≡ with_frame f (shown self.new)) }
     {
-        self.items.pop()
+        self.frames.pop()
     }
 
     /// How tight an operand has to bind above the frames.
@@ -50,31 +81,31 @@ impl<'a> Stack<'a> {
     pub fn floor(&self) -> u32
         ensures { result ≡ floor (frames self.now) }
     {
-        match self.items.split_last() {
+        match self.frames.split_last() {
             None => 0,
-            Some((top, _)) => floor_above(top),
+            Some((top, _)) => floor_above(*top),
         }
     }
 
     /// Whether the frame on top binds at least as tight as the level.
     #[tactic(auto, using(crate::proofs::Stacked::stacked_push))]
     pub(crate) fn binds(&self, tight: u32) -> bool
-        ensures { result ≡ top_binds tight (frames self.now) }
+        ensures { result ≡ top_binds tight (shown self.now).kinds }
     {
-        match self.items.split_last() {
+        match self.frames.split_last() {
             None => false,
-            Some((top, _)) => binds(top, tight),
+            Some((top, _)) => binds(*top, tight),
         }
     }
 
     /// Whether the frame on top is a finished statement.
     #[tactic(auto, using(crate::proofs::Stacked::stacked_push))]
     pub(crate) fn ends_statement(&self) -> bool
-        ensures { result ≡ top_is_statement (frames self.now) }
+        ensures { result ≡ top_is_statement (shown self.now).kinds }
     {
-        match self.items.split_last() {
+        match self.frames.split_last() {
             None => false,
-            Some((top, _)) => is_statement(top),
+            Some((top, _)) => is_statement(*top),
         }
     }
 
@@ -82,10 +113,10 @@ impl<'a> Stack<'a> {
     pub fn takes_hole(&self) -> bool
         ensures { result ≡ takes_hole (frames self.now) }
     {
-        let mut depth = self.items.len();
+        let mut depth = self.frames.len();
         while depth > 0 {
             depth -= 1;
-            let frame = &self.items[depth];
+            let frame = self.frames[depth];
             if !lets_hole(frame) {
                 return is_claim(frame);
             }
@@ -95,31 +126,31 @@ impl<'a> Stack<'a> {
 }
 
 /// How tight an operand has to bind above the frame.
-fn floor_above(frame: &Frame) -> u32
-    ensures { (s : List plain_frame) → result ≡ floor (frame_of frame.now ∷ s) }
+fn floor_above(frame: Frame) -> u32
+    ensures { (p : Parts) (s : List plain_frame) → result ≡ floor (frame_of frame p ∷ s) }
 {
     match frame {
         Frame::Prefixing(_, _) => TIGHTEST + 1,
-        Frame::Left(_, op, _, _) => level(*op) + 1,
-        Frame::Guarding(_) | Frame::ClaimingHole => LOOSEST,
+        Frame::Left(_, op, _) => level(op) + 1,
+        Frame::Guarding | Frame::ClaimingHole => LOOSEST,
         _ => 0,
     }
 }
 
 /// Whether the hole may stand above the frame if it may stand below it.
-fn lets_hole(frame: &Frame) -> bool
-    ensures { result ≡ lets_hole (frame_of frame.now) }
+fn lets_hole(frame: Frame) -> bool
+    ensures { result ≡ lets_hole frame }
 {
     match frame {
         Frame::Prefixing(_, _) => true,
-        Frame::Left(_, _, _, holed) => !holed,
+        Frame::Left(_, _, holed) => !holed,
         _ => false,
     }
 }
 
 /// Whether the frame is that of a claim with a hole.
-fn is_claim(frame: &Frame) -> bool
-    ensures { result ≡ is_claim (frame_of frame.now) }
+fn is_claim(frame: Frame) -> bool
+    ensures { result ≡ is_claim frame }
 {
     matches!(frame, Frame::ClaimingHole)
 }

@@ -44,7 +44,8 @@ is_conflict old mid new l number start closed at decided g now =
     record {
       is_false = now;
       later = λ f. not_false_before old.clauses (lits old.steps) number closed
-          (subst (λ (z : List Step). IsFalse old.clauses (lits z) number) (steps_before old.steps new.steps d start e at)
+          (subst (λ (z : List Step). IsFalse old.clauses (lits z) number)
+          (steps_before old.steps new.steps d start e at)
           (subst (λ (z : List (List Literal)). IsFalse z (lits (take start new.steps)) number) clauses f));
       forced = forced_after old.steps new.steps d start e at;
     }

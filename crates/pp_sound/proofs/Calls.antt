@@ -123,8 +123,8 @@ module _ (p : Program) (D : Type 0) (i : ℕ) where
           (λ _ _. fine_then (fine_inside p D i g within (frame_fine p D g.0 calls good f.measure scope w.measure_sorted
           w.measure_met args have))
           (λ new _. fine_then (descends_fine down frame new down_site.own)
-          (λ _ _. fine_inside p D i g within (expr_sound p D g.0 calls good f.body scope f.result w.body_sorted w.body_met
-          new args have))))
+          (λ _ _. fine_inside p D i g within
+          (expr_sound p D g.0 calls good f.body scope f.result w.body_sorted w.body_met new args have))))
 
 -- calls nested at most n deep are good, where those that are nested deeper are
 pub calls_good : (p : Program) (D : Type 0) (deeper : CallMeaning) → ((i : ℕ) → AreGood p D i deeper) → (n i : ℕ)

@@ -13,15 +13,13 @@ use anyhow::{Context, Result, ensure};
 use pp_clause::{Clauses, Lit, greatest_var};
 use pp_estimate::estimate;
 use pp_front::Accepted;
+use pp_limits::GATES;
 use pp_named::Named;
 use pp_prog::CheckId;
 use pp_query::{Question, question_of};
 use pp_symbolic::{Mode, NoMemory};
 use std::alloc::Global;
 use std::fs;
-
-/// The greatest estimate of a round that is built.
-const MOST_GATES: u64 = 4_000_000;
 
 /// Clauses, and literals that are to be true besides.
 #[derive(Drop)]
@@ -54,7 +52,7 @@ fn print_check(
     let checks = accepted.program.checks().len();
     ensure!((check.0 as usize) < checks, "no such check");
     let most = estimate(alloc, &accepted.program, &accepted.plan, check, round, 1)?;
-    ensure!(most <= MOST_GATES, "too many gates");
+    ensure!(most <= u64::from(GATES.most), "too many gates");
     let formula = formula_of_round(alloc, accepted, check, round)?;
     print_formula(rt, alloc, &formula)
 }

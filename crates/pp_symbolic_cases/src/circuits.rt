@@ -13,14 +13,12 @@ use anyhow::{Context, Result};
 use pp_bounded::Bounded;
 use pp_estimate::estimate;
 use pp_front::Accepted;
+use pp_limits::GATES;
 use pp_prog::CheckId;
 use pp_query::question_of;
 use pp_symbolic::{Mode, NoMemory};
 use std::alloc::Global;
 use std::fs;
-
-/// The greatest estimate of a round that is built.
-const MOST_GATES: u64 = 4_000_000;
 
 /// The round and the depth of circuits, and how often each is built.
 #[derive(Clone, Copy)]
@@ -116,7 +114,7 @@ fn measure(
     )?;
     let steps = steps_of(alloc, &accepted.program, check, Mode::Real, round)?;
     let mut gates = None;
-    if most <= MOST_GATES {
+    if most <= u64::from(GATES.most) {
         for _ in 0..times {
             gates = Some(gates_of(alloc, accepted, check, round, depth)?);
         }

@@ -11,13 +11,11 @@ use crate::words::number;
 use anyhow::{Result, ensure};
 use pp_estimate::estimate;
 use pp_front::Accepted;
+use pp_limits::GATES;
 use pp_prog::CheckId;
 use pp_query::{Proof, prove};
 use std::alloc::Global;
 use std::fs;
-
-/// The most gates that a round may be estimated to need.
-const MOST_GATES: u64 = 4_000_000;
 
 /// How many lemmas a proof may learn.
 const LEMMAS: u64 = 10_000;
@@ -54,7 +52,7 @@ fn proved(alloc: Global, accepted: &Accepted, check: u32, round: u32) -> Result<
     ensure!((check as usize) < program.checks().len(), "no such check");
     let check = CheckId(check);
     let most = estimate(alloc, program, plan, check, round, 1)?;
-    ensure!(most <= MOST_GATES, "too large");
+    ensure!(most <= u64::from(GATES.most), "too large");
     Ok(match prove(alloc, program, plan, check, round, LEMMAS)? {
         Proof::Proved => "proved",
         Proof::NotProved => "fails",

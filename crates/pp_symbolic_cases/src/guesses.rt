@@ -16,15 +16,13 @@ use crate::words::number;
 use anyhow::{Context, Result};
 use pp_estimate::estimate;
 use pp_front::Accepted;
+use pp_limits::GATES;
 use pp_named::Named;
 use pp_prog::CheckId;
 use pp_query::{Question, comparisons, question_of};
 use pp_symbolic::{Mode, NoMemory};
 use std::alloc::Global;
 use std::fs;
-
-/// The greatest estimate of a round that is built.
-const MOST_GATES: u64 = 4_000_000;
 
 /// The most lemmas of a proof.
 const MOST_LEMMAS: u32 = 1_000_000;
@@ -100,7 +98,7 @@ fn print_check(
     let mut before = 0;
     for round in 0..=limits.rounds {
         let most = estimate(alloc, &accepted.program, &accepted.plan, check, round, 1)?;
-        if most > MOST_GATES {
+        if most > u64::from(GATES.most) {
             return Ok(());
         }
         let taken = prove(alloc, accepted, check, round, limits.lemmas)?;

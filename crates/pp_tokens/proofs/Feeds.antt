@@ -33,3 +33,6 @@ module _ (ts : List Token) (i : ℕ) (t : Token) (rs : List Region) (ended : Boo
 pub newlines_end : (ts : List Token) (i : ℕ) (rs : List Region) (ended : Bool) (waiting : Option Token) → length ts ≤ i
     → newlines rs ended waiting (drop i ts) ≡ []
 newlines_end ts i rs ended waiting le = ap (newlines rs ended waiting) (drop_all i ts le)
+
+-- what the loop over the tokens asks for
+pub ruleset newlines_steps = (newlines_feed, newlines_token, newlines_end)

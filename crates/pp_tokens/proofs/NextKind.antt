@@ -18,3 +18,6 @@ module _ (ts : List Token) (i : ℕ) (t : Token) (lt : i < length ts) (is : t �
 
 pub next_kind_end : (ts : List Token) (i : ℕ) → length ts ≤ i → next_kind (drop i ts) ≡ End
 next_kind_end ts i le = at_drop_all next_kind ts i le
+
+-- what the loop over the tokens asks for
+pub ruleset next_kind_steps = (next_kind_feed, next_kind_here, next_kind_end)

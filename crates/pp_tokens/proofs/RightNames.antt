@@ -19,7 +19,11 @@ module _ (xs after : List ℕ) (name : IsLongestName xs after) where
     name,
     same_text xs (word_text w) (found_passes (λ (v : Reserved). spells xs (word_text v)) words w e),
   )
-  by_word None e h = (name, e, λ is. let t : spells xs (codes "_") ≡ true = ap (λ (l : List ℕ). spells l (codes "_")) is in cc)
+  by_word None e h = (
+    name,
+    e,
+    λ is. let t : spells xs (codes "_") ≡ true = ap (λ (l : List ℕ). spells l (codes "_")) is in cc,
+  )
 
   by_hole : (b : Bool) → spells xs (codes "_") ≡ b
       → IsToken (cond b Rattle.pp_tokens.specs.declared.token.TokenKind.TheVariants.Hole (word_or_name (word_of xs))) xs

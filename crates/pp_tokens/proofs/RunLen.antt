@@ -18,3 +18,6 @@ module _ (cs rest : List ℕ) (i x : ℕ) (split : drop i cs ≡ x ∷ rest) whe
 
 pub run_ends : (cs : List ℕ) (i : ℕ) → length cs ≤ i → run_len (drop i cs) ≡ 0
 run_ends cs i le = at_drop_all run_len cs i le
+
+-- what the loop over the characters asks for
+pub ruleset run_len_steps = (run_goes_on, run_stops, run_ends)

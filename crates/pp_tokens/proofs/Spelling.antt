@@ -39,3 +39,6 @@ module _ (cs bs : List ℕ) (i : ℕ) (lt : i < length cs) (same : length cs ≡
 pub all_spelled : (cs bs : List ℕ) (i : ℕ) → length cs ≤ i → length bs ≤ i → spells (drop i cs) (drop i bs) ≡ true
 all_spelled cs bs i le le' =
     ap (λ (l : List ℕ). spells l (drop i bs)) (drop_all i cs le) ∙ ap (spells []) (drop_all i bs le')
+
+-- what the loop over the characters asks for
+pub ruleset spelling_steps = (unequal_lengths, one_spelled, one_differs, all_spelled)

@@ -83,7 +83,7 @@ fn can_begin(kind: TokenKind, next: TokenKind) -> bool
 }
 
 /// The kind of the first token that is no line feed.
-#[tactic(auto, using(crate::proofs::NextKind::next_kind_feed, crate::proofs::NextKind::next_kind_here, crate::proofs::NextKind::next_kind_end))]
+#[tactic(auto, using(crate::proofs::NextKind::next_kind_steps))]
 fn next_kind(tokens: &[Token]) -> TokenKind
     ensures { result ≡ next_kind tokens.now }
 {
@@ -182,7 +182,7 @@ fn put(
 }
 
 /// The tokens without the line feeds that end no statement.
-#[tactic(auto, using(crate::proofs::Feeds::newlines_feed, crate::proofs::Feeds::newlines_token, crate::proofs::Feeds::newlines_end))]
+#[tactic(auto, using(crate::proofs::Feeds::newlines_steps))]
 pub(crate) fn newlines(alloc: Global, raw: &[Token]) -> Result<Vec<Token>, AllocError>
     ensures { IfOk result (λ v. v.items ≡ newlines [] false None raw.now) }
 {

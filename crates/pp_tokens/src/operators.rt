@@ -124,7 +124,7 @@ fn runs_on(c: char, rest: &[char]) -> bool
 }
 
 /// How long the run of operator characters is that stops before a comment.
-#[tactic(auto, using(crate::proofs::Slices::split_here, crate::proofs::RunLen::run_goes_on, crate::proofs::RunLen::run_stops, crate::proofs::RunLen::run_ends))]
+#[tactic(auto, using(crate::proofs::Slices::split_here, crate::proofs::RunLen::run_len_steps))]
 fn run_len(cs: &[char]) -> usize
     ensures value { result ≡ run_len cs.now }
     ensures within { result ≤ length cs.now }

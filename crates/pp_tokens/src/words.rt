@@ -50,7 +50,7 @@ const WORDS: [Reserved; 40] = [
 ];
 
 /// Whether the characters are those of the text, which is ASCII.
-#[tactic(auto, using(crate::proofs::Spelling::unequal_lengths, crate::proofs::Spelling::one_spelled, crate::proofs::Spelling::one_differs, crate::proofs::Spelling::all_spelled))]
+#[tactic(auto, using(crate::proofs::Spelling::spelling_steps))]
 pub(crate) fn spells(cs: &[char], text: &str) -> bool
     ensures { result ≡ spells cs.now text.now }
 {

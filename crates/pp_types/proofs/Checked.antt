@@ -94,3 +94,6 @@ module _ (units : List UnitTree) where
       → Tells {A = Declared} (Err h) (declare units) → OnBroken r (IsRefused units)
   declare_refused r Memory is told = subst (λ q. OnBroken q (IsRefused units)) (sym is) tt
   declare_refused r (Broken f) is told = subst (λ q. OnBroken q (IsRefused units)) (sym is) (undeclared f told)
+
+-- what typing units step by step asks for
+pub ruleset typing_steps = (has_typing, declare_refused, values_refused, defs_refused)

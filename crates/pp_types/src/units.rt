@@ -33,7 +33,7 @@ pub fn check(alloc: Global, units: &[Unit]) -> Result<Typed, TypeFault>
 }
 
 /// Types units step by step: their declarations, the values of their roots, their functions.
-#[tactic(auto, using(crate::proofs::Checked::has_typing, crate::proofs::Checked::declare_refused, crate::proofs::Checked::values_refused, crate::proofs::Checked::defs_refused))]
+#[tactic(auto, using(crate::proofs::Checked::typing_steps))]
 fn typed(alloc: Global, units: &[Unit]) -> Result<Typed, Halt>
     requires { length units.now < 2 ^ 32 }
     ensures typing { IfOk result (HasTyping (units_of units.now)) }

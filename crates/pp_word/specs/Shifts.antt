@@ -5,7 +5,8 @@ use Rattle.pp_word.specs.Wrapping.{SameModulo}
 use mir.Val.{bits}
 
 -- a shift by b moves by k bits: k is the number below the width that differs from b by a multiple of the width.
--- JLS 15.19: "only the five lowest-order bits of the right-hand operand are used as the shift distance", and six for `long`.
+-- JLS 15.19: "only the five lowest-order bits of the right-hand operand are used as the shift distance", and six for
+-- `long`.
 abbrev pub IsDistance : Width → ℤ → ℕ → Type 0
 IsDistance w b k = (k < bits w) × SameModulo (bits w) b (pos k)
 

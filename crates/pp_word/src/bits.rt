@@ -1,6 +1,6 @@
 //! The operations on each bit.
 
-#![tactic(auto, unfolding(crate::specs::Word::word_and, crate::specs::Word::word_or, crate::specs::Word::word_xor, crate::specs::Word::word_not))]
+#![tactic(auto)]
 
 ghost use Rattle.std.specs.Prelude.{◌≡◌, ℕ, ◌<◌, ◌&&◌, ◌||◌, not, ℤ};
 ghost use Rattle.std.specs.Int.{Width, w32};
@@ -10,6 +10,7 @@ ghost use Rattle.pp_word.specs.Bits.{bit_of, differ};
 ghost use mir.Val.{bits};
 
 /// The bits that both have, `&` (JLS 15.22.1).
+#[tactic(auto, unfolding(crate::specs::Word::word_and))]
 pub fn and(a: i32, b: i32) -> i32
     ensures { result ≡ word_and w32 a b }
 {
@@ -17,6 +18,7 @@ pub fn and(a: i32, b: i32) -> i32
 }
 
 /// The bits that one or both have, `|` (JLS 15.22.1).
+#[tactic(auto, unfolding(crate::specs::Word::word_or))]
 pub fn or(a: i32, b: i32) -> i32
     ensures { result ≡ word_or w32 a b }
 {
@@ -24,6 +26,7 @@ pub fn or(a: i32, b: i32) -> i32
 }
 
 /// The bits that one of the two has and the other has not, `^` (JLS 15.22.1).
+#[tactic(auto, unfolding(crate::specs::Word::word_xor))]
 pub fn xor(a: i32, b: i32) -> i32
     ensures { result ≡ word_xor w32 a b }
 {
@@ -31,6 +34,7 @@ pub fn xor(a: i32, b: i32) -> i32
 }
 
 /// The bits that `a` has not, `~` (JLS 15.15.5).
+#[tactic(auto, unfolding(crate::specs::Word::word_not))]
 pub fn not(a: i32) -> i32
     ensures { result ≡ word_not w32 a }
 {

@@ -1,6 +1,6 @@
 //! Shifts.
 
-#![tactic(auto, unfolding(crate::specs::Word::shift_distance, crate::specs::Word::word_shr, crate::specs::Word::word_ushr))]
+#![tactic(auto)]
 
 ghost use Rattle.std.specs.Prelude.{◌≡◌, ℕ, ◌^◌, ℤ, pos, ◌*ℤ◌};
 ghost use Rattle.std.specs.Int.{Width, w32, cast_unsigned};
@@ -9,6 +9,7 @@ ghost use Rattle.pp_word.specs.Wrapping.{IsWord, WrapsTo};
 ghost use Rattle.pp_word.specs.Shifts.{IsDistance, IsFloor};
 
 /// The shift to the left, `<<`, by the low five bits of `b`: zeros come in on the right (JLS 15.19).
+#[tactic(auto, unfolding(crate::specs::Word::shift_distance))]
 pub fn shl(a: i32, b: i32) -> i32
     ensures { result ≡ word_shl w32 a b }
 {
@@ -16,6 +17,7 @@ pub fn shl(a: i32, b: i32) -> i32
 }
 
 /// The shift to the right, `>>`, by the low five bits of `b`: copies of the sign come in on the left (JLS 15.19).
+#[tactic(auto, unfolding(crate::specs::Word::shift_distance, crate::specs::Word::word_shr))]
 pub fn shr(a: i32, b: i32) -> i32
     ensures { result ≡ word_shr w32 a b }
 {
@@ -23,6 +25,7 @@ pub fn shr(a: i32, b: i32) -> i32
 }
 
 /// The unsigned shift to the right, `>>>`, by the low five bits of `b`: zeros come in on the left (JLS 15.19).
+#[tactic(auto, unfolding(crate::specs::Word::shift_distance, crate::specs::Word::word_ushr))]
 pub fn ushr(a: i32, b: i32) -> i32
     ensures { result ≡ word_ushr w32 a b }
 {

@@ -91,7 +91,9 @@ fn with_sign(circuit: &mut Circuit, negative: Lit, a: &[Lit]) -> Result<Vec<Lit>
     requires of { All (IsOf circuit.old) a.now }
     ensures adds { AddsGates circuit.old circuit.new (4 * length a.now) }
     ensures stands { IfOk result (λ r. StandsForNumber circuit.new (length a.now) r.items
-        (λ s. if lit_value s negative then (2 ^ length a.now - nat_of s a.now) % 2 ^ length a.now else nat_of s a.now)) }
+        (λ s. if lit_value s negative
+        then (2 ^ length a.now - nat_of s a.now) % 2 ^ length a.now
+        else nat_of s a.now)) }
 {
     let negated = pp_bits::neg(circuit, a)?;
     let digits = pp_bits::choose(circuit, negative, &negated, a)?;

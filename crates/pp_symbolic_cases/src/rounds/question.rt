@@ -10,13 +10,11 @@ use anyhow::{Result, ensure};
 use pp_bounded::{Bounded, BoundedTree};
 use pp_estimate::estimate;
 use pp_front::Accepted;
+use pp_limits::GATES;
 use pp_prog::{CheckId, TypeTable, Value};
 use pp_query::{Question, question_of};
 use pp_symbolic::Mode;
 use std::alloc::Global;
-
-/// The most gates that a round may be estimated to need.
-const MOST_GATES: u64 = 4_000_000;
 
 /// The question of a round of the check, over arguments of height at most `depth`.
 pub fn round_question(
@@ -34,7 +32,7 @@ pub fn round_question(
 {
     let (program, plan) = (&accepted.program, &accepted.plan);
     let most = estimate(alloc, program, plan, check, round, depth)?;
-    ensure!(most <= MOST_GATES, "too large");
+    ensure!(most <= u64::from(GATES.most), "too large");
     let question = question_of::<Bounded>(alloc, program, plan, check, Mode::Real, round, depth)?;
     Ok(question)
 }

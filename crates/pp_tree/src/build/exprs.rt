@@ -1,8 +1,10 @@
 //! Expressions and cases.
 
 ghost use Rattle.std.specs.Prelude.{◌≡◌, IfOk, map, option_map};
-ghost use Rattle.pp_tree.specs.Shown.{tree_of, trees, case_of, case_trees, case_before, type_of, type_trees, pattern_of};
-ghost use Rattle.pp_tree.specs.Plain.{int, bool, name, apply, field, unary, binary, choice, matching, val_in, assert_in};
+ghost use Rattle.pp_tree.specs.Shown.{tree_of, trees, case_of, case_trees, case_before, type_of, type_trees};
+ghost use Rattle.pp_tree.specs.Shown.{pattern_of};
+ghost use Rattle.pp_tree.specs.Plain.{int, bool, name, apply, field, unary, binary, choice, matching, val_in};
+ghost use Rattle.pp_tree.specs.Plain.{assert_in};
 
 use crate::build::rows::{above, highest, row};
 use crate::build::types::{tree_alone, written_levels};

@@ -1,7 +1,7 @@
 use Rattle.std.proofs.Common.{◌≡◌, length}
 use Rattle.pp_tree.specs.Shown.{tree_of}
 use Rattle.pp_grammar.specs.Joining.{seal}
-use Rattle.pp_parse_state.specs.Shown.{frames}
+use Rattle.pp_parse_state.specs.Shown.{frames, shown}
 use Rattle.pp_parse_state.proofs.joining.seal.Given as goal
 
 abbrev pub invariant-loop-stack : goal.invariant-loop-stack
@@ -9,4 +9,4 @@ invariant-loop-stack l =
     seal (frames l.stack) (tree_of l.sealed.tree) ≡ seal (frames l.fn.stack) (tree_of l.fn.last.tree)
 
 abbrev pub decreases-loop-stack : goal.decreases-loop-stack
-decreases-loop-stack l = length (frames l.stack)
+decreases-loop-stack l = length (shown l.stack).kinds

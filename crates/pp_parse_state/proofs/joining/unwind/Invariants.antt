@@ -1,7 +1,7 @@
 use Rattle.std.proofs.Common.{◌≡◌, length}
 use Rattle.pp_tree.specs.Shown.{tree_of}
 use Rattle.pp_grammar.specs.Joining.{unwind}
-use Rattle.pp_parse_state.specs.Shown.{frames}
+use Rattle.pp_parse_state.specs.Shown.{frames, shown}
 use Rattle.pp_parse_state.proofs.joining.unwind.Given as goal
 
 abbrev pub invariant-loop-stack : goal.invariant-loop-stack
@@ -10,4 +10,4 @@ invariant-loop-stack l =
     ≡ unwind l.tight (frames l.fn.stack) (tree_of l.fn.tree.tree) l.fn.holed
 
 abbrev pub decreases-loop-stack : goal.decreases-loop-stack
-decreases-loop-stack l = length (frames l.stack)
+decreases-loop-stack l = length (shown l.stack).kinds
