@@ -8,13 +8,13 @@
 # clauses (without preprocessing; a dash where there is no `minisat`). With `--all` it has the proofs of all checks and
 # rounds. It ends with the number of programs that answered as their head says, and of others.
 # It wants python3. The program is ./pureproof; another one in its place is named by PUREPROOF. The second table wants
-# crates/pp_symbolic_cases/out/pp_symbolic_cases, which `rt run` in that crate's folder leaves, or the program that
+# crates/pp_program_cases/out/pp_program_cases, which `rt run` in that crate's folder leaves, or the program that
 # SYMBOLIC names; it is left out where there is none.
 set -eu
 root=$(cd "$(dirname "${BASH_SOURCE[0]}")/.." && pwd)
 program=$(readlink -f "${PUREPROOF:-$root/pureproof}")
 cd "$root"
-symbolic=${SYMBOLIC:-$root/crates/pp_symbolic_cases/out/pp_symbolic_cases}
+symbolic=${SYMBOLIC:-$root/crates/pp_program_cases/out/pp_program_cases}
 python3 - "$program" "$symbolic" "${1:-}" examples/proofs/*.scala <<'PY'
 import os, re, shutil, statistics, subprocess, sys, tempfile, time
 

@@ -5,15 +5,15 @@
 # a list. For each check it prints the steps of the run, the gates of the circuit (inputs and the constant among them)
 # and the estimate; and for each program the seconds that all its circuits took, and how many gates a second were
 # built. Reading the program isn't counted: the circuits are built many times, and once the program is only read. It
-# wants python3 and crates/pp_symbolic_cases/out/pp_symbolic_cases, which `rt run` in that crate's folder leaves;
+# wants python3 and crates/pp_program_cases/out/pp_program_cases, which `rt run` in that crate's folder leaves;
 # another program in its place is named by SYMBOLIC. With a folder as its argument it only leaves the sources and
 # their words there.
 set -eu
 root=$(cd "$(dirname "${BASH_SOURCE[0]}")/.." && pwd)
-program=${SYMBOLIC:-$root/crates/pp_symbolic_cases/out/pp_symbolic_cases}
+program=${SYMBOLIC:-$root/crates/pp_program_cases/out/pp_program_cases}
 here=$(mktemp -d)
 trap 'rm -rf "$here"' EXIT
-python3 - "$program" "$here" "${1:-}" "$root/crates/pp_symbolic_cases/data/length.scala" <<'PY'
+python3 - "$program" "$here" "${1:-}" "$root/crates/pp_program_cases/data/length.scala" <<'PY'
 import os, re, subprocess, sys, time
 
 PROGRAM, FOLDER, LEFT, LENGTH = sys.argv[1:]

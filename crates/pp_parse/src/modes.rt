@@ -1,8 +1,7 @@
 //! The step of each mode.
 
 ghost use Rattle.pp_tokens.specs.Spans.{IsSpan};
-ghost use Rattle.pp_grammar.specs.Automaton.{on_mode};
-ghost use Rattle.pp_parse_state.specs.Shown.{Moves, mode_of, shown, under_mode};
+ghost use Rattle.pp_parse_state.specs.Shown.{Moves, shown, step_in};
 
 use pp_parse_bodies::bodies::{on_after_body, on_contracted_dot, on_have_contracted, on_want_body};
 use pp_parse_bodies::posts::{
@@ -37,149 +36,58 @@ pub fn on_mode<'a>(
     mode: Mode,
 ) -> Result<Move, Stop<'a>>
     requires { IsSpan cx.now.text.now cx.now.token }
-    ensures { Moves result stack.new (on_mode cx.now.text.now cx.now.token (under_mode mode (shown stack.old))
-        (mode_of mode (shown stack.old).parts) cx.now.token.kind) }
+    ensures { Moves result stack.new (step_in cx.now.text.now cx.now.token mode (shown stack.old)) }
 {
     match mode {
         Mode::Want => on_want(cx, stack),
-        Mode::Have(holed) => {
-            let tree = stack.take_expr()?;
-            on_have(cx, stack, tree, holed)
-        }
-        Mode::AfterName(at) => {
-            let name = stack.take_name()?;
-            on_name(cx, stack, at, name)
-        }
-        Mode::AfterNameTypes(at) => {
-            let name = stack.take_name()?;
-            let types = stack.take_type_list()?;
-            on_name_types(cx, stack, at, name, types)
-        }
-        Mode::ArgsOpen(at) => {
-            let name = stack.take_name()?;
-            let types = stack.take_type_list()?;
-            on_args_open(cx, stack, at, name, types)
-        }
+        Mode::Have(holed) => on_have(cx, stack, holed),
+        Mode::AfterName(at) => on_name(cx, stack, at),
+        Mode::AfterNameTypes(at) => on_name_types(cx, stack, at),
+        Mode::ArgsOpen(at) => on_args_open(cx, stack, at),
         Mode::AfterInt(at) => on_int(cx, at),
         Mode::AfterIntDot(at) => on_int_dot(cx, stack, at),
         Mode::AfterMinus(at, end) => on_minus(cx, stack, at, end),
-        Mode::HaveNegative => {
-            let tree = stack.take_expr()?;
-            on_have_negative(cx, stack, tree)
-        }
-        Mode::AfterNegativeDot => {
-            let tree = stack.take_expr()?;
-            on_negative_dot(cx, stack, tree)
-        }
-        Mode::AfterDot(holed) => {
-            let tree = stack.take_expr()?;
-            on_dot(cx, stack, tree, holed)
-        }
+        Mode::HaveNegative => on_have_negative(cx, stack),
+        Mode::AfterNegativeDot => on_negative_dot(cx, stack),
+        Mode::AfterDot(holed) => on_dot(cx, stack, holed),
         Mode::AfterIf(at) => on_if(cx, stack, at),
         Mode::WantThen => on_want_then(cx, stack),
-        Mode::WantElse => {
-            let tree = stack.take_expr()?;
-            on_want_else(cx, stack, tree)
-        }
-        Mode::AfterMatch(at) => {
-            let tree = stack.take_expr()?;
-            on_match_word(cx, stack, at, tree)
-        }
+        Mode::WantElse => on_want_else(cx, stack),
+        Mode::AfterMatch(at) => on_match_word(cx, stack, at),
         Mode::WantCase => on_want_case(cx),
-        Mode::HaveMatched => {
-            let tree = stack.take_expr()?;
-            on_have_matched(cx, stack, tree)
-        }
-        Mode::AfterMatchedDot => {
-            let tree = stack.take_expr()?;
-            on_matched_dot(cx, stack, tree)
-        }
+        Mode::HaveMatched => on_have_matched(cx, stack),
+        Mode::AfterMatchedDot => on_matched_dot(cx, stack),
         Mode::WantPattern => on_want_pattern(cx, stack),
-        Mode::AfterPatternName(at) => {
-            let name = stack.take_name()?;
-            on_pattern_name(cx, stack, at, name)
-        }
+        Mode::AfterPatternName(at) => on_pattern_name(cx, stack, at),
         Mode::AfterPatternMinus(at, end) => on_pattern_minus(cx, stack, at, end),
-        Mode::PatternArgsOpen(at) => {
-            let name = stack.take_name()?;
-            on_pattern_args_open(cx, stack, at, name)
-        }
-        Mode::HavePattern => {
-            let pattern = stack.take_pattern()?;
-            on_have_pattern(cx, stack, pattern)
-        }
+        Mode::PatternArgsOpen(at) => on_pattern_args_open(cx, stack, at),
+        Mode::HavePattern => on_have_pattern(cx, stack),
         Mode::WantType => on_want_type(cx, stack),
-        Mode::AfterTypeName(at) => {
-            let name = stack.take_name()?;
-            on_type_name(cx, stack, at, name)
-        }
-        Mode::HaveType => {
-            let of = stack.take_type()?;
-            on_have_type(cx, stack, of)
-        }
+        Mode::AfterTypeName(at) => on_type_name(cx, stack, at),
+        Mode::HaveType => on_have_type(cx, stack),
         Mode::WantStat => on_want_stat(cx, stack),
         Mode::AfterStat => on_after_stat(cx),
-        Mode::AfterLast => {
-            let tree = stack.take_expr()?;
-            on_after_last(cx, stack, tree)
-        }
+        Mode::AfterLast => on_after_last(cx, stack),
         Mode::AfterValWord(at) => on_val_word(cx, stack, at),
-        Mode::AfterValName(at) => {
-            let name = stack.take_name()?;
-            on_val_name(cx, stack, at, name)
-        }
+        Mode::AfterValName(at) => on_val_name(cx, stack, at),
         Mode::AfterAssertWord(at) => on_assert_word(cx, stack, at),
         Mode::AfterRequire => on_after_require(cx, stack),
         Mode::AfterDecreases(at) => on_after_decreases(cx, stack, at),
         Mode::MeasureOpen => on_measure_open(cx, stack),
-        Mode::AfterTuple => {
-            let components = stack.take_expr_list()?;
-            on_after_tuple(cx, stack, components)
-        }
+        Mode::AfterTuple => on_after_tuple(cx, stack),
         Mode::WantBody => on_want_body(cx, stack),
-        Mode::HaveContracted => {
-            let tree = stack.take_expr()?;
-            on_have_contracted(cx, stack, tree)
-        }
-        Mode::AfterContractedDot => {
-            let tree = stack.take_expr()?;
-            on_contracted_dot(cx, stack, tree)
-        }
-        Mode::AfterEnsuring(at) => {
-            let tree = stack.take_expr()?;
-            on_after_ensuring(cx, stack, at, tree)
-        }
+        Mode::HaveContracted => on_have_contracted(cx, stack),
+        Mode::AfterContractedDot => on_contracted_dot(cx, stack),
+        Mode::AfterEnsuring(at) => on_after_ensuring(cx, stack, at),
         Mode::WantLambdaOrSemi => on_want_lambda_or_semi(cx, stack),
         Mode::WantLambda => on_want_lambda(cx, stack),
-        Mode::AfterLambdaName(at) => {
-            let name = stack.take_name()?;
-            on_lambda_name(cx, stack, at, name)
-        }
+        Mode::AfterLambdaName(at) => on_lambda_name(cx, stack, at),
         Mode::AfterLambdaRound => on_lambda_round(cx, stack),
-        Mode::AfterLambdaRoundName(at) => {
-            let name = stack.take_name()?;
-            on_lambda_round_name(cx, stack, at, name)
-        }
-        Mode::AfterLambdaClosed(at) => {
-            let name = stack.take_name()?;
-            on_lambda_closed(cx, stack, at, name)
-        }
-        Mode::AfterLambdaTyped => {
-            let name = stack.take_name()?;
-            let of = stack.take_type()?;
-            on_lambda_typed(cx, stack, name, of)
-        }
-        Mode::AfterClaim => {
-            let name = stack.take_name()?;
-            let of = stack.take_given_type()?;
-            let claim = stack.take_expr()?;
-            on_after_claim(cx, stack, name, of, claim)
-        }
-        Mode::AfterBody => {
-            let tree = stack.take_expr()?;
-            let post = stack.take_post()?;
-            on_after_body(cx, stack, tree, post)
-        }
+        Mode::AfterLambdaRoundName(at) => on_lambda_round_name(cx, stack, at),
+        Mode::AfterLambdaClosed(at) => on_lambda_closed(cx, stack, at),
+        Mode::AfterLambdaTyped => on_lambda_typed(cx, stack),
+        Mode::AfterClaim => on_after_claim(cx, stack),
+        Mode::AfterBody => on_after_body(cx, stack),
         Mode::WantName(kind) => on_want_name(cx, stack, kind),
         Mode::AfterHeadName => on_head_name(cx, stack),
         Mode::WantTypeParam => on_want_type_param(cx, stack),
@@ -187,15 +95,9 @@ pub fn on_mode<'a>(
         Mode::AfterTypeParams => on_after_type_params(cx, stack),
         Mode::ParamsOpen => on_params_open(cx, stack),
         Mode::WantParam => on_want_param(cx, stack),
-        Mode::AfterParamName(at) => {
-            let name = stack.take_name()?;
-            on_param_name(cx, stack, at, name)
-        }
+        Mode::AfterParamName(at) => on_param_name(cx, stack, at),
         Mode::AfterParams => on_after_params(cx, stack),
         Mode::WantObjectName => on_want_object_name(cx, stack),
-        Mode::AfterObjectName(at) => {
-            let name = stack.take_name()?;
-            on_object_name(cx, stack, at, name)
-        }
+        Mode::AfterObjectName(at) => on_object_name(cx, stack, at),
     }
 }

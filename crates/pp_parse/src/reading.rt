@@ -60,7 +60,7 @@ fn read<'a>(
     ensures { Reads (λ u. unit_of u.tree) result (run text.now tokens.now start) }
 {
     let mut parsed = Parsed::none(alloc);
-    let mut stack = Stack::new(alloc);
+    let mut stack = Stack::new(alloc, arena)?;
     let mut place = Place::Between(false, ItemMode::AtStart);
     for t in tokens {
         let cx = Current {

@@ -65,7 +65,7 @@ fn moved<'a>(
     match step {
         Move::Go(mode) => Ok(Place::Within(inside, mode)),
         Move::Ends => {
-            let decl = stack.take_decl()?;
+            let decl = stack.take_decl();
             parsed.declare(decl)?;
             on_after_item(cx, parsed, inside)
         }

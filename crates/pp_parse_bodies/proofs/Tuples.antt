@@ -6,7 +6,7 @@ use Rattle.pp_grammar.specs.Frames.{Frame, measuring}
 use Rattle.pp_grammar.specs.StepBodies.{on_tuple_closed}
 use Rattle.pp_grammar.specs.StepExprs.{on_measured}
 use Rattle.pp_grammar.specs.StepTypes.{refuse}
-use Rattle.pp_parse_state.specs.Shown.{stacked}
+use Rattle.pp_parse_state.specs.Values.{stacked}
 
 module _ (text : Word) (t : Token) where
   refused_more : {B : Type 0} (f : B → Tree) (at : ℕ) (xs : List B) (y : Tree) (ys : List Tree) (s : List Frame)

@@ -5,58 +5,57 @@ ghost use Rattle.pp_tokens.specs.Spans.{IsSpan};
 ghost use Rattle.pp_tree.specs.Shown.{tree_of};
 ghost use Rattle.pp_grammar.specs.Frames.{measuring};
 ghost use Rattle.pp_grammar.specs.Joining.{has_measure};
-ghost use Rattle.pp_grammar.specs.StepBodies.{on_after_decreases, on_after_last, on_after_require, on_after_stat};
-ghost use Rattle.pp_grammar.specs.StepBodies.{on_after_tuple, on_assert_word, on_decreases, on_decreases_word};
-ghost use Rattle.pp_grammar.specs.StepBodies.{on_measure_open, on_require, on_require_word, on_stat_name};
-ghost use Rattle.pp_grammar.specs.StepBodies.{on_tuple_closed, on_val_name, on_val_word, on_want_stat};
+ghost use Rattle.pp_grammar.specs.StepBodies.{on_decreases, on_decreases_word, on_require, on_require_word};
+ghost use Rattle.pp_grammar.specs.StepBodies.{on_stat_name, on_tuple_closed};
+ghost use Rattle.pp_parse_state.specs.declared.mode.Mode.TheVariants.{AfterAssertWord, AfterDecreases, AfterLast};
+ghost use Rattle.pp_parse_state.specs.declared.mode.Mode.TheVariants.{AfterRequire, AfterStat, AfterTuple};
+ghost use Rattle.pp_parse_state.specs.declared.mode.Mode.TheVariants.{AfterValName, AfterValWord, MeasureOpen};
+ghost use Rattle.pp_parse_state.specs.declared.mode.Mode.TheVariants.{WantStat};
 ghost use Rattle.pp_parse_state.specs.declared.stack.Stack.{Stack};
-ghost use Rattle.pp_parse_state.specs.Shown.{contracts_of, frames, Moves, stacked};
+ghost use Rattle.pp_parse_state.specs.Parts.{top_contracts, top_expr_list};
+ghost use Rattle.pp_parse_state.specs.Shown.{Moves, frames, frames_of, shown, step_in};
+ghost use Rattle.pp_parse_state.specs.Values.{stacked};
+ghost use Rattle.pp_parse_state.specs.Shown.{without_contracts, without_expr_list};
 ghost use Rattle.pp_parse_state.specs.Words.{role_of};
 
 use pp_parse_exprs::claims::on_measured;
 use pp_parse_exprs::closing::{on_sealed_brace, on_sealed_case};
 use pp_parse_exprs::operands::{on_operand_name, on_want};
-use pp_parse_frames::contracts::with_word;
-use pp_parse_frames::opening::{behind_expr, behind_name, open};
+use pp_parse_frames::contracts::add_word;
+use pp_parse_frames::opening::{behind_word, open};
 use pp_parse_state::words::Role;
-use pp_parse_state::{Contracts, Current, Frame, Mode, Move, Stack, Stop};
+use pp_parse_state::{Current, Frame, Mode, Move, Stack, Stop};
 use pp_tokens::{Bracket, Operator, Reserved, TokenKind};
 use pp_tree::{Built, Expr};
 
 /// `require` at the head of a body: it can't stand behind a `decreases` that stands behind another one.
-fn on_require_word<'a>(
-    cx: &Current<'a, '_>,
-    stack: &mut Stack<'a>,
-    contracts: Contracts<'a>,
-) -> Result<Move, Stop<'a>>
+fn on_require_word<'a>(cx: &Current<'a, '_>, stack: &mut Stack<'a>) -> Result<Move, Stop<'a>>
     requires { IsSpan cx.now.text.now cx.now.token }
-    ensures { Moves result stack.new (on_require_word cx.now.text.now cx.now.token (frames stack.old)
-        (contracts_of contracts.entry) (contracts_of contracts.entry).late) }
+    ensures { Moves result stack.new (on_require_word cx.now.text.now cx.now.token
+        (frames_of (without_contracts (shown stack.old))) (top_contracts (shown stack.old).parts) (top_contracts (shown stack.old).parts).late) }
 {
+    let contracts = stack.take_contracts();
     if let Some(at) = contracts.late {
         return Err(Stop::Syntax(at));
     }
-    let contracts = with_word(contracts, cx.word()?, cx.token.from);
     stack.put_contracts(contracts)?;
+    add_word(cx, stack)?;
     open(stack, Frame::HeadBraces, Mode::AfterRequire)
 }
 
 /// `decreases` at the head of a body: a second one can't stand there.
-fn on_decreases_word<'a>(
-    cx: &Current<'a, '_>,
-    stack: &mut Stack<'a>,
-    contracts: Contracts<'a>,
-) -> Result<Move, Stop<'a>>
+fn on_decreases_word<'a>(cx: &Current<'a, '_>, stack: &mut Stack<'a>) -> Result<Move, Stop<'a>>
     requires { IsSpan cx.now.text.now cx.now.token }
-    ensures { Moves result stack.new (on_decreases_word cx.now.text.now cx.now.token (frames stack.old)
-        (contracts_of contracts.entry) (has_measure (contracts_of contracts.entry).measure)) }
+    ensures { Moves result stack.new (on_decreases_word cx.now.text.now cx.now.token
+        (frames_of (without_contracts (shown stack.old))) (top_contracts (shown stack.old).parts) (has_measure (top_contracts (shown stack.old).parts).measure)) }
 {
     let from = cx.token.from;
+    let contracts = stack.take_contracts();
     if !contracts.measure.is_empty() {
         return Err(Stop::Syntax(from));
     }
-    let contracts = with_word(contracts, cx.word()?, from);
     stack.put_contracts(contracts)?;
+    add_word(cx, stack)?;
     open(stack, Frame::HeadBraces, Mode::AfterDecreases(from))
 }
 
@@ -65,14 +64,8 @@ fn on_require<'a>(cx: &Current<'a, '_>, stack: &mut Stack<'a>) -> Result<Move, S
     requires { IsSpan cx.now.text.now cx.now.token }
     ensures { Moves result stack.new (on_require cx.now.text.now cx.now.token (frames stack.old)) }
 {
-    let Some(frame) = stack.pop() else {
-        return Err(cx.refuse());
-    };
-    match frame {
-        Frame::HeadBraces => {
-            let contracts = stack.take_contracts()?;
-            on_require_word(cx, stack, contracts)
-        }
+    match stack.pop() {
+        Some(Frame::HeadBraces) => on_require_word(cx, stack),
         _ => Err(cx.refuse()),
     }
 }
@@ -82,14 +75,8 @@ fn on_decreases<'a>(cx: &Current<'a, '_>, stack: &mut Stack<'a>) -> Result<Move,
     requires { IsSpan cx.now.text.now cx.now.token }
     ensures { Moves result stack.new (on_decreases cx.now.text.now cx.now.token (frames stack.old)) }
 {
-    let Some(frame) = stack.pop() else {
-        return Err(cx.refuse());
-    };
-    match frame {
-        Frame::HeadBraces => {
-            let contracts = stack.take_contracts()?;
-            on_decreases_word(cx, stack, contracts)
-        }
+    match stack.pop() {
+        Some(Frame::HeadBraces) => on_decreases_word(cx, stack),
         _ => Err(cx.refuse()),
     }
 }
@@ -115,8 +102,7 @@ fn on_stat_name<'a>(
 /// A contract, a statement or the last expression is wanted.
 pub fn on_want_stat<'a>(cx: &Current<'a, '_>, stack: &mut Stack<'a>) -> Result<Move, Stop<'a>>
     requires { IsSpan cx.now.text.now cx.now.token }
-    ensures { Moves result stack.new (on_want_stat cx.now.text.now cx.now.token (frames stack.old)
-        cx.now.token.kind) }
+    ensures { Moves result stack.new (step_in cx.now.text.now cx.now.token WantStat (shown stack.old)) }
 {
     match cx.token.kind {
         TokenKind::Newline | TokenKind::Mark(Bracket::Semicolon) => Ok(Move::Go(Mode::WantStat)),
@@ -129,7 +115,7 @@ pub fn on_want_stat<'a>(cx: &Current<'a, '_>, stack: &mut Stack<'a>) -> Result<M
 /// Behind a statement.
 pub fn on_after_stat<'a>(cx: &Current<'a, '_>) -> Result<Move, Stop<'a>>
     requires { IsSpan cx.now.text.now cx.now.token }
-    ensures { (s : Stack) → Moves result s (on_after_stat cx.now.text.now cx.now.token (frames s) cx.now.token.kind) }
+    ensures { (s : Stack) → Moves result s (step_in cx.now.text.now cx.now.token AfterStat (shown s)) }
 {
     match cx.token.kind {
         TokenKind::Newline | TokenKind::Mark(Bracket::Semicolon) => Ok(Move::Go(Mode::WantStat)),
@@ -138,23 +124,14 @@ pub fn on_after_stat<'a>(cx: &Current<'a, '_>) -> Result<Move, Stop<'a>>
 }
 
 /// Behind the last expression and semis.
-pub fn on_after_last<'a>(
-    cx: &Current<'a, '_>,
-    stack: &mut Stack<'a>,
-    tree: &'a Built<Expr<'a>>,
-) -> Result<Move, Stop<'a>>
+pub fn on_after_last<'a>(cx: &Current<'a, '_>, stack: &mut Stack<'a>) -> Result<Move, Stop<'a>>
     requires { IsSpan cx.now.text.now cx.now.token }
-    ensures { Moves result stack.new (on_after_last cx.now.text.now cx.now.token (frames stack.old)
-        (tree_of tree.now.tree) cx.now.token.kind) }
+    ensures { Moves result stack.new (step_in cx.now.text.now cx.now.token AfterLast (shown stack.old)) }
 {
     match cx.token.kind {
-        TokenKind::Newline | TokenKind::Mark(Bracket::Semicolon) => behind_expr(
-            stack,
-            tree,
-            Mode::AfterLast,
-        ),
-        TokenKind::Mark(Bracket::CloseBrace) => on_sealed_brace(cx, stack, tree),
-        TokenKind::Word(Reserved::Case) => on_sealed_case(cx, stack, tree),
+        TokenKind::Newline | TokenKind::Mark(Bracket::Semicolon) => Ok(Move::Go(Mode::AfterLast)),
+        TokenKind::Mark(Bracket::CloseBrace) => on_sealed_brace(cx, stack),
+        TokenKind::Word(Reserved::Case) => on_sealed_case(cx, stack),
         _ => Err(cx.refuse()),
     }
 }
@@ -166,11 +143,10 @@ pub fn on_val_word<'a>(
     at: u32,
 ) -> Result<Move, Stop<'a>>
     requires { IsSpan cx.now.text.now cx.now.token }
-    ensures { Moves result stack.new (on_val_word cx.now.text.now cx.now.token (frames stack.old) at
-        cx.now.token.kind) }
+    ensures { Moves result stack.new (step_in cx.now.text.now cx.now.token (AfterValWord at) (shown stack.old)) }
 {
     match cx.token.kind {
-        TokenKind::Name => behind_name(stack, cx.word()?, Mode::AfterValName(at)),
+        TokenKind::Name => behind_word(cx, stack, Mode::AfterValName(at)),
         _ => Err(cx.refuse()),
     }
 }
@@ -180,19 +156,13 @@ pub fn on_val_name<'a>(
     cx: &Current<'a, '_>,
     stack: &mut Stack<'a>,
     at: u32,
-    name: &'a str,
 ) -> Result<Move, Stop<'a>>
     requires { IsSpan cx.now.text.now cx.now.token }
-    ensures { Moves result stack.new (on_val_name cx.now.text.now cx.now.token (frames stack.old) at name.now
-        cx.now.token.kind) }
+    ensures { Moves result stack.new (step_in cx.now.text.now cx.now.token (AfterValName at) (shown stack.old)) }
 {
     match cx.token.kind {
-        TokenKind::Op(Operator::Colon) => {
-            stack.put_name(name)?;
-            open(stack, Frame::ValType(at), Mode::WantType)
-        }
+        TokenKind::Op(Operator::Colon) => open(stack, Frame::ValType(at), Mode::WantType),
         TokenKind::Op(Operator::Assign) => {
-            stack.put_name(name)?;
             stack.put_given_type(None)?;
             open(stack, Frame::ValValue(at), Mode::Want)
         }
@@ -207,8 +177,7 @@ pub fn on_assert_word<'a>(
     at: u32,
 ) -> Result<Move, Stop<'a>>
     requires { IsSpan cx.now.text.now cx.now.token }
-    ensures { Moves result stack.new (on_assert_word cx.now.text.now cx.now.token (frames stack.old) at
-        cx.now.token.kind) }
+    ensures { Moves result stack.new (step_in cx.now.text.now cx.now.token (AfterAssertWord at) (shown stack.old)) }
 {
     match cx.token.kind {
         TokenKind::Mark(Bracket::OpenRound) => open(stack, Frame::Asserting(at), Mode::Want),
@@ -219,8 +188,7 @@ pub fn on_assert_word<'a>(
 /// Behind `require`.
 pub fn on_after_require<'a>(cx: &Current<'a, '_>, stack: &mut Stack<'a>) -> Result<Move, Stop<'a>>
     requires { IsSpan cx.now.text.now cx.now.token }
-    ensures { Moves result stack.new (on_after_require cx.now.text.now cx.now.token (frames stack.old)
-        cx.now.token.kind) }
+    ensures { Moves result stack.new (step_in cx.now.text.now cx.now.token AfterRequire (shown stack.old)) }
 {
     match cx.token.kind {
         TokenKind::Mark(Bracket::OpenRound) => open(stack, Frame::Requiring, Mode::Want),
@@ -235,8 +203,7 @@ pub fn on_after_decreases<'a>(
     at: u32,
 ) -> Result<Move, Stop<'a>>
     requires { IsSpan cx.now.text.now cx.now.token }
-    ensures { Moves result stack.new (on_after_decreases cx.now.text.now cx.now.token (frames stack.old) at
-        cx.now.token.kind) }
+    ensures { Moves result stack.new (step_in cx.now.text.now cx.now.token (AfterDecreases at) (shown stack.old)) }
 {
     match cx.token.kind {
         TokenKind::Mark(Bracket::OpenRound) => {
@@ -250,8 +217,7 @@ pub fn on_after_decreases<'a>(
 /// Behind `decreases(`.
 pub fn on_measure_open<'a>(cx: &Current<'a, '_>, stack: &mut Stack<'a>) -> Result<Move, Stop<'a>>
     requires { IsSpan cx.now.text.now cx.now.token }
-    ensures { Moves result stack.new (on_measure_open cx.now.text.now cx.now.token (frames stack.old)
-        cx.now.token.kind) }
+    ensures { Moves result stack.new (step_in cx.now.text.now cx.now.token MeasureOpen (shown stack.old)) }
 {
     match cx.token.kind {
         TokenKind::Mark(Bracket::OpenRound) => open(stack, Frame::TupleOrRound, Mode::Want),
@@ -260,21 +226,15 @@ pub fn on_measure_open<'a>(cx: &Current<'a, '_>, stack: &mut Stack<'a>) -> Resul
 }
 
 /// Behind the outer bracket of a measure in two brackets.
-fn on_tuple_closed<'a>(
-    cx: &Current<'a, '_>,
-    stack: &mut Stack<'a>,
-    components: Vec<Built<Expr<'a>>>,
-) -> Result<Move, Stop<'a>>
+fn on_tuple_closed<'a>(cx: &Current<'a, '_>, stack: &mut Stack<'a>) -> Result<Move, Stop<'a>>
     requires { IsSpan cx.now.text.now cx.now.token }
-    ensures { Moves result stack.new (on_tuple_closed cx.now.text.now cx.now.token (frames stack.old)
-        (stacked (λ e. tree_of e.tree) components.entry.items [])) }
+    ensures { Moves result stack.new (on_tuple_closed cx.now.text.now cx.now.token
+        (frames_of (without_expr_list (shown stack.old))) (top_expr_list (shown stack.old).parts)) }
 {
-    let Some(frame) = stack.pop() else {
-        return Err(cx.refuse());
-    };
-    match frame {
-        Frame::Measuring(at) => {
-            let outer = stack.take_expr_list()?;
+    match stack.pop() {
+        Some(Frame::Measuring(at)) => {
+            let components = stack.take_expr_list();
+            let outer = stack.take_expr_list();
             on_tuple_within(cx, stack, at, outer, components)
         }
         _ => Err(cx.refuse()),
@@ -299,21 +259,17 @@ fn on_tuple_within<'a>(
     if !outer.is_empty() {
         return Err(cx.refuse());
     }
-    on_measured(cx, stack, at, components)
+    stack.put_expr_list(components)?;
+    on_measured(cx, stack, at)
 }
 
 /// Behind the inner bracket of a measure.
-pub fn on_after_tuple<'a>(
-    cx: &Current<'a, '_>,
-    stack: &mut Stack<'a>,
-    components: Vec<Built<Expr<'a>>>,
-) -> Result<Move, Stop<'a>>
+pub fn on_after_tuple<'a>(cx: &Current<'a, '_>, stack: &mut Stack<'a>) -> Result<Move, Stop<'a>>
     requires { IsSpan cx.now.text.now cx.now.token }
-    ensures { Moves result stack.new (on_after_tuple cx.now.text.now cx.now.token (frames stack.old)
-        (stacked (λ e. tree_of e.tree) components.entry.items []) cx.now.token.kind) }
+    ensures { Moves result stack.new (step_in cx.now.text.now cx.now.token AfterTuple (shown stack.old)) }
 {
     match cx.token.kind {
-        TokenKind::Mark(Bracket::CloseRound) => on_tuple_closed(cx, stack, components),
+        TokenKind::Mark(Bracket::CloseRound) => on_tuple_closed(cx, stack),
         _ => Err(cx.refuse()),
     }
 }

@@ -3,47 +3,35 @@
 ghost use Rattle.std.specs.Prelude.{◌≡◌, IfOk};
 ghost use Rattle.pp_tokens.specs.Spans.{IsSpan};
 ghost use Rattle.pp_tree.specs.Plain.{field};
-ghost use Rattle.pp_tree.specs.Shown.{tree_of};
 ghost use Rattle.pp_grammar.specs.Words.{word};
-ghost use Rattle.pp_grammar.specs.StepExprs.{on_binary, on_dot, on_dot_name, on_ensuring, on_guard, on_have};
-ghost use Rattle.pp_grammar.specs.StepExprs.{on_have_negative, on_holds, on_match, on_negative_dot};
+ghost use Rattle.pp_grammar.specs.StepExprs.{on_binary, on_dot_name, on_ensuring, on_guard, on_holds, on_match};
 ghost use Rattle.pp_grammar.specs.StepExprs.{on_negative_field, on_operand, on_post_word};
-ghost use Rattle.pp_parse_state.specs.declared.stack.Stack.{Stack};
-ghost use Rattle.pp_parse_state.specs.Shown.{frames, Moves};
+ghost use Rattle.pp_parse_state.specs.declared.mode.Mode.TheVariants.{AfterDot, AfterNegativeDot, Have, HaveNegative};
+ghost use Rattle.pp_parse_state.specs.Shown.{Moves, expr_on, shown, step_in, under_expr, with_expr, without_expr};
 ghost use Rattle.pp_parse_state.specs.Words.{role_of};
 
 use crate::closing::on_end;
-use pp_parse_frames::contracts::holding;
-use pp_parse_frames::opening::{behind_expr, open};
+use pp_parse_frames::contracts::hold;
+use pp_parse_frames::opening::open;
 use pp_parse_state::operators::{LOOSEST, binary_of, level};
 use pp_parse_state::words::Role;
-use pp_parse_state::{Current, Frame, Mode, Move, NoMemory, Stack, Stop, keep, unwind};
+use pp_parse_state::{Current, Frame, Mode, Move, NoMemory, Stack, Stop, unwind};
 use pp_tokens::{Bracket, Operator, Reserved, TokenKind};
-use pp_tree::{BinaryOp, Built, Expr, build};
+use pp_tree::{BinaryOp, build};
 
 /// The level of any expression.
 pub(crate) const ANY: u32 = 0;
 
 /// `=>` ends a guard.
-fn on_guard<'a>(
-    cx: &Current<'a, '_>,
-    stack: &mut Stack<'a>,
-    tree: &'a Built<Expr<'a>>,
-    holed: bool,
-) -> Result<Move, Stop<'a>>
+fn on_guard<'a>(cx: &Current<'a, '_>, stack: &mut Stack<'a>, holed: bool) -> Result<Move, Stop<'a>>
     requires { IsSpan cx.now.text.now cx.now.token }
-    ensures { Moves result stack.new (on_guard cx.now.text.now cx.now.token (frames stack.old)
-        (tree_of tree.now.tree) holed) }
+    ensures { Moves result stack.new (on_guard cx.now.text.now cx.now.token (under_expr (shown stack.old))
+        (expr_on (shown stack.old)) holed) }
 {
-    let Some(frame) = stack.pop() else {
-        return Err(cx.refuse());
-    };
-    match frame {
-        Frame::Guarding => {
-            if holed {
-                return Err(cx.refuse());
-            }
-            stack.put_guard(Some(tree))?;
+    match stack.pop() {
+        Some(Frame::Guarding) if !holed => {
+            let guard = stack.take_expr();
+            stack.put_guard(Some(guard))?;
             open(stack, Frame::Arm, Mode::WantStat)
         }
         _ => Err(cx.refuse()),
@@ -51,42 +39,29 @@ fn on_guard<'a>(
 }
 
 /// `match` stands behind an operand.
-fn on_match<'a>(
-    cx: &Current<'a, '_>,
-    stack: &mut Stack<'a>,
-    tree: &'a Built<Expr<'a>>,
-    holed: bool,
-) -> Result<Move, Stop<'a>>
+fn on_match<'a>(cx: &Current<'a, '_>, stack: &mut Stack<'a>, holed: bool) -> Result<Move, Stop<'a>>
     requires { IsSpan cx.now.text.now cx.now.token }
-    ensures { Moves result stack.new (on_match cx.now.text.now cx.now.token (frames stack.old)
-        (tree_of tree.now.tree) holed) }
+    ensures { Moves result stack.new (on_match cx.now.text.now cx.now.token (under_expr (shown stack.old))
+        (expr_on (shown stack.old)) holed) }
 {
     if holed || stack.floor() > 0 {
         return Err(cx.refuse());
     }
-    behind_expr(stack, tree, Mode::AfterMatch(cx.token.from))
+    Ok(Move::Go(Mode::AfterMatch(cx.token.from)))
 }
 
 /// `ensuring` stands behind what the body of a function is.
 fn on_ensuring<'a>(
     cx: &Current<'a, '_>,
     stack: &mut Stack<'a>,
-    tree: &'a Built<Expr<'a>>,
     holed: bool,
 ) -> Result<Move, Stop<'a>>
     requires { IsSpan cx.now.text.now cx.now.token }
-    ensures { Moves result stack.new (on_ensuring cx.now.text.now cx.now.token (frames stack.old)
-        (tree_of tree.now.tree) holed) }
+    ensures { Moves result stack.new (on_ensuring cx.now.text.now cx.now.token (under_expr (shown stack.old))
+        (expr_on (shown stack.old)) holed) }
 {
-    let Some(frame) = stack.pop() else {
-        return Err(cx.refuse());
-    };
-    match frame {
-        Frame::BodyOf => {
-            if holed {
-                return Err(cx.refuse());
-            }
-            stack.put_expr(tree)?;
+    match stack.pop() {
+        Some(Frame::BodyOf) if !holed => {
             open(stack, Frame::BodyOf, Mode::AfterEnsuring(cx.token.from))
         }
         _ => Err(cx.refuse()),
@@ -94,27 +69,14 @@ fn on_ensuring<'a>(
 }
 
 /// `holds` stands behind what the body of a function is.
-fn on_holds<'a>(
-    cx: &Current<'a, '_>,
-    stack: &mut Stack<'a>,
-    tree: &'a Built<Expr<'a>>,
-    holed: bool,
-) -> Result<Move, Stop<'a>>
+fn on_holds<'a>(cx: &Current<'a, '_>, stack: &mut Stack<'a>, holed: bool) -> Result<Move, Stop<'a>>
     requires { IsSpan cx.now.text.now cx.now.token }
-    ensures { Moves result stack.new (on_holds cx.now.text.now cx.now.token (frames stack.old)
-        (tree_of tree.now.tree) holed) }
+    ensures { Moves result stack.new (on_holds cx.now.text.now cx.now.token (under_expr (shown stack.old))
+        (expr_on (shown stack.old)) holed) }
 {
-    let Some(frame) = stack.pop() else {
-        return Err(cx.refuse());
-    };
-    match frame {
-        Frame::BodyOf => {
-            if holed {
-                return Err(cx.refuse());
-            }
-            let post = holding(cx, cx.token.from)?;
-            stack.put_expr(tree)?;
-            stack.put_post(Some(post))?;
+    match stack.pop() {
+        Some(Frame::BodyOf) if !holed => {
+            hold(cx, stack)?;
             open(stack, Frame::BodyOf, Mode::AfterBody)
         }
         _ => Err(cx.refuse()),
@@ -125,17 +87,16 @@ fn on_holds<'a>(
 pub fn on_post_word<'a>(
     cx: &Current<'a, '_>,
     stack: &mut Stack<'a>,
-    tree: &'a Built<Expr<'a>>,
     holed: bool,
     role: Role,
 ) -> Result<Move, Stop<'a>>
     requires { IsSpan cx.now.text.now cx.now.token }
-    ensures { Moves result stack.new (on_post_word cx.now.text.now cx.now.token (frames stack.old)
-        (tree_of tree.now.tree) holed (role_of role)) }
+    ensures { Moves result stack.new (on_post_word cx.now.text.now cx.now.token (under_expr (shown stack.old))
+        (expr_on (shown stack.old)) holed (role_of role)) }
 {
     match role {
-        Role::Ensuring => on_ensuring(cx, stack, tree, holed),
-        Role::Holds => on_holds(cx, stack, tree, holed),
+        Role::Ensuring => on_ensuring(cx, stack, holed),
+        Role::Holds => on_holds(cx, stack, holed),
         _ => Err(cx.refuse()),
     }
 }
@@ -144,23 +105,17 @@ pub fn on_post_word<'a>(
 fn on_binary<'a>(
     cx: &Current<'a, '_>,
     stack: &mut Stack<'a>,
-    tree: &'a Built<Expr<'a>>,
     holed: bool,
     op: Option<BinaryOp>,
 ) -> Result<Move, Stop<'a>>
     requires { IsSpan cx.now.text.now cx.now.token }
-    ensures { Moves result stack.new (on_binary cx.now.text.now cx.now.token (frames stack.old)
-        (tree_of tree.now.tree) holed op) }
+    ensures { Moves result stack.new (on_binary cx.now.text.now cx.now.token (under_expr (shown stack.old))
+        (expr_on (shown stack.old)) holed op) }
 {
     match op {
         Some(op) => {
-            let left = unwind(cx.arena, stack, level(op), tree, holed)?;
-            stack.put_expr(left.tree)?;
-            open(
-                stack,
-                Frame::Left(cx.token.from, op, left.holed),
-                Mode::Want,
-            )
+            let holed = unwind(cx.arena, stack, level(op), holed)?;
+            open(stack, Frame::Left(cx.token.from, op, holed), Mode::Want)
         }
         None => Err(cx.refuse()),
     }
@@ -170,30 +125,29 @@ fn on_binary<'a>(
 pub fn on_operand<'a>(
     cx: &Current<'a, '_>,
     stack: &mut Stack<'a>,
-    tree: &'a Built<Expr<'a>>,
     holed: bool,
 ) -> Result<Move, Stop<'a>>
     requires { IsSpan cx.now.text.now cx.now.token }
-    ensures { Moves result stack.new (on_operand cx.now.text.now cx.now.token (frames stack.old)
-        (tree_of tree.now.tree) holed cx.now.token.kind) }
+    ensures { Moves result stack.new (on_operand cx.now.text.now cx.now.token (under_expr (shown stack.old))
+        (expr_on (shown stack.old)) holed cx.now.token.kind) }
 {
     match cx.token.kind {
         TokenKind::Op(Operator::Arrow) => {
-            let guard = unwind(cx.arena, stack, LOOSEST, tree, holed)?;
-            on_guard(cx, stack, guard.tree, guard.holed)
+            let holed = unwind(cx.arena, stack, LOOSEST, holed)?;
+            on_guard(cx, stack, holed)
         }
-        TokenKind::Op(operator) => on_binary(cx, stack, tree, holed, binary_of(operator)),
+        TokenKind::Op(operator) => on_binary(cx, stack, holed, binary_of(operator)),
         TokenKind::Word(Reserved::Match) => {
-            let matched = unwind(cx.arena, stack, LOOSEST, tree, holed)?;
-            on_match(cx, stack, matched.tree, matched.holed)
+            let holed = unwind(cx.arena, stack, LOOSEST, holed)?;
+            on_match(cx, stack, holed)
         }
         TokenKind::Name => {
-            let body = unwind(cx.arena, stack, LOOSEST, tree, holed)?;
-            on_post_word(cx, stack, body.tree, body.holed, cx.role())
+            let holed = unwind(cx.arena, stack, LOOSEST, holed)?;
+            on_post_word(cx, stack, holed, cx.role())
         }
         _ => {
-            let whole = unwind(cx.arena, stack, ANY, tree, holed)?;
-            on_end(cx, stack, whole.tree, whole.holed)
+            let holed = unwind(cx.arena, stack, ANY, holed)?;
+            on_end(cx, stack, holed)
         }
     }
 }
@@ -202,50 +156,45 @@ pub fn on_operand<'a>(
 pub fn on_have<'a>(
     cx: &Current<'a, '_>,
     stack: &mut Stack<'a>,
-    tree: &'a Built<Expr<'a>>,
     holed: bool,
 ) -> Result<Move, Stop<'a>>
     requires { IsSpan cx.now.text.now cx.now.token }
-    ensures { Moves result stack.new (on_have cx.now.text.now cx.now.token (frames stack.old)
-        (tree_of tree.now.tree) holed cx.now.token.kind) }
+    ensures { Moves result stack.new (step_in cx.now.text.now cx.now.token (Have holed) (shown stack.old)) }
 {
     match cx.token.kind {
-        TokenKind::Mark(Bracket::Dot) => behind_expr(stack, tree, Mode::AfterDot(holed)),
-        _ => on_operand(cx, stack, tree, holed),
+        TokenKind::Mark(Bracket::Dot) => Ok(Move::Go(Mode::AfterDot(holed))),
+        _ => on_operand(cx, stack, holed),
     }
 }
 
-/// The field of the expression with the token's name.
-fn field_of<'a>(
-    cx: &Current<'a, '_>,
-    tree: &'a Built<Expr<'a>>,
-) -> Result<&'a Built<Expr<'a>>, NoMemory>
+/// The expression on the stack becomes its field with the token's name.
+fn select<'a>(cx: &Current<'a, '_>, stack: &mut Stack<'a>) -> Result<(), NoMemory>
     requires { IsSpan cx.now.text.now cx.now.token }
-    ensures { IfOk result (λ e. tree_of e.now.tree ≡ field cx.now.token.from (tree_of tree.now.tree)
-        (word cx.now.text.now cx.now.token)) }
+    ensures { IfOk result (λ _. shown stack.new ≡ with_expr (field cx.now.token.from (expr_on (shown stack.old))
+        (word cx.now.text.now cx.now.token)) (without_expr (shown stack.old))) }
 {
-    let field = build::field(cx.arena, cx.token.from, *tree, cx.word()?)?;
-    keep(cx.arena, field)
+    let of = stack.take_expr();
+    let field = build::field(cx.arena, cx.token.from, *of, cx.word()?)?;
+    stack.keep_expr(cx.arena, field)
 }
 
 /// A name behind a dot: of a field, `ensuring` or `holds`.
 fn on_dot_name<'a>(
     cx: &Current<'a, '_>,
     stack: &mut Stack<'a>,
-    tree: &'a Built<Expr<'a>>,
     holed: bool,
     role: Role,
 ) -> Result<Move, Stop<'a>>
     requires { IsSpan cx.now.text.now cx.now.token }
-    ensures { Moves result stack.new (on_dot_name cx.now.text.now cx.now.token (frames stack.old)
-        (tree_of tree.now.tree) holed (role_of role)) }
+    ensures { Moves result stack.new (on_dot_name cx.now.text.now cx.now.token (under_expr (shown stack.old))
+        (expr_on (shown stack.old)) holed (role_of role)) }
 {
     match role {
         Role::Plain => {
-            let field = field_of(cx, tree)?;
-            behind_expr(stack, field, Mode::Have(holed))
+            select(cx, stack)?;
+            Ok(Move::Go(Mode::Have(holed)))
         }
-        _ => on_post_word(cx, stack, tree, holed, role),
+        _ => on_post_word(cx, stack, holed, role),
     }
 }
 
@@ -253,32 +202,25 @@ fn on_dot_name<'a>(
 pub fn on_dot<'a>(
     cx: &Current<'a, '_>,
     stack: &mut Stack<'a>,
-    tree: &'a Built<Expr<'a>>,
     holed: bool,
 ) -> Result<Move, Stop<'a>>
     requires { IsSpan cx.now.text.now cx.now.token }
-    ensures { Moves result stack.new (on_dot cx.now.text.now cx.now.token (frames stack.old)
-        (tree_of tree.now.tree) holed cx.now.token.kind) }
+    ensures { Moves result stack.new (step_in cx.now.text.now cx.now.token (AfterDot holed) (shown stack.old)) }
 {
     match cx.token.kind {
-        TokenKind::Name => on_dot_name(cx, stack, tree, holed, cx.role()),
+        TokenKind::Name => on_dot_name(cx, stack, holed, cx.role()),
         _ => Err(cx.refuse()),
     }
 }
 
 /// Behind a number with a sign.
-pub fn on_have_negative<'a>(
-    cx: &Current<'a, '_>,
-    stack: &mut Stack<'a>,
-    tree: &'a Built<Expr<'a>>,
-) -> Result<Move, Stop<'a>>
+pub fn on_have_negative<'a>(cx: &Current<'a, '_>, stack: &mut Stack<'a>) -> Result<Move, Stop<'a>>
     requires { IsSpan cx.now.text.now cx.now.token }
-    ensures { Moves result stack.new (on_have_negative cx.now.text.now cx.now.token (frames stack.old)
-        (tree_of tree.now.tree) cx.now.token.kind) }
+    ensures { Moves result stack.new (step_in cx.now.text.now cx.now.token HaveNegative (shown stack.old)) }
 {
     match cx.token.kind {
-        TokenKind::Mark(Bracket::Dot) => behind_expr(stack, tree, Mode::AfterNegativeDot),
-        _ => on_operand(cx, stack, tree, false),
+        TokenKind::Mark(Bracket::Dot) => Ok(Move::Go(Mode::AfterNegativeDot)),
+        _ => on_operand(cx, stack, false),
     }
 }
 
@@ -286,34 +228,28 @@ pub fn on_have_negative<'a>(
 fn on_negative_field<'a>(
     cx: &Current<'a, '_>,
     stack: &mut Stack<'a>,
-    tree: &'a Built<Expr<'a>>,
     role: Role,
 ) -> Result<Move, Stop<'a>>
     requires { IsSpan cx.now.text.now cx.now.token }
-    ensures { Moves result stack.new (on_negative_field cx.now.text.now cx.now.token (frames stack.old)
-        (tree_of tree.now.tree) (role_of role)) }
+    ensures { Moves result stack.new (on_negative_field cx.now.text.now cx.now.token (under_expr (shown stack.old))
+        (expr_on (shown stack.old)) (role_of role)) }
 {
     match role {
         Role::Plain => {
-            let field = field_of(cx, tree)?;
-            behind_expr(stack, field, Mode::HaveNegative)
+            select(cx, stack)?;
+            Ok(Move::Go(Mode::HaveNegative))
         }
         _ => Err(cx.refuse()),
     }
 }
 
 /// Behind a number with a sign and a dot.
-pub fn on_negative_dot<'a>(
-    cx: &Current<'a, '_>,
-    stack: &mut Stack<'a>,
-    tree: &'a Built<Expr<'a>>,
-) -> Result<Move, Stop<'a>>
+pub fn on_negative_dot<'a>(cx: &Current<'a, '_>, stack: &mut Stack<'a>) -> Result<Move, Stop<'a>>
     requires { IsSpan cx.now.text.now cx.now.token }
-    ensures { Moves result stack.new (on_negative_dot cx.now.text.now cx.now.token (frames stack.old)
-        (tree_of tree.now.tree) cx.now.token.kind) }
+    ensures { Moves result stack.new (step_in cx.now.text.now cx.now.token AfterNegativeDot (shown stack.old)) }
 {
     match cx.token.kind {
-        TokenKind::Name => on_negative_field(cx, stack, tree, cx.role()),
+        TokenKind::Name => on_negative_field(cx, stack, cx.role()),
         _ => Err(cx.refuse()),
     }
 }

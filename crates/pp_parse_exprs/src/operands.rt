@@ -4,9 +4,9 @@ ghost use Rattle.std.specs.Prelude.{◌∷◌, cond, false, nat_le};
 ghost use Rattle.pp_tokens.specs.Spans.{IsSpan};
 ghost use Rattle.pp_grammar.specs.Frames.{go, have, prefixing, want};
 ghost use Rattle.pp_grammar.specs.Joining.{floor};
-ghost use Rattle.pp_grammar.specs.StepExprs.{on_if, on_minus, on_negative, on_number, on_operand_name, on_want};
-ghost use Rattle.pp_grammar.specs.StepExprs.{on_want_then};
-ghost use Rattle.pp_parse_state.specs.Shown.{frames, Moves};
+ghost use Rattle.pp_grammar.specs.StepExprs.{on_negative, on_number, on_operand_name, on_want};
+ghost use Rattle.pp_parse_state.specs.declared.mode.Mode.TheVariants.{AfterIf, AfterMinus, Want, WantThen};
+ghost use Rattle.pp_parse_state.specs.Shown.{Moves, frames, shown, step_in};
 ghost use Rattle.pp_parse_state.specs.Words.{role_of};
 ghost use Rattle.pp_tokens.specs.declared.token.TokenKind.TheVariants.{Hole, Op, Word as Reserve};
 ghost use Rattle.pp_tokens.specs.declared.token.Reserved.TheVariants.{If};
@@ -16,11 +16,11 @@ ghost use Rattle.pp_tree.specs.Plain.{bool as plain_bool};
 ghost use Rattle.pp_grammar.specs.StepTypes.{refuse};
 
 use pp_parse_frames::contracts::RES;
-use pp_parse_frames::opening::{behind_expr, behind_name, open};
+use pp_parse_frames::opening::{behind_expr, behind_word, open};
 use pp_parse_state::numbers::{is_signed, negative_of, number_of};
 use pp_parse_state::operators::TIGHTEST;
 use pp_parse_state::words::Role;
-use pp_parse_state::{Current, Frame, Mode, Move, Stack, Stop, keep};
+use pp_parse_state::{Current, Frame, Mode, Move, Stack, Stop};
 use pp_tokens::{Bracket, Operator, Reserved, TokenKind};
 use pp_tree::UnaryOp;
 use pp_tree::build::{bool, int, name};
@@ -35,11 +35,7 @@ fn on_number<'a>(
     ensures { Moves result stack.new (on_number cx.now.text.now cx.now.token (frames stack.old) value) }
 {
     match value {
-        Some(n) => behind_expr(
-            stack,
-            keep(cx.arena, int(cx.token.from, n))?,
-            Mode::Have(false),
-        ),
+        Some(n) => behind_expr(cx, stack, int(cx.token.from, n), Mode::Have(false)),
         None => Err(cx.refuse()),
     }
 }
@@ -55,7 +51,7 @@ pub fn on_operand_name<'a>(
 {
     let from = cx.token.from;
     match role {
-        Role::Plain => behind_name(stack, cx.word()?, Mode::AfterName(from)),
+        Role::Plain => behind_word(cx, stack, Mode::AfterName(from)),
         Role::Int => Ok(Move::Go(Mode::AfterInt(from))),
         _ => Err(cx.refuse()),
     }
@@ -65,15 +61,13 @@ pub fn on_operand_name<'a>(
 fn on_bool<'a>(cx: &Current<'a, '_>, stack: &mut Stack<'a>, value: bool) -> Result<Move, Stop<'a>>
     ensures { Moves result stack.new (go (frames stack.old) (have (plain_bool cx.now.token.from value) false)) }
 {
-    let tree = keep(cx.arena, bool(cx.token.from, value))?;
-    behind_expr(stack, tree, Mode::Have(false))
+    behind_expr(cx, stack, bool(cx.token.from, value), Mode::Have(false))
 }
 
 /// An operand is wanted, with or without a prefix.
 pub fn on_want<'a>(cx: &Current<'a, '_>, stack: &mut Stack<'a>) -> Result<Move, Stop<'a>>
     requires { IsSpan cx.now.text.now cx.now.token }
-    ensures { Moves result stack.new (on_want cx.now.text.now cx.now.token (frames stack.old)
-        cx.now.token.kind) }
+    ensures { Moves result stack.new (step_in cx.now.text.now cx.now.token Want (shown stack.old)) }
 {
     match cx.token.kind {
         TokenKind::Number(_) => on_number(cx, stack, number_of(cx.token.kind)),
@@ -103,7 +97,7 @@ fn on_negative<'a>(
     ensures { Moves result stack.new (on_negative cx.now.text.now cx.now.token (frames stack.old) at value) }
 {
     match value {
-        Some(n) => behind_expr(stack, keep(cx.arena, int(at, n))?, Mode::HaveNegative),
+        Some(n) => behind_expr(cx, stack, int(at, n), Mode::HaveNegative),
         None => Err(cx.refuse()),
     }
 }
@@ -116,8 +110,7 @@ pub fn on_minus<'a>(
     end: u32,
 ) -> Result<Move, Stop<'a>>
     requires { IsSpan cx.now.text.now cx.now.token }
-    ensures { Moves result stack.new (on_minus cx.now.text.now cx.now.token (frames stack.old) at end
-        cx.now.token.kind) }
+    ensures { Moves result stack.new (step_in cx.now.text.now cx.now.token (AfterMinus at end) (shown stack.old)) }
 {
     if is_signed(end, cx.token) {
         return on_negative(cx, stack, at, negative_of(cx.token.kind));
@@ -129,8 +122,7 @@ pub fn on_minus<'a>(
 /// Behind `if`.
 pub fn on_if<'a>(cx: &Current<'a, '_>, stack: &mut Stack<'a>, at: u32) -> Result<Move, Stop<'a>>
     requires { IsSpan cx.now.text.now cx.now.token }
-    ensures { Moves result stack.new (on_if cx.now.text.now cx.now.token (frames stack.old) at
-        cx.now.token.kind) }
+    ensures { Moves result stack.new (step_in cx.now.text.now cx.now.token (AfterIf at) (shown stack.old)) }
 {
     match cx.token.kind {
         TokenKind::Mark(Bracket::OpenRound) => open(stack, Frame::IfTest(at), Mode::Want),
@@ -141,8 +133,7 @@ pub fn on_if<'a>(cx: &Current<'a, '_>, stack: &mut Stack<'a>, at: u32) -> Result
 /// The first branch of an `if` is wanted.
 pub fn on_want_then<'a>(cx: &Current<'a, '_>, stack: &mut Stack<'a>) -> Result<Move, Stop<'a>>
     requires { IsSpan cx.now.text.now cx.now.token }
-    ensures { Moves result stack.new (on_want_then cx.now.text.now cx.now.token (frames stack.old)
-        cx.now.token.kind) }
+    ensures { Moves result stack.new (step_in cx.now.text.now cx.now.token WantThen (shown stack.old)) }
 {
     match cx.token.kind {
         TokenKind::Newline => Ok(Move::Go(Mode::WantThen)),
@@ -158,11 +149,7 @@ fn on_hole<'a>(cx: &Current<'a, '_>, stack: &mut Stack<'a>) -> Result<Move, Stop
     if !stack.takes_hole() {
         return Err(cx.refuse());
     }
-    behind_expr(
-        stack,
-        keep(cx.arena, name(cx.token.from, RES))?,
-        Mode::Have(true),
-    )
+    behind_expr(cx, stack, name(cx.token.from, RES), Mode::Have(true))
 }
 
 /// A minus sign before an operand.

@@ -9,8 +9,7 @@ use Rattle.pp_tree.specs.Shown.{type_trees, pattern_trees, trees, case_trees, ca
 use Rattle.pp_tree.proofs.Folded.{case_is}
 use Rattle.pp_grammar.specs.Frames.{CaseText}
 use Rattle.pp_grammar.specs.Joining.{onto, types_onto, trees_onto, patterns_onto, cases_onto}
-use Rattle.pp_parse_state.specs.Shown.{stacked, case_text}
-use Rattle.pp_parse_state.proofs.Stacked.{stacked_push}
+use Rattle.pp_parse_state.specs.Values.{stacked, case_text}
 
 list_onto : {A B : Type 0} (f : B → A) (xs : List B) (ds us : List A)
     → onto (stacked f xs ds) us ≡ onto ds (map f xs ++ us)
@@ -29,32 +28,22 @@ pub types_whole : {B : Type 0} (f : B → TypeTree) (xs : List B)
     → types_onto (stacked f xs []) no_types ≡ type_trees (map f xs)
 types_whole f xs = types_stacked f xs [] [] ∙ ap type_trees (append-nil (map f xs))
 
-pub types_finished : {B : Type 0} (f : B → TypeTree) (xs : List B) (x : B)
-    → types_onto (f x ∷ stacked f xs []) no_types ≡ type_trees (map f (xs ++ x ∷ []))
-types_finished f xs x =
-    ap (λ ts. types_onto ts no_types) (sym (stacked_push f xs x [])) ∙ types_whole f (xs ++ x ∷ [])
-
 trees_stacked : {B : Type 0} (f : B → Tree) (xs : List B) (ds us : List Tree)
     → trees_onto (stacked f xs ds) (trees us) ≡ trees_onto ds (trees (map f xs ++ us))
 trees_stacked f [] ds us = refl
 trees_stacked f (x ∷ xs) ds us = trees_stacked f xs (f x ∷ ds) us
 
-pub trees_finished : {B : Type 0} (f : B → Tree) (xs : List B) (x : B)
-    → trees_onto (f x ∷ stacked f xs []) no_trees ≡ trees (map f (xs ++ x ∷ []))
-trees_finished f xs x =
-    ap (λ ts. trees_onto ts no_trees) (sym (stacked_push f xs x [])) ∙ trees_stacked f (xs ++ x ∷ []) [] []
-    ∙ ap trees (append-nil (map f (xs ++ x ∷ [])))
+pub trees_whole : {B : Type 0} (f : B → Tree) (xs : List B) → trees_onto (stacked f xs []) no_trees ≡ trees (map f xs)
+trees_whole f xs = trees_stacked f xs [] [] ∙ ap trees (append-nil (map f xs))
 
 patterns_stacked : {B : Type 0} (f : B → PatternTree) (xs : List B) (ds us : List PatternTree)
     → patterns_onto (stacked f xs ds) (pattern_trees us) ≡ patterns_onto ds (pattern_trees (map f xs ++ us))
 patterns_stacked f [] ds us = refl
 patterns_stacked f (x ∷ xs) ds us = patterns_stacked f xs (f x ∷ ds) us
 
-pub patterns_finished : {B : Type 0} (f : B → PatternTree) (xs : List B) (x : B)
-    → patterns_onto (f x ∷ stacked f xs []) no_patterns ≡ pattern_trees (map f (xs ++ x ∷ []))
-patterns_finished f xs x =
-    ap (λ ts. patterns_onto ts no_patterns) (sym (stacked_push f xs x [])) ∙ patterns_stacked f (xs ++ x ∷ []) [] []
-    ∙ ap pattern_trees (append-nil (map f (xs ++ x ∷ [])))
+pub patterns_whole : {B : Type 0} (f : B → PatternTree) (xs : List B)
+    → patterns_onto (stacked f xs []) no_patterns ≡ pattern_trees (map f xs)
+patterns_whole f xs = patterns_stacked f xs [] [] ∙ ap pattern_trees (append-nil (map f xs))
 
 -- ---- cases
 
@@ -93,24 +82,3 @@ cases_stacked f (x ∷ xs) ds us =
 pub cases_finished : {B : Type 0} (f : B → Case) (xs : List B)
     → cases_onto (stacked (λ x. case_text (f x)) xs []) no_cases ≡ case_trees (map (λ x. case_of (f x)) xs)
 cases_finished f xs = cases_stacked f xs [] [] ∙ ap case_trees (append-nil (map (λ x. case_of (f x)) xs))
-
--- ---- lists with one item more
-
-pub types_pushed : {B : Type 0} (f : B → TypeTree) (xs ys : List B) (x : B) → ys ≡ xs ++ x ∷ []
-    → type_trees (map f ys) ≡ types_onto (f x ∷ stacked f xs []) no_types
-types_pushed f xs ys x e = ap (λ zs. type_trees (map f zs)) e ∙ sym (types_finished f xs x)
-
-pub patterns_pushed : {B : Type 0} (f : B → PatternTree) (xs ys : List B) (x : B) → ys ≡ xs ++ x ∷ []
-    → pattern_trees (map f ys) ≡ patterns_onto (f x ∷ stacked f xs []) no_patterns
-patterns_pushed f xs ys x e = ap (λ zs. pattern_trees (map f zs)) e ∙ sym (patterns_finished f xs x)
-
-pub trees_pushed : {B : Type 0} (f : B → Tree) (xs ys : List B) (x : B) → ys ≡ xs ++ x ∷ []
-    → trees (map f ys) ≡ trees_onto (f x ∷ stacked f xs []) no_trees
-trees_pushed f xs ys x e = ap (λ zs. trees (map f zs)) e ∙ sym (trees_finished f xs x)
-
-pub cases_pushed : {B : Type 0} (f : B → Case) (xs ys : List B) (x : B) → ys ≡ xs ++ x ∷ []
-    → case_trees (map (λ y. case_of (f y)) ys)
-    ≡ cases_onto (case_text (f x) ∷ stacked (λ y. case_text (f y)) xs []) no_cases
-cases_pushed f xs ys x e =
-    ap (λ zs. case_trees (map (λ y. case_of (f y)) zs)) e ∙ sym (cases_finished f (xs ++ x ∷ []))
-    ∙ ap (λ ds. cases_onto ds no_cases) (stacked_push (λ y. case_text (f y)) xs x [])

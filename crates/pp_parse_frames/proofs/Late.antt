@@ -2,7 +2,7 @@
 use Rattle.std.proofs.Common.{◌≡◌, ℕ, ◌<◌, length, arith, List, [], ◌∷◌, refl, Some, None}
 use Rattle.pp_tree.specs.Plain.{Tree}
 use Rattle.pp_grammar.specs.Joining.{late_behind}
-use Rattle.pp_parse_state.specs.Shown.{stacked}
+use Rattle.pp_parse_state.specs.Values.{stacked}
 
 behind_more : {B : Type 0} (f : B → Tree) (xs : List B) (y : Tree) (ys : List Tree) (at : ℕ)
     → late_behind (stacked f xs (y ∷ ys)) at ≡ Some at

@@ -1,36 +1,36 @@
 //! Contracts, postconditions and misplaced names.
 
-ghost use Rattle.std.specs.Prelude.{◌≡◌, [], IfOk, None, option_map};
+ghost use Rattle.std.specs.Prelude.{◌≡◌, [], IfOk, None, Some};
 ghost use Rattle.pp_tokens.specs.declared.token.Token.{Token};
-ghost use Rattle.pp_tree.specs.Parts.{claim_parts};
-ghost use Rattle.pp_tree.specs.Plain.{Word, name};
-ghost use Rattle.pp_tree.specs.Shown.{tree_of, type_of};
-ghost use Rattle.pp_grammar.specs.Words.{res};
-ghost use Rattle.pp_grammar.specs.Joining.{late_behind, with_measure, with_requirement, with_word};
+ghost use Rattle.pp_tokens.specs.Spans.{IsSpan};
+ghost use Rattle.pp_tree.specs.Plain.{Word};
+ghost use Rattle.pp_tree.specs.Shown.{tree_of};
+ghost use Rattle.pp_grammar.specs.Words.{word};
+ghost use Rattle.pp_grammar.specs.Joining.{late_behind};
 ghost use Rattle.pp_grammar.specs.StepBodies.{misplaced_name};
-ghost use Rattle.pp_parse_state.specs.Shown.{Stops, contracts_of, stacked};
+ghost use Rattle.pp_grammar.specs.Bodies.{holding_at};
+ghost use Rattle.pp_parse_state.specs.Shown.{Stops, shown, with_post};
+ghost use Rattle.pp_parse_state.specs.Values.{stacked};
 ghost use Rattle.pp_parse_state.specs.Words.{role_of};
+ghost use Rattle.pp_parse_frames.specs.Taken.{claimed, measure_added, requirement_added, word_added};
 
 use pp_parse_state::words::Role;
-use pp_parse_state::{Contracts, Current, NoMemory, Placed, Stop, keep, type_itself};
+use pp_parse_state::{Current, NoMemory, Placed, Stack, Stop, keep, type_itself};
 use pp_tree::build::Claim;
-use pp_tree::{Built, Expr, TypeText, build};
+use pp_tree::{Built, Expr, build};
 
 /// The name of the result in `holds` and in a claim with a hole.
 pub const RES: &str = "res";
 
-/// The contracts with one requirement more.
+/// The contracts on the stack have one requirement more: the expression on the stack.
 #[tactic(auto, using(pp_parse_state::proofs::Stacked::stacked_push))]
-pub fn with_requirement<'a>(
-    contracts: Contracts<'a>,
-    claim: &'a Built<Expr<'a>>,
-) -> Result<Contracts<'a>, NoMemory>
-    ensures { IfOk result (λ c. contracts_of c ≡ with_requirement (contracts_of contracts.entry)
-        (tree_of claim.now.tree)) }
+pub fn add_requirement(stack: &mut Stack<'_>) -> Result<(), NoMemory>
+    ensures { IfOk result (λ _. shown stack.new ≡ requirement_added (shown stack.old)) }
 {
-    let mut contracts = contracts;
+    let claim = stack.take_expr();
+    let mut contracts = stack.take_contracts();
     contracts.requirements.push(*claim)?;
-    Ok(contracts)
+    stack.put_contracts(contracts)
 }
 
 /// Where a `decreases` stands that no `require` may follow, since one stands before it.
@@ -44,68 +44,62 @@ fn late_behind(requirements: &[Built<Expr>], at: u32) -> Option<u32>
     Some(at)
 }
 
-/// The contracts with the measure, whose `decreases` stands at the offset.
+/// The contracts on the stack have the measure whose `decreases` stands at the offset: the list of expressions.
 #[tactic(auto, using(crate::proofs::Finished::list_finished))]
-pub fn with_measure<'a>(
-    contracts: Contracts<'a>,
-    at: u32,
-    components: Vec<Built<Expr<'a>>>,
-) -> Contracts<'a>
-    ensures { contracts_of result ≡ with_measure (contracts_of contracts.entry) at
-        (stacked (λ e. tree_of e.tree) components.entry.items []) }
+pub fn add_measure(stack: &mut Stack<'_>, at: u32) -> Result<(), NoMemory>
+    ensures { IfOk result (λ _. shown stack.new ≡ measure_added at (shown stack.old)) }
 {
-    let mut contracts = contracts;
+    let components = stack.take_expr_list();
+    let mut contracts = stack.take_contracts();
     contracts.late = late_behind(&contracts.requirements, at);
     contracts.measure = components;
-    contracts
+    stack.put_contracts(contracts)
 }
 
-/// The contracts, one of which begins with the word.
-pub fn with_word<'a>(contracts: Contracts<'a>, word: &'a str, at: u32) -> Contracts<'a>
-    ensures { contracts_of result ≡ with_word (contracts_of contracts.entry) word.now at }
+/// One of the contracts on the stack begins with the token.
+pub fn add_word<'a>(cx: &Current<'a, '_>, stack: &mut Stack<'a>) -> Result<(), NoMemory>
+    requires { IsSpan cx.now.text.now cx.now.token }
+    ensures { IfOk result (λ _. shown stack.new ≡ word_added (word cx.now.text.now cx.now.token) cx.now.token.from
+        (shown stack.old)) }
 {
-    let mut contracts = contracts;
+    let word = cx.word()?;
+    let mut contracts = stack.take_contracts();
     if contracts.first.is_none() {
-        contracts.first = Some(Placed { word, at });
+        contracts.first = Some(Placed {
+            word,
+            at: cx.token.from,
+        });
     }
-    contracts
+    stack.put_contracts(contracts)
 }
 
-/// The parts of a postcondition.
-pub fn claimed<'a>(
-    cx: &Current<'a, '_>,
-    at: u32,
-    name: &'a str,
-    of: Option<&'a Built<TypeText<'a>>>,
-    claim: &'a Built<Expr<'a>>,
-) -> Result<&'a Claim<'a>, NoMemory>
-    ensures { IfOk result (λ p. claim_parts p.now ≡ record {
-      at = at;
-      name = name.now;
-      of = option_map (λ t. type_of t.now.tree) of.entry;
-      claim = tree_of claim.now.tree;
-    }) }
+/// The name, the type and the expression on the stack become a postcondition.
+pub fn claim<'a>(cx: &Current<'a, '_>, stack: &mut Stack<'a>, at: u32) -> Result<(), NoMemory>
+    ensures { IfOk result (λ _. shown stack.new ≡ claimed at (shown stack.old)) }
 {
-    let parts = Claim {
+    let claim = stack.take_expr();
+    let of = stack.take_given_type();
+    let post = Claim {
         at,
-        name,
+        name: stack.take_name(),
         of: type_itself(of),
         claim: *claim,
     };
-    keep(cx.arena, parts)
+    stack.put_post(Some(keep(cx.arena, post)?))
 }
 
 /// `holds` claims the result itself.
-pub fn holding<'a>(cx: &Current<'a, '_>, at: u32) -> Result<&'a Claim<'a>, NoMemory>
-    ensures { IfOk result (λ p. claim_parts p.now ≡ record { at = at; name = res; of = None; claim = name at res }) }
+pub fn hold<'a>(cx: &Current<'a, '_>, stack: &mut Stack<'a>) -> Result<(), NoMemory>
+    ensures { IfOk result (λ _. shown stack.new ≡ with_post (holding_at cx.now.token) (shown stack.old)) }
 {
-    let parts = Claim {
+    let at = cx.token.from;
+    let post = Claim {
         at,
         name: RES,
         of: None,
         claim: build::name(at, RES),
     };
-    keep(cx.arena, parts)
+    stack.put_post(Some(keep(cx.arena, post)?))
 }
 
 /// The name that was read before is no operand.

@@ -1,42 +1,53 @@
 //! Heads of classes and functions, and what they end in.
 
 ghost use Rattle.std.specs.Prelude.{◌≡◌, IfOk, option_map};
-ghost use Rattle.pp_tree.specs.Shown.{class_of, decl_of, tree_of, type_of};
+ghost use Rattle.pp_tokens.specs.Spans.{IsSpan};
+ghost use Rattle.pp_tree.specs.Shown.{class_of, decl_of, type_of};
 ghost use Rattle.pp_tree.specs.Parts.{claim_parts};
 ghost use Rattle.pp_grammar.specs.Units.{class_decl};
 ghost use Rattle.pp_grammar.specs.Frames.{ends};
-ghost use Rattle.pp_grammar.specs.Joining.{class_tree, def_tree, head_at, object_tree, with_list, with_param};
-ghost use Rattle.pp_grammar.specs.Joining.{with_type_param};
-ghost use Rattle.pp_parse_state.specs.Shown.{Moves, contracts_of, head_of};
+ghost use Rattle.pp_grammar.specs.Joining.{class_tree, def_tree, head_at, object_tree};
+ghost use Rattle.pp_grammar.specs.Words.{word};
+ghost use Rattle.pp_parse_state.specs.Parts.{top_contracts, top_head};
+ghost use Rattle.pp_parse_state.specs.Shown.{Moves, expr_on, name_on, shown, type_on};
+ghost use Rattle.pp_parse_state.specs.Values.{head_of};
+ghost use Rattle.pp_parse_frames.specs.Taken.{param_added, params_ended, type_param_added};
 
-use pp_parse_state::{
-    Contracts, Current, Head, Move, NoMemory, Stack, Stop, claim_itself, keep, type_itself,
-};
+use pp_parse_state::{Current, Head, Move, NoMemory, Stack, Stop, claim_itself, keep, type_itself};
 use pp_tree::build::{Claim, ClassParts, DefParts, class, def, param};
-use pp_tree::{Built, Checked, ClassDecl, Decl, Expr, TypeText};
+use pp_tree::{Built, Checked, ClassDecl, Decl, TypeText};
 
-/// The head with one parameter more.
+/// The head on the stack has one type parameter more: the token.
 #[tactic(auto, using(pp_parse_state::proofs::Stacked::stacked_push))]
-pub fn with_param<'a>(
-    head: Head<'a>,
-    at: u32,
-    name: &'a str,
-    of: &'a Built<TypeText<'a>>,
-) -> Result<Head<'a>, NoMemory>
-    ensures { IfOk result (λ h. head_of h ≡ with_param (head_of head.entry) at name.now (type_of of.now.tree)) }
+pub fn add_type_param<'a>(cx: &Current<'a, '_>, stack: &mut Stack<'a>) -> Result<(), NoMemory>
+    requires { IsSpan cx.now.text.now cx.now.token }
+    ensures { IfOk result (λ _. shown stack.new ≡ type_param_added (word cx.now.text.now cx.now.token)
+        (shown stack.old)) }
 {
-    let mut head = head;
-    head.params.push(param(at, name, *of))?;
-    Ok(head)
+    let mut head = stack.take_head();
+    head.type_params.push(cx.word()?)?;
+    stack.put_head(head)
 }
 
-/// The head with a list of parameters.
-pub fn with_list<'a>(head: Head<'a>) -> Head<'a>
-    ensures { head_of result ≡ with_list (head_of head.entry) }
+/// The head on the stack has one parameter more: that of the name and the type, which are on the stack too.
+#[tactic(auto, using(pp_parse_state::proofs::Stacked::stacked_push))]
+pub fn add_param(stack: &mut Stack<'_>, at: u32) -> Result<(), NoMemory>
+    ensures { IfOk result (λ _. shown stack.new ≡ param_added at (shown stack.old)) }
 {
-    let mut head = head;
+    let of = stack.take_type();
+    let name = stack.take_name();
+    let mut head = stack.take_head();
+    head.params.push(param(at, name, *of))?;
+    stack.put_head(head)
+}
+
+/// The head on the stack has its list of parameters.
+pub fn end_params(stack: &mut Stack<'_>) -> Result<(), NoMemory>
+    ensures { IfOk result (λ _. shown stack.new ≡ params_ended (shown stack.old)) }
+{
+    let mut head = stack.take_head();
     head.listed = true;
-    head
+    stack.put_head(head)
 }
 
 /// Which kind of declaration a class or a trait is: with the word `case` a class is a constructor; with `sealed` and
@@ -61,7 +72,7 @@ fn declared<'a>(
     Checked { tree, deep }
 }
 
-/// The class or trait ends.
+/// The class or trait, whose head is on the stack, ends.
 #[tactic(auto, using(crate::proofs::Finished::list_finished))]
 pub fn class_ends<'a>(
     cx: &Current<'a, '_>,
@@ -69,12 +80,12 @@ pub fn class_ends<'a>(
     sealed: bool,
     case: bool,
     is_trait: bool,
-    head: Head<'a>,
     parent: Option<&'a Built<TypeText<'a>>>,
 ) -> Result<Move, Stop<'a>>
     ensures { Moves result stack.new (ends (class_decl sealed case is_trait
-        (class_tree (head_of head.entry) (option_map (λ t. type_of t.now.tree) parent.entry)))) }
+        (class_tree (top_head (shown stack.old).parts) (option_map (λ t. type_of t.now.tree) parent.entry)))) }
 {
+    let head = stack.take_head();
     let parts = ClassParts {
         at: head.at,
         name: head.name,
@@ -89,19 +100,18 @@ pub fn class_ends<'a>(
     Ok(Move::Ends)
 }
 
-/// The case object ends.
+/// The case object, whose name and parent are on the stack, ends.
 pub fn object_ends<'a>(
     cx: &Current<'a, '_>,
     stack: &mut Stack<'a>,
     at: u32,
-    name: &'a str,
-    of: &'a Built<TypeText<'a>>,
 ) -> Result<Move, Stop<'a>>
-    ensures { Moves result stack.new (ends (object_tree at name.now (type_of of.now.tree))) }
+    ensures { Moves result stack.new (ends (object_tree at (name_on (shown stack.old)) (type_on (shown stack.old)))) }
 {
+    let of = stack.take_type();
     let parts = ClassParts {
         at,
-        name,
+        name: stack.take_name(),
         params: &[],
         fields: &[],
         parent: Some(*of),
@@ -130,31 +140,21 @@ pub fn head_at<'a>(cx: &Current<'a, '_>, at: u32, name: &'a str) -> Head<'a>
     }
 }
 
-/// The head with one type parameter more.
-#[tactic(auto, using(pp_parse_state::proofs::Stacked::stacked_push))]
-pub fn with_type_param<'a>(head: Head<'a>, name: &'a str) -> Result<Head<'a>, NoMemory>
-    ensures { IfOk result (λ h. head_of h ≡ with_type_param (head_of head.entry) name.now) }
-{
-    let mut head = head;
-    head.type_params.push(name)?;
-    Ok(head)
-}
-
-/// The function ends.
+/// The function ends: its body, the type of its result, its contracts and its head are on the stack.
 #[tactic(auto, using(crate::proofs::Finished::list_finished))]
 pub fn def_ends<'a>(
     cx: &Current<'a, '_>,
     stack: &mut Stack<'a>,
-    head: Head<'a>,
-    result_type: &'a Built<TypeText<'a>>,
-    contracts: Contracts<'a>,
-    body: &'a Built<Expr<'a>>,
     post: Option<&'a Claim<'a>>,
 ) -> Result<Move, Stop<'a>>
-    ensures { Moves result stack.new (ends (def_tree (head_of head.entry)
-        (type_of result_type.now.tree) (contracts_of contracts.entry) (tree_of body.now.tree)
+    ensures { Moves result stack.new (ends (def_tree (top_head (shown stack.old).parts) (type_on (shown stack.old))
+        (top_contracts (shown stack.old).parts) (expr_on (shown stack.old))
         (option_map (λ p. claim_parts p.now) post.entry))) }
 {
+    let body = stack.take_expr();
+    let head = stack.take_head();
+    let result_type = stack.take_type();
+    let contracts = stack.take_contracts();
     let parts = DefParts {
         at: head.at,
         name: head.name,

@@ -1,74 +1,95 @@
-//! Lists of parts that grow at their end.
+//! Lists of parts on the stack: what joins them, and what they become when they end.
 
-ghost use Rattle.std.specs.Prelude.{◌≡◌, [], ◌∷◌, IfOk, map, option_map};
-ghost use Rattle.pp_tree.specs.Plain.{apply, matching, no_cases, no_patterns, no_trees, no_types};
-ghost use Rattle.pp_tree.specs.Shown.{case_of, case_trees, pattern_of, pattern_trees};
-ghost use Rattle.pp_tree.specs.Shown.{tree_of, trees, type_of, type_trees};
-ghost use Rattle.pp_grammar.specs.Joining.{cases_onto, patterns_onto, trees_onto, types_onto};
-ghost use Rattle.pp_parse_state.specs.Shown.{case_text, stacked};
+ghost use Rattle.std.specs.Prelude.{◌≡◌, [], ◌∷◌, IfOk, option_map};
+ghost use Rattle.pp_tree.specs.Plain.{matching, no_cases};
+ghost use Rattle.pp_tree.specs.Shown.{pattern_of, tree_of};
+ghost use Rattle.pp_grammar.specs.Joining.{cases_onto};
+ghost use Rattle.pp_parse_state.specs.Parts.{top_case_list};
+ghost use Rattle.pp_parse_state.specs.Shown.{expr_on, shown, with_case_list, with_expr};
+ghost use Rattle.pp_parse_state.specs.Values.{case_text, stacked};
+ghost use Rattle.pp_parse_state.specs.Shown.{without_case_list, without_expr, without_guard, without_pattern};
+ghost use Rattle.pp_parse_frames.specs.Taken.{applied, applied_alone, case_on, expr_listed, pattern_listed};
+ghost use Rattle.pp_parse_frames.specs.Taken.{pattern_whole, type_listed, type_whole};
 
-use pp_parse_state::{Current, NoMemory, expr_itself, keep};
-use pp_tree::{Built, Case, Expr, Pattern, TypeText, build};
+use pp_parse_state::{Current, NoMemory, Stack, expr_itself};
+use pp_tree::{Built, Case, Expr, Pattern, build};
 
-/// The list with one expression more.
+/// The expression on the stack joins the list of expressions.
 #[tactic(auto, using(pp_parse_state::proofs::Stacked::stacked_push))]
-pub fn pushed<'a>(
-    list: Vec<Built<Expr<'a>>>,
-    last: &'a Built<Expr<'a>>,
-) -> Result<Vec<Built<Expr<'a>>>, NoMemory>
-    ensures { IfOk result (λ v. stacked (λ e. tree_of e.tree) v.items [] ≡ tree_of last.now.tree ∷ stacked
-        (λ e. tree_of e.tree) list.entry.items []) }
+pub fn list_expr(stack: &mut Stack<'_>) -> Result<(), NoMemory>
+    ensures { IfOk result (λ _. shown stack.new ≡ expr_listed (shown stack.old)) }
 {
-    let mut list = list;
+    let last = stack.take_expr();
+    let mut list = stack.take_expr_list();
     list.push(*last)?;
-    Ok(list)
+    stack.put_expr_list(list)
 }
 
-/// The list with one type more, and what it is as a whole.
+/// The type on the stack joins the list of types.
 #[tactic(auto, using(pp_parse_state::proofs::Stacked::stacked_push))]
-pub fn with_type<'a>(
-    list: Vec<Built<TypeText<'a>>>,
-    last: &'a Built<TypeText<'a>>,
-) -> Result<Vec<Built<TypeText<'a>>>, NoMemory>
-    ensures longer { IfOk result (λ v. stacked (λ t. type_of t.tree) v.items []
-        ≡ type_of last.now.tree ∷ stacked (λ t. type_of t.tree) list.entry.items []) }
-    ensures whole { IfOk result (λ v. type_trees (map (λ t. type_of t.tree) v.items)
-        ≡ types_onto (type_of last.now.tree ∷ stacked (λ t. type_of t.tree) list.entry.items []) no_types) }
+pub fn list_type(stack: &mut Stack<'_>) -> Result<(), NoMemory>
+    ensures { IfOk result (λ _. shown stack.new ≡ type_listed (shown stack.old)) }
 {
-    let mut list = list;
+    let last = stack.take_type();
+    let mut list = stack.take_type_list();
     list.push(*last)?;
-    Ok(list)
+    stack.put_type_list(list)
 }
 
-/// The list with one pattern more, and what it is as a whole.
+/// The pattern on the stack joins the list of patterns.
 #[tactic(auto, using(pp_parse_state::proofs::Stacked::stacked_push))]
-pub fn with_pattern<'a>(
-    list: Vec<Built<Pattern<'a>>>,
-    last: &'a Built<Pattern<'a>>,
-) -> Result<Vec<Built<Pattern<'a>>>, NoMemory>
-    ensures longer { IfOk result (λ v. stacked (λ p. pattern_of p.tree) v.items []
-        ≡ pattern_of last.now.tree ∷ stacked (λ p. pattern_of p.tree) list.entry.items []) }
-    ensures whole { IfOk result (λ v. pattern_trees (map (λ p. pattern_of p.tree) v.items)
-        ≡ patterns_onto (pattern_of last.now.tree ∷ stacked (λ p. pattern_of p.tree) list.entry.items [])
-        no_patterns) }
+pub fn list_pattern(stack: &mut Stack<'_>) -> Result<(), NoMemory>
+    ensures { IfOk result (λ _. shown stack.new ≡ pattern_listed (shown stack.old)) }
 {
-    let mut list = list;
+    let last = stack.take_pattern();
+    let mut list = stack.take_pattern_list();
     list.push(*last)?;
-    Ok(list)
+    stack.put_pattern_list(list)
 }
 
-/// The list with one case more.
-#[tactic(auto, using(pp_parse_state::proofs::Stacked::stacked_push))]
-pub fn with_case<'a>(
-    list: Vec<Built<Case<'a>>>,
-    last: &'a Built<Case<'a>>,
-) -> Result<Vec<Built<Case<'a>>>, NoMemory>
-    ensures { IfOk result (λ v. stacked (λ c. case_text c.tree) v.items [] ≡ case_text last.now.tree ∷ stacked
-        (λ c. case_text c.tree) list.entry.items []) }
+/// The name on the stack and the list of types become a type.
+#[tactic(auto, using(crate::proofs::Finished::types_whole))]
+pub fn whole_type<'a>(cx: &Current<'a, '_>, stack: &mut Stack<'a>, at: u32) -> Result<(), NoMemory>
+    ensures { IfOk result (λ _. shown stack.new ≡ type_whole at (shown stack.old)) }
 {
-    let mut list = list;
-    list.push(*last)?;
-    Ok(list)
+    let args = stack.take_type_list();
+    let of = build::type_text(cx.arena, at, stack.take_name(), &args)?;
+    stack.keep_type(cx.arena, of)
+}
+
+/// The name on the stack and the list of patterns become a constructor's pattern.
+#[tactic(auto, using(crate::proofs::Finished::patterns_whole))]
+pub fn whole_pattern<'a>(
+    cx: &Current<'a, '_>,
+    stack: &mut Stack<'a>,
+    at: u32,
+) -> Result<(), NoMemory>
+    ensures { IfOk result (λ _. shown stack.new ≡ pattern_whole at (shown stack.old)) }
+{
+    let fields = stack.take_pattern_list();
+    let pattern = build::ctor_pattern(cx.arena, at, None, stack.take_name(), &fields)?;
+    stack.keep_pattern(cx.arena, pattern)
+}
+
+/// The name on the stack, the list of types and that of expressions become a call.
+#[tactic(auto, using(crate::proofs::Finished::types_whole, crate::proofs::Finished::trees_whole))]
+pub fn apply<'a>(cx: &Current<'a, '_>, stack: &mut Stack<'a>, at: u32) -> Result<(), NoMemory>
+    ensures { IfOk result (λ _. shown stack.new ≡ applied at (shown stack.old)) }
+{
+    let args = stack.take_expr_list();
+    let types = stack.take_type_list();
+    let call = build::apply(cx.arena, at, stack.take_name(), &types, &args)?;
+    stack.keep_expr(cx.arena, call)
+}
+
+/// The name on the stack and the list of types become a call without arguments.
+#[tactic(auto, using(crate::proofs::Finished::types_whole))]
+pub fn apply_alone<'a>(cx: &Current<'a, '_>, stack: &mut Stack<'a>, at: u32) -> Result<(), NoMemory>
+    ensures { IfOk result (λ _. shown stack.new ≡ applied_alone at (shown stack.old)) }
+{
+    let types = stack.take_type_list();
+    let call = build::apply(cx.arena, at, stack.take_name(), &types, &[])?;
+    stack.keep_expr(cx.arena, call)
 }
 
 /// The case of these parts.
@@ -86,95 +107,42 @@ fn whole_case<'a>(
     build::case(pattern, guard, body)
 }
 
-/// The case with this pattern, this guard and this body.
-pub fn arm_case<'a>(
-    cx: &Current<'a, '_>,
-    pattern: &'a Built<Pattern<'a>>,
-    guard: Option<&'a Built<Expr<'a>>>,
-    body: &'a Built<Expr<'a>>,
-) -> Result<&'a Built<Case<'a>>, NoMemory>
-    ensures { IfOk result (λ c. case_text c.now.tree ≡ record {
-      pattern = pattern_of pattern.now.tree;
-      guard = option_map (λ g. tree_of g.now.tree) guard.entry;
-      body = tree_of body.now.tree;
-    }) }
+/// The pattern, the guard and the body on the stack join the list of cases.
+#[tactic(auto, using(pp_parse_state::proofs::Stacked::stacked_push))]
+pub fn list_case(stack: &mut Stack<'_>) -> Result<(), NoMemory>
+    ensures { IfOk result (λ _. shown stack.new ≡ with_case_list (case_on (shown stack.old)
+        ∷ top_case_list (shown stack.old).parts) (without_case_list (without_pattern (without_guard (without_expr
+        (shown stack.old)))))) }
 {
-    let case = whole_case(*pattern, expr_itself(guard), *body);
-    keep(cx.arena, case)
+    let body = stack.take_expr();
+    let guard = stack.take_guard();
+    let pattern = stack.take_pattern();
+    let mut list = stack.take_case_list();
+    list.push(whole_case(*pattern, expr_itself(guard), *body))?;
+    stack.put_case_list(list)
 }
 
-/// The whole list of expressions, of which this is the last.
-fn all_trees<'a>(
-    list: Vec<Built<Expr<'a>>>,
-    last: &'a Built<Expr<'a>>,
-) -> Result<Vec<Built<Expr<'a>>>, NoMemory>
-    ensures { IfOk result (λ v. trees (map (λ e. tree_of e.tree) v.items)
-        ≡ trees_onto (tree_of last.now.tree ∷ stacked (λ e. tree_of e.tree) list.entry.items []) no_trees) }
-{
-    let mut list = list;
-    list.push(*last)?;
-    Ok(list)
-}
-
-/// The whole list of cases, of which this is the last.
-fn all_cases<'a>(
-    list: Vec<Built<Case<'a>>>,
-    last: &'a Built<Case<'a>>,
-) -> Result<Vec<Built<Case<'a>>>, NoMemory>
-    ensures { IfOk result (λ v. case_trees (map (λ c. case_of c.tree) v.items)
-        ≡ cases_onto (case_text last.now.tree ∷ stacked (λ c. case_text c.tree) list.entry.items []) no_cases) }
-{
-    let mut list = list;
-    list.push(*last)?;
-    Ok(list)
-}
-
-/// The name with its type arguments, and no arguments.
-#[tactic(auto, using(crate::proofs::Finished::types_whole))]
-pub fn applied_alone<'a>(
-    cx: &Current<'a, '_>,
-    at: u32,
-    name: &'a str,
-    types: Vec<Built<TypeText<'a>>>,
-) -> Result<&'a Built<Expr<'a>>, NoMemory>
-    ensures { IfOk result (λ e. tree_of e.now.tree ≡ apply at name.now
-        (types_onto (stacked (λ t. type_of t.tree) types.entry.items []) no_types) no_trees) }
-{
-    let tree = build::apply(cx.arena, at, name, &types, &[])?;
-    keep(cx.arena, tree)
-}
-
-/// The name with its type arguments and its arguments, of which this is the last.
-#[tactic(auto, using(crate::proofs::Finished::types_whole))]
-pub fn applied<'a>(
-    cx: &Current<'a, '_>,
-    at: u32,
-    name: &'a str,
-    types: Vec<Built<TypeText<'a>>>,
-    args: Vec<Built<Expr<'a>>>,
-    last: &'a Built<Expr<'a>>,
-) -> Result<&'a Built<Expr<'a>>, NoMemory>
-    ensures { IfOk result (λ e. tree_of e.now.tree ≡ apply at name.now
-        (types_onto (stacked (λ t. type_of t.tree) types.entry.items []) no_types) (trees_onto
-        (tree_of last.now.tree ∷ stacked (λ a. tree_of a.tree) args.entry.items []) no_trees)) }
-{
-    let args = all_trees(args, last)?;
-    let tree = build::apply(cx.arena, at, name, &types, &args)?;
-    keep(cx.arena, tree)
-}
-
-/// The match of the expression, of whose cases this is the last.
-pub fn whole_match<'a>(
+/// The match of the expression, with all its cases.
+#[tactic(auto, using(crate::proofs::Finished::cases_finished))]
+fn match_of<'a>(
     cx: &Current<'a, '_>,
     at: u32,
     of: &'a Built<Expr<'a>>,
-    cases: Vec<Built<Case<'a>>>,
-    last: &'a Built<Case<'a>>,
-) -> Result<&'a Built<Expr<'a>>, NoMemory>
-    ensures { IfOk result (λ e. tree_of e.now.tree ≡ matching at (tree_of of.now.tree) (cases_onto
-        (case_text last.now.tree ∷ stacked (λ c. case_text c.tree) cases.entry.items []) no_cases)) }
+    cases: &[Built<Case<'a>>],
+) -> Result<Built<Expr<'a>>, NoMemory>
+    ensures { IfOk result (λ e. tree_of e.tree ≡ matching at (tree_of of.now.tree) (cases_onto
+        (stacked (λ c. case_text c.tree) cases.now []) no_cases)) }
 {
-    let cases = all_cases(cases, last)?;
-    let tree = build::matching(cx.arena, at, *of, &cases)?;
-    keep(cx.arena, tree)
+    build::matching(cx.arena, at, *of, cases)
+}
+
+/// The expression on the stack and the list of cases become a match.
+pub fn whole_match<'a>(cx: &Current<'a, '_>, stack: &mut Stack<'a>, at: u32) -> Result<(), NoMemory>
+    ensures { IfOk result (λ _. shown stack.new ≡ with_expr (matching at (expr_on (shown stack.old))
+        (cases_onto (top_case_list (shown stack.old).parts) no_cases))
+        (without_case_list (without_expr (shown stack.old)))) }
+{
+    let cases = stack.take_case_list();
+    let of = stack.take_expr();
+    stack.keep_expr(cx.arena, match_of(cx, at, of, &cases)?)
 }

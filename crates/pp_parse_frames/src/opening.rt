@@ -1,13 +1,13 @@
-//! What is put on the stack when the reading goes on: a frame that is opened, or what was read.
+//! How the reading goes on: a frame is opened above its parts, or what was read is put on the stack.
 
-ghost use Rattle.std.specs.Prelude.{◌≡◌};
-ghost use Rattle.pp_tree.specs.Shown.{pattern_of, tree_of, type_of};
+ghost use Rattle.pp_tokens.specs.Spans.{IsSpan};
+ghost use Rattle.pp_tree.specs.Shown.{pattern_of, tree_of};
+ghost use Rattle.pp_grammar.specs.Words.{word};
 ghost use Rattle.pp_parse_state.specs.Shown.{Moves, move_of, shown, with_expr, with_frame, with_name, with_pattern};
-ghost use Rattle.pp_parse_state.specs.Shown.{with_type};
 ghost use Rattle.pp_parse_state.specs.declared.mode.Move.TheVariants.{Go};
 
-use pp_parse_state::{Frame, Mode, Move, Stack, Stop};
-use pp_tree::{Built, Expr, Pattern, TypeText};
+use pp_parse_state::{Current, Frame, Mode, Move, Stack, Stop};
+use pp_tree::{Built, Expr, Pattern};
 
 /// The frame is opened above its parts, and the reading goes on in the mode.
 pub fn open<'a>(stack: &mut Stack<'a>, frame: Frame, mode: Mode) -> Result<Move, Stop<'a>>
@@ -17,47 +17,43 @@ pub fn open<'a>(stack: &mut Stack<'a>, frame: Frame, mode: Mode) -> Result<Move,
     Ok(Move::Go(mode))
 }
 
-/// The reading goes on behind the name.
-pub fn behind_name<'a>(stack: &mut Stack<'a>, name: &'a str, mode: Mode) -> Result<Move, Stop<'a>>
-    ensures { Moves result stack.new (move_of (with_name name.now (shown stack.old)) (Go mode)) }
-{
-    stack.put_name(name)?;
-    Ok(Move::Go(mode))
-}
-
-/// The reading goes on behind the written type.
-pub fn behind_type<'a>(
+/// The reading goes on behind the token, which is a name.
+pub fn behind_word<'a>(
+    cx: &Current<'a, '_>,
     stack: &mut Stack<'a>,
-    of: &'a Built<TypeText<'a>>,
     mode: Mode,
 ) -> Result<Move, Stop<'a>>
-    ensures { Moves result stack.new (move_of (with_type (type_of of.now.tree) (shown stack.old)) (Go mode)) }
+    requires { IsSpan cx.now.text.now cx.now.token }
+    ensures { Moves result stack.new (move_of (with_name (word cx.now.text.now cx.now.token) (shown stack.old))
+        (Go mode)) }
 {
-    stack.put_type(of)?;
+    stack.put_name(cx.word()?)?;
     Ok(Move::Go(mode))
 }
 
 /// The reading goes on behind the pattern.
 pub fn behind_pattern<'a>(
+    cx: &Current<'a, '_>,
     stack: &mut Stack<'a>,
-    pattern: &'a Built<Pattern<'a>>,
+    pattern: Built<Pattern<'a>>,
     mode: Mode,
 ) -> Result<Move, Stop<'a>>
-    ensures { Moves result stack.new (move_of (with_pattern (pattern_of pattern.now.tree) (shown stack.old))
+    ensures { Moves result stack.new (move_of (with_pattern (pattern_of pattern.entry.tree) (shown stack.old))
         (Go mode)) }
 {
-    stack.put_pattern(pattern)?;
+    stack.keep_pattern(cx.arena, pattern)?;
     Ok(Move::Go(mode))
 }
 
 /// The reading goes on behind the expression.
 pub fn behind_expr<'a>(
+    cx: &Current<'a, '_>,
     stack: &mut Stack<'a>,
-    tree: &'a Built<Expr<'a>>,
+    tree: Built<Expr<'a>>,
     mode: Mode,
 ) -> Result<Move, Stop<'a>>
-    ensures { Moves result stack.new (move_of (with_expr (tree_of tree.now.tree) (shown stack.old)) (Go mode)) }
+    ensures { Moves result stack.new (move_of (with_expr (tree_of tree.entry.tree) (shown stack.old)) (Go mode)) }
 {
-    stack.put_expr(tree)?;
+    stack.keep_expr(cx.arena, tree)?;
     Ok(Move::Go(mode))
 }

@@ -4,7 +4,8 @@ use Rattle.pp_tree.specs.Shown.{decl_of, import_of, unit_of}
 use Rattle.pp_grammar.specs.Frames as plain
 use Rattle.pp_parse_state.specs.declared.fault.Stop.{Stop}
 use Rattle.pp_parse_state.specs.declared.fault.Stop.TheVariants.{Memory, Syntax, Unsupported}
-use Rattle.pp_parse_state.specs.Shown.{Shown, mode_of, placed_of, stacked, under_mode}
+use Rattle.pp_parse_state.specs.Shown.{Shown, mode_of, under_mode}
+use Rattle.pp_parse_state.specs.Values.{placed_of, stacked}
 use Rattle.pp_parse_items.specs.declared.place.ItemMode.{ItemMode}
 use Rattle.pp_parse_items.specs.declared.place.ItemMode.TheVariants as item
 use Rattle.pp_parse_items.specs.declared.place.Parsed.{Parsed}

@@ -1,9 +1,9 @@
 //! The steps at what begins a declaration.
 
-ghost use Rattle.std.specs.Prelude.{◌≡◌, List};
+ghost use Rattle.std.specs.Prelude.{◌≡◌};
 ghost use Rattle.pp_tokens.specs.Spans.{IsSpan};
 ghost use Rattle.pp_grammar.specs.Words.{is_trait_word};
-ghost use Rattle.pp_grammar.specs.Frames.{Frame as plain_frame, Parsed as plain_parsed};
+ghost use Rattle.pp_grammar.specs.Frames.{Parsed as plain_parsed};
 ghost use Rattle.pp_grammar.specs.StepItems.{on_after_at, on_after_case, on_annotation, on_class_word};
 ghost use Rattle.pp_grammar.specs.StepItems.{on_declaration, on_def, on_item, on_modifiers, on_start};
 ghost use Rattle.pp_parse_state.specs.Shown.{Shown, shown};
@@ -40,7 +40,7 @@ fn on_class_word<'a>(
 {
     match trait_word(cx.token.kind) {
         Some(is_trait) => {
-            *stack = Stack::new(cx.alloc);
+            stack.clear();
             let kind = Kind::Class {
                 sealed,
                 case,
@@ -92,7 +92,7 @@ fn on_def<'a>(
     if !inside {
         return Err(cx.refuse());
     }
-    *stack = Stack::new(cx.alloc);
+    stack.clear();
     Ok(Place::Within(true, Mode::WantName(Kind::Def)))
 }
 
@@ -126,7 +126,7 @@ pub fn on_after_case<'a>(
 {
     match cx.token.kind {
         TokenKind::Word(Reserved::Object) => {
-            *stack = Stack::new(cx.alloc);
+            stack.clear();
             Ok(Place::Within(inside, Mode::WantObjectName))
         }
         _ => on_modifiers(cx, stack, inside, false, true),

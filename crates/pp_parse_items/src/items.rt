@@ -2,13 +2,14 @@
 
 ghost use Rattle.std.specs.Prelude.{List};
 ghost use Rattle.pp_tokens.specs.Spans.{IsSpan};
-ghost use Rattle.pp_grammar.specs.Frames.{Frame as plain_frame, Parsed as plain_parsed};
+ghost use Rattle.pp_grammar.specs.Frames.{Parsed as plain_parsed};
 ghost use Rattle.pp_grammar.specs.StepItems.{on_after_import, on_after_item, on_after_object, on_after_package};
 ghost use Rattle.pp_grammar.specs.StepItems.{on_chosen, on_import_all, on_object_closed, on_object_import};
 ghost use Rattle.pp_grammar.specs.StepItems.{on_object_line, on_object_title, on_object_word, on_other_import};
 ghost use Rattle.pp_grammar.specs.StepItems.{on_package_name, on_path_dot, on_path_end, on_path_name, on_unit_end};
 ghost use Rattle.pp_grammar.specs.StepItems.{on_want_chosen};
-ghost use Rattle.pp_parse_state.specs.Shown.{placed_of, Shown};
+ghost use Rattle.pp_parse_state.specs.Shown.{Shown};
+ghost use Rattle.pp_parse_state.specs.Values.{placed_of};
 ghost use Rattle.pp_parse_items.specs.Shown.{Steps, parsed_of};
 
 use crate::place::{ItemMode, Parsed, Place};

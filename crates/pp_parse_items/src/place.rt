@@ -49,7 +49,7 @@ impl<'a> Parsed<'a> {
     ghost use Rattle.pp_tree.specs.Shown.{decl_of, unit_of};
     ghost use Rattle.pp_grammar.specs.Joining.{nothing_parsed, unit_of as plain_unit, with_decl, with_import};
     ghost use Rattle.pp_grammar.specs.Joining.{with_object};
-    ghost use Rattle.pp_parse_state.specs.Shown.{placed_of};
+    ghost use Rattle.pp_parse_state.specs.Values.{placed_of};
     ghost use Rattle.pp_parse_items.specs.Shown.{parsed_of};
 
     /// Nothing is read.

@@ -10,13 +10,18 @@ ghost use Rattle.pp_grammar.specs.StepTypes.{on_int_pattern, on_want_pattern, on
 ghost use Rattle.pp_grammar.specs.StepTypes.{on_pattern_round, on_case_pattern, on_named_pattern, on_naming};
 ghost use Rattle.pp_grammar.specs.StepTypes.{on_have_pattern, on_pattern_at, on_pattern_name, on_pattern_args_open};
 ghost use Rattle.pp_grammar.specs.StepTypes.{pattern_of_name, pattern_place};
-ghost use Rattle.pp_parse_state.specs.Shown.{frames, frames_above, stacked, Moves};
+ghost use Rattle.pp_parse_state.specs.declared.frame.Frame.TheVariants.{PatternArgs};
+ghost use Rattle.pp_parse_state.specs.declared.mode.Mode.TheVariants.{AfterPatternMinus, AfterPatternName};
+ghost use Rattle.pp_parse_state.specs.declared.stack.Stack.{Stack};
+ghost use Rattle.pp_parse_state.specs.declared.mode.Mode.TheVariants.{HavePattern, PatternArgsOpen, WantPattern};
+ghost use Rattle.pp_parse_state.specs.Shown.{Moves, frames, frames_of, name_on, pattern_on, shown, step_in, under_name};
+ghost use Rattle.pp_parse_state.specs.Shown.{under_pattern, with_frame, without_name, without_pattern};
 
-use pp_parse_frames::lists::with_pattern;
-use pp_parse_frames::opening::{behind_name, behind_pattern, open};
+use pp_parse_frames::lists::{list_pattern, whole_pattern};
+use pp_parse_frames::opening::{behind_pattern, behind_word, open};
 use pp_parse_state::numbers::{is_signed, negated_of, negative_of, number_of};
 use pp_parse_state::words::binds;
-use pp_parse_state::{Current, Frame, Mode, Move, NoMemory, Stack, Stop, keep};
+use pp_parse_state::{Current, Frame, Mode, Move, NoMemory, Stack, Stop};
 use pp_tokens::{Bracket, Operator, Reserved, TokenKind};
 use pp_tree::build::{any, bool_pattern, ctor_pattern, int_pattern};
 use pp_tree::{Built, Pattern};
@@ -29,28 +34,21 @@ fn place(pattern: &Pattern) -> u32
 }
 
 /// The pattern under the name, which stands at the offset: a pattern has room for one name.
-fn named_at<'a>(
-    cx: &Current<'a, '_>,
-    at: u32,
-    name: &'a str,
-    pattern: &'a Built<Pattern<'a>>,
-) -> Result<Option<&'a Built<Pattern<'a>>>, NoMemory>
-    ensures { IfOk result (λ n. option_map (λ p. pattern_of p.now.tree) n ≡ named_at at name.now
-        (pattern_of pattern.now.tree)) }
+fn named_at<'a>(at: u32, name: &'a str, pattern: &Built<Pattern<'a>>) -> Option<Built<Pattern<'a>>>
+    ensures { option_map (λ p. pattern_of p.tree) result ≡ named_at at name.now (pattern_of pattern.now.tree) }
 {
     if pattern.tree.name.is_some() {
-        return Ok(None);
+        return None;
     }
     let tree = Pattern {
         at,
         name: Some(name),
         kind: pattern.tree.kind,
     };
-    let named = Built {
+    Some(Built {
         tree,
         levels: pattern.levels,
-    };
-    Ok(Some(keep(cx.arena, named)?))
+    })
 }
 
 /// A name alone: it binds, or is a constructor.
@@ -58,14 +56,13 @@ fn pattern_of_name<'a>(
     cx: &Current<'a, '_>,
     at: u32,
     name: &'a str,
-) -> Result<&'a Built<Pattern<'a>>, NoMemory>
-    ensures { IfOk result (λ p. pattern_of p.now.tree ≡ pattern_of_name cx.now.text.now cx.now.token at name.now) }
+) -> Result<Built<Pattern<'a>>, NoMemory>
+    ensures { IfOk result (λ p. pattern_of p.tree ≡ pattern_of_name cx.now.text.now cx.now.token at name.now) }
 {
     if binds(name) {
-        return keep(cx.arena, any(at, Some(name)));
+        return Ok(any(at, Some(name)));
     }
-    let pattern = ctor_pattern(cx.arena, at, None, name, &[])?;
-    keep(cx.arena, pattern)
+    ctor_pattern(cx.arena, at, None, name, &[])
 }
 
 /// An integer pattern, if the token is a number that may stand there.
@@ -79,10 +76,7 @@ fn on_int_pattern<'a>(
     ensures { Moves result stack.new (on_int_pattern cx.now.text.now cx.now.token (frames stack.old) at value) }
 {
     match value {
-        Some(n) => {
-            let pattern = keep(cx.arena, int_pattern(at, None, n))?;
-            behind_pattern(stack, pattern, Mode::HavePattern)
-        }
+        Some(n) => behind_pattern(cx, stack, int_pattern(at, None, n), Mode::HavePattern),
         None => Err(cx.refuse()),
     }
 }
@@ -96,27 +90,25 @@ fn on_bool_pattern<'a>(
     ensures { Moves result stack.new (go (frames stack.old) (have_pattern (plain_bool cx.now.token.from None
         value))) }
 {
-    let pattern = keep(cx.arena, bool_pattern(cx.token.from, None, value))?;
-    behind_pattern(stack, pattern, Mode::HavePattern)
+    let pattern = bool_pattern(cx.token.from, None, value);
+    behind_pattern(cx, stack, pattern, Mode::HavePattern)
 }
 
 /// `_` as a pattern.
 fn on_any_pattern<'a>(cx: &Current<'a, '_>, stack: &mut Stack<'a>) -> Result<Move, Stop<'a>>
     ensures { Moves result stack.new (go (frames stack.old) (have_pattern (plain_any cx.now.token.from None))) }
 {
-    let pattern = keep(cx.arena, any(cx.token.from, None))?;
-    behind_pattern(stack, pattern, Mode::HavePattern)
+    behind_pattern(cx, stack, any(cx.token.from, None), Mode::HavePattern)
 }
 
 /// A pattern is wanted.
 pub fn on_want_pattern<'a>(cx: &Current<'a, '_>, stack: &mut Stack<'a>) -> Result<Move, Stop<'a>>
     requires { IsSpan cx.now.text.now cx.now.token }
-    ensures { Moves result stack.new (on_want_pattern cx.now.text.now cx.now.token (frames stack.old)
-        cx.now.token.kind) }
+    ensures { Moves result stack.new (step_in cx.now.text.now cx.now.token WantPattern (shown stack.old)) }
 {
     let from = cx.token.from;
     match cx.token.kind {
-        TokenKind::Name => behind_name(stack, cx.word()?, Mode::AfterPatternName(from)),
+        TokenKind::Name => behind_word(cx, stack, Mode::AfterPatternName(from)),
         TokenKind::Hole => on_any_pattern(cx, stack),
         TokenKind::Number(_) => on_int_pattern(cx, stack, from, number_of(cx.token.kind)),
         TokenKind::Hex(_) => on_int_pattern(cx, stack, from, number_of(cx.token.kind)),
@@ -136,8 +128,8 @@ pub fn on_pattern_minus<'a>(
     end: u32,
 ) -> Result<Move, Stop<'a>>
     requires { IsSpan cx.now.text.now cx.now.token }
-    ensures { Moves result stack.new (on_pattern_minus cx.now.text.now cx.now.token (frames stack.old) at end
-        cx.now.token.kind) }
+    ensures { Moves result stack.new (step_in cx.now.text.now cx.now.token (AfterPatternMinus at end)
+        (shown stack.old)) }
 {
     let value = if is_signed(end, cx.token) {
         negative_of(cx.token.kind)
@@ -147,68 +139,49 @@ pub fn on_pattern_minus<'a>(
     on_int_pattern(cx, stack, at, value)
 }
 
-/// Behind an argument of a constructor.
+/// Behind an argument of a constructor, above the name and the arguments before.
 fn on_pattern_arg<'a>(
     cx: &Current<'a, '_>,
     stack: &mut Stack<'a>,
     at: u32,
-    name: &'a str,
-    fields: Vec<Built<Pattern<'a>>>,
-    field: &'a Built<Pattern<'a>>,
 ) -> Result<Move, Stop<'a>>
     requires { IsSpan cx.now.text.now cx.now.token }
-    ensures { Moves result stack.new (on_pattern_arg cx.now.text.now cx.now.token (frames stack.old) at
-        name.now (stacked (λ p. pattern_of p.tree) fields.entry.items []) (pattern_of field.now.tree)
+    ensures { Moves result stack.new (on_named_pattern cx.now.text.now cx.now.token
+        (under_pattern (with_frame (PatternArgs at) (shown stack.old))) (pattern_on (shown stack.old))
         cx.now.token.kind) }
 {
-    let fields = with_pattern(fields, field)?;
+    list_pattern(stack)?;
     match cx.token.kind {
-        TokenKind::Mark(Bracket::Comma) => {
-            stack.put_name(name)?;
-            stack.put_pattern_list(fields)?;
-            open(stack, Frame::PatternArgs(at), Mode::WantPattern)
-        }
+        TokenKind::Mark(Bracket::Comma) => open(stack, Frame::PatternArgs(at), Mode::WantPattern),
         TokenKind::Mark(Bracket::CloseRound) => {
-            let pattern = ctor_pattern(cx.arena, at, None, name, &fields)?;
-            behind_pattern(stack, keep(cx.arena, pattern)?, Mode::HavePattern)
+            whole_pattern(cx, stack, at)?;
+            Ok(Move::Go(Mode::HavePattern))
         }
         _ => Err(cx.refuse()),
     }
 }
 
 /// Behind a pattern in round brackets.
-fn on_pattern_round<'a>(
-    cx: &Current<'a, '_>,
-    stack: &mut Stack<'a>,
-    pattern: &'a Built<Pattern<'a>>,
-) -> Result<Move, Stop<'a>>
+fn on_pattern_round<'a>(cx: &Current<'a, '_>) -> Result<Move, Stop<'a>>
     requires { IsSpan cx.now.text.now cx.now.token }
-    ensures { Moves result stack.new (on_pattern_round cx.now.text.now cx.now.token (frames stack.old)
-        (pattern_of pattern.now.tree) cx.now.token.kind) }
+    ensures { (s : Stack) → Moves result s (on_pattern_round cx.now.text.now cx.now.token
+        (under_pattern (shown s)) (pattern_on (shown s)) cx.now.token.kind) }
 {
     match cx.token.kind {
-        TokenKind::Mark(Bracket::CloseRound) => behind_pattern(stack, pattern, Mode::HavePattern),
+        TokenKind::Mark(Bracket::CloseRound) => Ok(Move::Go(Mode::HavePattern)),
         _ => Err(cx.refuse()),
     }
 }
 
 /// Behind the pattern of a case.
-fn on_case_pattern<'a>(
-    cx: &Current<'a, '_>,
-    stack: &mut Stack<'a>,
-    pattern: &'a Built<Pattern<'a>>,
-) -> Result<Move, Stop<'a>>
+fn on_case_pattern<'a>(cx: &Current<'a, '_>, stack: &mut Stack<'a>) -> Result<Move, Stop<'a>>
     requires { IsSpan cx.now.text.now cx.now.token }
-    ensures { Moves result stack.new (on_case_pattern cx.now.text.now cx.now.token (frames stack.old)
-        (pattern_of pattern.now.tree) cx.now.token.kind) }
+    ensures { Moves result stack.new (on_case_pattern cx.now.text.now cx.now.token (under_pattern (shown stack.old))
+        (pattern_on (shown stack.old)) cx.now.token.kind) }
 {
     match cx.token.kind {
-        TokenKind::Word(Reserved::If) => {
-            stack.put_pattern(pattern)?;
-            open(stack, Frame::Guarding, Mode::Want)
-        }
+        TokenKind::Word(Reserved::If) => open(stack, Frame::Guarding, Mode::Want),
         TokenKind::Op(Operator::Arrow) => {
-            stack.put_pattern(pattern)?;
             stack.put_guard(None)?;
             open(stack, Frame::Arm, Mode::WantStat)
         }
@@ -217,17 +190,13 @@ fn on_case_pattern<'a>(
 }
 
 /// Behind a pattern with its name.
-fn on_named_pattern<'a>(
-    cx: &Current<'a, '_>,
-    stack: &mut Stack<'a>,
-    pattern: &'a Built<Pattern<'a>>,
-) -> Result<Move, Stop<'a>>
+fn on_named_pattern<'a>(cx: &Current<'a, '_>, stack: &mut Stack<'a>) -> Result<Move, Stop<'a>>
     requires { IsSpan cx.now.text.now cx.now.token }
-    ensures { Moves result stack.new (on_named_pattern cx.now.text.now cx.now.token (frames stack.old)
-        (pattern_of pattern.now.tree) cx.now.token.kind) }
+    ensures { Moves result stack.new (on_named_pattern cx.now.text.now cx.now.token (under_pattern (shown stack.old))
+        (pattern_on (shown stack.old)) cx.now.token.kind) }
 {
     match stack.pop() {
-        Some(frame) => on_named_above(cx, stack, frame, pattern),
+        Some(frame) => on_named_above(cx, stack, frame),
         None => Err(cx.refuse()),
     }
 }
@@ -237,89 +206,65 @@ fn on_named_above<'a>(
     cx: &Current<'a, '_>,
     stack: &mut Stack<'a>,
     frame: Frame,
-    pattern: &'a Built<Pattern<'a>>,
 ) -> Result<Move, Stop<'a>>
     requires { IsSpan cx.now.text.now cx.now.token }
     ensures { Moves result stack.new (on_named_pattern cx.now.text.now cx.now.token
-        (frames_above frame stack.old) (pattern_of pattern.now.tree) cx.now.token.kind) }
+        (under_pattern (with_frame frame (shown stack.old))) (pattern_on (shown stack.old)) cx.now.token.kind) }
 {
     match frame {
-        Frame::PatternRound => on_pattern_round(cx, stack, pattern),
-        Frame::PatternArgs(at) => {
-            let name = stack.take_name()?;
-            let fields = stack.take_pattern_list()?;
-            on_pattern_arg(cx, stack, at, name, fields, pattern)
-        }
-        Frame::CasesOf(at) => {
-            stack.push(Frame::CasesOf(at))?;
-            on_case_pattern(cx, stack, pattern)
+        Frame::PatternRound => on_pattern_round(cx),
+        Frame::PatternArgs(at) => on_pattern_arg(cx, stack, at),
+        Frame::CasesOf(_) => {
+            stack.push(frame)?;
+            on_case_pattern(cx, stack)
         }
         _ => Err(cx.refuse()),
     }
 }
 
-/// Behind a pattern that a name stands before: it can't bind another one.
-fn on_naming<'a>(
-    cx: &Current<'a, '_>,
-    stack: &mut Stack<'a>,
-    named: Option<&'a Built<Pattern<'a>>>,
-    pattern: &'a Built<Pattern<'a>>,
-) -> Result<Move, Stop<'a>>
+/// Behind a pattern that the name on the stack stands before: it can't bind another one.
+fn on_naming<'a>(cx: &Current<'a, '_>, stack: &mut Stack<'a>, at: u32) -> Result<Move, Stop<'a>>
     requires { IsSpan cx.now.text.now cx.now.token }
-    ensures { Moves result stack.new (on_naming cx.now.text.now cx.now.token (frames stack.old)
-        (option_map (λ p. pattern_of p.now.tree) named.entry) (pattern_of pattern.now.tree) cx.now.token.kind) }
+    ensures { Moves result stack.new (on_naming cx.now.text.now cx.now.token (frames_of (without_name
+        (without_pattern (shown stack.old)))) (named_at at (name_on (shown stack.old)) (pattern_on (shown stack.old)))
+        (pattern_on (shown stack.old)) cx.now.token.kind) }
 {
-    match named {
-        Some(named) => on_named_pattern(cx, stack, named),
+    let name = stack.take_name();
+    let pattern = stack.take_pattern();
+    match named_at(at, name, pattern) {
+        Some(named) => {
+            stack.keep_pattern(cx.arena, named)?;
+            on_named_pattern(cx, stack)
+        }
         None => Err(Stop::Syntax(place(&pattern.tree))),
     }
 }
 
 /// Behind a whole pattern.
-pub fn on_have_pattern<'a>(
-    cx: &Current<'a, '_>,
-    stack: &mut Stack<'a>,
-    pattern: &'a Built<Pattern<'a>>,
-) -> Result<Move, Stop<'a>>
+pub fn on_have_pattern<'a>(cx: &Current<'a, '_>, stack: &mut Stack<'a>) -> Result<Move, Stop<'a>>
     requires { IsSpan cx.now.text.now cx.now.token }
-    ensures { Moves result stack.new (on_have_pattern cx.now.text.now cx.now.token (frames stack.old)
-        (pattern_of pattern.now.tree) cx.now.token.kind) }
+    ensures { Moves result stack.new (step_in cx.now.text.now cx.now.token HavePattern (shown stack.old)) }
 {
-    let Some(frame) = stack.pop() else {
-        return Err(cx.refuse());
-    };
-    match frame {
-        Frame::Naming(at) => {
-            let name = stack.take_name()?;
-            let named = named_at(cx, at, name, pattern)?;
-            on_naming(cx, stack, named, pattern)
-        },
-        other => on_named_above(cx, stack, other, pattern),
+    match stack.pop() {
+        Some(Frame::Naming(at)) => on_naming(cx, stack, at),
+        Some(frame) => on_named_above(cx, stack, frame),
+        None => Err(cx.refuse()),
     }
 }
 
 /// Behind `NAME @`: a name that stands behind another one's `@` has none.
-fn on_pattern_at<'a>(
-    cx: &Current<'a, '_>,
-    stack: &mut Stack<'a>,
-    at: u32,
-    name: &'a str,
-) -> Result<Move, Stop<'a>>
+fn on_pattern_at<'a>(cx: &Current<'a, '_>, stack: &mut Stack<'a>, at: u32) -> Result<Move, Stop<'a>>
     requires { IsSpan cx.now.text.now cx.now.token }
-    ensures { Moves result stack.new (on_pattern_at cx.now.text.now cx.now.token (frames stack.old) at
-        name.now) }
+    ensures { Moves result stack.new (on_pattern_at cx.now.text.now cx.now.token (under_name (shown stack.old)) at
+        (name_on (shown stack.old))) }
 {
-    let Some(frame) = stack.pop() else {
-        stack.put_name(name)?;
-        return open(stack, Frame::Naming(at), Mode::WantPattern);
-    };
-    match frame {
-        Frame::Naming(_) => Err(cx.refuse()),
-        other => {
-            stack.push(other)?;
-            stack.put_name(name)?;
+    match stack.pop() {
+        Some(Frame::Naming(_)) => Err(cx.refuse()),
+        Some(frame) => {
+            stack.push(frame)?;
             open(stack, Frame::Naming(at), Mode::WantPattern)
         }
+        None => open(stack, Frame::Naming(at), Mode::WantPattern),
     }
 }
 
@@ -328,34 +273,27 @@ pub fn on_pattern_name<'a>(
     cx: &Current<'a, '_>,
     stack: &mut Stack<'a>,
     at: u32,
-    name: &'a str,
 ) -> Result<Move, Stop<'a>>
     requires { IsSpan cx.now.text.now cx.now.token }
-    ensures { Moves result stack.new (on_pattern_name cx.now.text.now cx.now.token (frames stack.old) at
-        name.now cx.now.token.kind) }
+    ensures { Moves result stack.new (step_in cx.now.text.now cx.now.token (AfterPatternName at) (shown stack.old)) }
 {
     match cx.token.kind {
-        TokenKind::Mark(Bracket::OpenRound) => behind_name(stack, name, Mode::PatternArgsOpen(at)),
-        TokenKind::Op(Operator::At) => on_pattern_at(cx, stack, at, name),
+        TokenKind::Mark(Bracket::OpenRound) => Ok(Move::Go(Mode::PatternArgsOpen(at))),
+        TokenKind::Op(Operator::At) => on_pattern_at(cx, stack, at),
         _ => {
-            let pattern = pattern_of_name(cx, at, name)?;
-            on_have_pattern(cx, stack, pattern)
+            let pattern = pattern_of_name(cx, at, stack.take_name())?;
+            stack.keep_pattern(cx.arena, pattern)?;
+            on_have_pattern(cx, stack)
         }
     }
 }
 
 /// The first argument of a constructor begins.
-fn on_first_arg<'a>(
-    cx: &Current<'a, '_>,
-    stack: &mut Stack<'a>,
-    at: u32,
-    name: &'a str,
-) -> Result<Move, Stop<'a>>
+fn on_first_arg<'a>(cx: &Current<'a, '_>, stack: &mut Stack<'a>, at: u32) -> Result<Move, Stop<'a>>
     requires { IsSpan cx.now.text.now cx.now.token }
     ensures { Moves result stack.new (on_want_pattern cx.now.text.now cx.now.token
-        (pattern_args at name.now [] ∷ frames stack.old) cx.now.token.kind) }
+        (pattern_args at (name_on (shown stack.old)) [] ∷ under_name (shown stack.old)) cx.now.token.kind) }
 {
-    stack.put_name(name)?;
     stack.put_pattern_list(Vec::new(cx.alloc))?;
     stack.push(Frame::PatternArgs(at))?;
     on_want_pattern(cx, stack)
@@ -366,15 +304,13 @@ pub fn on_pattern_args_open<'a>(
     cx: &Current<'a, '_>,
     stack: &mut Stack<'a>,
     at: u32,
-    name: &'a str,
 ) -> Result<Move, Stop<'a>>
     requires { IsSpan cx.now.text.now cx.now.token }
-    ensures { Moves result stack.new (on_pattern_args_open cx.now.text.now cx.now.token (frames stack.old) at name.now
-        cx.now.token.kind) }
+    ensures { Moves result stack.new (step_in cx.now.text.now cx.now.token (PatternArgsOpen at) (shown stack.old)) }
 {
     if !cx.closes_round() {
-        return on_first_arg(cx, stack, at, name);
+        return on_first_arg(cx, stack, at);
     }
-    let pattern = ctor_pattern(cx.arena, at, None, name, &[])?;
-    behind_pattern(stack, keep(cx.arena, pattern)?, Mode::HavePattern)
+    let pattern = ctor_pattern(cx.arena, at, None, stack.take_name(), &[])?;
+    behind_pattern(cx, stack, pattern, Mode::HavePattern)
 }

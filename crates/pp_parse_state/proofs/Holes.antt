@@ -7,7 +7,8 @@ use Rattle.pp_parse_state.specs.declared.frame.Frame.{Frame}
 use Rattle.pp_parse_state.specs.declared.frame.Frame.TheVariants.{Prefixing, Left, ClaimingHole}
 use Rattle.pp_parse_state.specs.Joining.{lets_hole, is_claim, hole_in}
 use Rattle.pp_parse_state.specs.Parts.{Parts}
-use Rattle.pp_parse_state.specs.Shown.{below, over, stacked}
+use Rattle.pp_parse_state.specs.Shown.{below, over}
+use Rattle.pp_parse_state.specs.Values.{stacked}
 use Rattle.pp_parse_state.proofs.Stacked.{stacked_push}
 
 hole_of_kinds : (fs : List Frame) (p : Parts) → takes_hole (over fs p) ≡ hole_in fs

@@ -1,5 +1,5 @@
 -- How the automaton joins operands and statements, one frame at a time. Source: own.
-use Rattle.std.specs.Prelude.{ℕ, Bool, true, false, cond, ◌||◌, nat_le, List, [], ◌∷◌, None}
+use Rattle.std.specs.Prelude.{ℕ, Bool, true, false, cond, ◌||◌, nat_le, List, [], ◌∷◌}
 use Rattle.pp_tree.specs.Plain.{Tree, unary, binary, choice, val_in, assert_in}
 use Rattle.pp_tree.specs.Shown.{tree_of}
 use Rattle.pp_grammar.specs.Words.{level, tightest}
@@ -9,8 +9,8 @@ use Rattle.pp_parse_state.specs.declared.frame.Frame.{Frame}
 use Rattle.pp_parse_state.specs.declared.frame.Frame.TheVariants.{Prefixing, Left, IfRest, AfterVal, AfterAssert}
 use Rattle.pp_parse_state.specs.declared.frame.Frame.TheVariants.{ClaimingHole}
 use Rattle.pp_parse_state.specs.declared.joining.Operand.{Operand}
-use Rattle.pp_parse_state.specs.Parts.{Parts, first, rest, no_expr}
-use Rattle.pp_parse_state.specs.Shown.{below}
+use Rattle.pp_parse_state.specs.Parts.{Parts, top_name, top_given_type, top_expr, second_expr}
+use Rattle.pp_parse_state.specs.Shown.{Shown, below, expr_on, under_expr}
 
 -- an operand and whether the hole stands in it
 pub record Holed : Type 0 where
@@ -30,9 +30,9 @@ binds p _ = false
 -- the operand with the operator before it
 abbrev pub join : Frame → Parts → Holed → Holed
 join (Prefixing at op) p e = record { tree = unary at op e.tree; holed = e.holed }
-join (Left at op h) p e = record { tree = binary at op (first no_expr p.exprs) e.tree; holed = h || e.holed }
+join (Left at op h) p e = record { tree = binary at op (top_expr p) e.tree; holed = h || e.holed }
 join (IfRest at) p e = record {
-  tree = choice at (first no_expr (rest p.exprs)) (first no_expr p.exprs) e.tree;
+  tree = choice at (second_expr p) (top_expr p) e.tree;
   holed = e.holed;
 }
 join _ p e = e
@@ -46,6 +46,10 @@ left_joined _ p = p
 -- the frames with the operand above them
 abbrev pub joined : List plain_frame → Holed → plain_operand
 joined s o = record { frames = s; tree = o.tree; holed = o.holed }
+
+-- the operand on the stack, with the frames under it
+abbrev pub unwound : Shown → Bool → plain_operand
+unwound s h = record { frames = under_expr s; tree = expr_on s; holed = h }
 
 abbrev pub top_binds : ℕ → List Frame → Bool
 top_binds p [] = false
@@ -63,8 +67,8 @@ top_is_statement (f ∷ s) = is_statement f
 
 -- the expression with the statement before it
 abbrev pub join_statement : Frame → Parts → Tree → Tree
-join_statement (AfterVal at) p e = val_in at (first [] p.names) (first None p.given_types) (first no_expr p.exprs) e
-join_statement (AfterAssert at) p e = assert_in at (first no_expr p.exprs) e
+join_statement (AfterVal at) p e = val_in at (top_name p) (top_given_type p) (top_expr p) e
+join_statement (AfterAssert at) p e = assert_in at (top_expr p) e
 join_statement _ p e = e
 
 -- the parts that are left then

@@ -2,3 +2,4 @@ pub mod Parts
 pub mod Shown
 pub mod Words
 pub mod Joining
+pub mod Values

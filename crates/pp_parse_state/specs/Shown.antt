@@ -1,113 +1,70 @@
 -- The frames, modes and moves of the automaton that the parser's values stand for. Frames and modes are numbers alone:
 -- their parts lie on the stack, those of the mode on top, below them those of the frames, the last frame first.
-use Rattle.std.specs.Prelude.{◌≡◌, List, [], ◌∷◌, map, Option, None, option_map, Result, MatchResult}
-use Rattle.pp_tree.specs.declared.expr.Case.{Case}
-use Rattle.pp_tree.specs.declared.expr.ExprKind.TheViews.{out-Case}
+use Rattle.std.specs.Prelude.{◌≡◌, List, [], ◌∷◌, Option, option_map, Result, MatchResult}
 use Rattle.pp_tree.specs.Plain.{Word, TypeTree, no_types, PatternTree, Tree, PostTree, DeclTree}
 use Rattle.pp_tree.specs.Parts.{claim_parts}
-use Rattle.pp_tree.specs.Shown.{tree_of, type_of, pattern_of, param_of, decl_of}
+use Rattle.pp_tree.specs.Shown.{tree_of, type_of, pattern_of, decl_of}
+use Rattle.pp_tokens.specs.declared.token.Token.{Token}
+use Rattle.pp_grammar.specs.Automaton.{on_mode}
 use Rattle.pp_grammar.specs.Frames as plain
-use Rattle.pp_grammar.specs.Joining.{types_onto, no_contracts}
+use Rattle.pp_grammar.specs.Joining.{types_onto}
 use Rattle.pp_parse_state.specs.declared.fault.Stop.{Stop}
 use Rattle.pp_parse_state.specs.declared.fault.Stop.TheVariants.{Memory, Syntax, Unsupported}
-use Rattle.pp_parse_state.specs.declared.frame.Around.{Around}
-use Rattle.pp_parse_state.specs.declared.frame.Around.TheVariants.{Parentheses, Braces as CurlyBraces}
-use Rattle.pp_parse_state.specs.declared.frame.Contracts.{Contracts}
 use Rattle.pp_parse_state.specs.declared.frame.Frame.{Frame}
 use Rattle.pp_parse_state.specs.declared.frame.Frame.TheVariants as frame
-use Rattle.pp_parse_state.specs.declared.frame.Head.{Head}
-use Rattle.pp_parse_state.specs.declared.frame.Kind.{Kind}
-use Rattle.pp_parse_state.specs.declared.frame.Kind.TheVariants.{Class, Def}
-use Rattle.pp_parse_state.specs.declared.frame.Placed.{Placed}
 use Rattle.pp_parse_state.specs.declared.mode.Mode.{Mode}
 use Rattle.pp_parse_state.specs.declared.mode.Mode.TheVariants as mode
 use Rattle.pp_parse_state.specs.declared.mode.Move.{Move}
 use Rattle.pp_parse_state.specs.declared.mode.Move.TheVariants.{Go, Ends}
 use Rattle.pp_parse_state.specs.declared.stack.Stack.{Stack}
-use Rattle.pp_parse_state.specs.Parts.{Parts, first, rest, no_head, no_type, no_pattern, no_expr, no_decl}
-
--- what the items of a list stand for, the last first, before others
-abbrev pub stacked : {A B : Type 0} → (A → B) → List A → List B → List B
-stacked f [] ys = ys
-stacked f (x ∷ xs) ys = stacked f xs (f x ∷ ys)
-
-abbrev pub placed_of : Placed → plain.Placed
-placed_of p = record { word = p.word.now; at = p.at }
-
-abbrev pub kind_of : Kind → plain.Kind
-kind_of (Class sealed case is_trait) = plain.of_class sealed case is_trait
-kind_of Def = plain.of_def
-
-abbrev pub head_of : Head → plain.Head
-head_of h = record {
-  at = h.at;
-  name = h.name.now;
-  type_params = stacked (λ p. p.now) h.type_params.items [];
-  listed = h.listed;
-  params = stacked (λ p. param_of p.tree) h.params.items [];
-}
-
-abbrev pub contracts_of : Contracts → plain.Contracts
-contracts_of c = record {
-  requirements = stacked (λ e. tree_of e.tree) c.requirements.items [];
-  measure = map (λ e. tree_of e.tree) c.measure.items;
-  first = option_map placed_of c.first;
-  late = c.late;
-}
-
-abbrev pub around_of : Around → plain.Around
-around_of Parentheses = plain.in_parentheses
-around_of CurlyBraces = plain.in_braces
-
-abbrev pub case_text : Case → plain.CaseText
-case_text c = record {
-  pattern = pattern_of (out-Case c).pattern;
-  guard = option_map tree_of (out-Case c).guard;
-  body = tree_of (out-Case c).body;
-}
+use Rattle.pp_parse_state.specs.declared.spares.Spares as declared_spares
+use Rattle.pp_parse_state.specs.Values.{stacked, kind_of, head_of, contracts_of, around_of, case_text}
+use Rattle.pp_parse_state.specs.Parts.{Parts, Spares, rest, top_name, top_type, top_pattern, top_expr, second_expr}
+use Rattle.pp_parse_state.specs.Parts.{top_given_type, top_guard, top_type_list, top_pattern_list, top_expr_list}
+use Rattle.pp_parse_state.specs.Parts.{top_case_list, top_head, top_contracts, top_post, top_decl}
 
 -- ---- frames
 
 abbrev pub frame_of : Frame → Parts → plain.Frame
-frame_of (frame.Header k) p = plain.header (kind_of k) (first no_head p.heads)
-frame_of (frame.ParamType at) p = plain.param_type at (first [] p.names)
+frame_of (frame.Header k) p = plain.header (kind_of k) (top_head p)
+frame_of (frame.ParamType at) p = plain.param_type at (top_name p)
 frame_of frame.ResultType p = plain.result_type
 frame_of frame.ParentType p = plain.parent_type
-frame_of (frame.ObjectParent at) p = plain.object_parent at (first [] p.names)
-frame_of frame.BodyOf p = plain.body_of (first no_head p.heads) (first no_type p.types) (first no_contracts p.contracts)
-frame_of frame.HeadBraces p = plain.head_braces (first no_contracts p.contracts)
+frame_of (frame.ObjectParent at) p = plain.object_parent at (top_name p)
+frame_of frame.BodyOf p = plain.body_of (top_head p) (top_type p) (top_contracts p)
+frame_of frame.HeadBraces p = plain.head_braces (top_contracts p)
 frame_of frame.Requiring p = plain.requiring
-frame_of (frame.Measuring at) p = plain.measuring at (first [] p.expr_lists)
+frame_of (frame.Measuring at) p = plain.measuring at (top_expr_list p)
 frame_of frame.TupleOrRound p = plain.tuple_or_round
-frame_of frame.InTuple p = plain.in_tuple (first [] p.expr_lists)
-frame_of (frame.PostOf at a) p = plain.post_of at (first no_expr p.exprs) (around_of a)
-frame_of frame.Claiming p = plain.claiming (first [] p.names) (first None p.given_types)
+frame_of frame.InTuple p = plain.in_tuple (top_expr_list p)
+frame_of (frame.PostOf at a) p = plain.post_of at (top_expr p) (around_of a)
+frame_of frame.Claiming p = plain.claiming (top_name p) (top_given_type p)
 frame_of frame.ClaimingHole p = plain.claiming_hole
-frame_of frame.ResultNameType p = plain.result_name_type (first [] p.names)
-frame_of frame.ResultNameTypeInRound p = plain.result_name_type_in_round (first [] p.names)
-frame_of (frame.TypeArgs at) p = plain.type_args at (first [] p.names) (first [] p.type_lists)
-frame_of (frame.Naming at) p = plain.naming at (first [] p.names)
+frame_of frame.ResultNameType p = plain.result_name_type (top_name p)
+frame_of frame.ResultNameTypeInRound p = plain.result_name_type_in_round (top_name p)
+frame_of (frame.TypeArgs at) p = plain.type_args at (top_name p) (top_type_list p)
+frame_of (frame.Naming at) p = plain.naming at (top_name p)
 frame_of frame.PatternRound p = plain.pattern_round
-frame_of (frame.PatternArgs at) p = plain.pattern_args at (first [] p.names) (first [] p.pattern_lists)
+frame_of (frame.PatternArgs at) p = plain.pattern_args at (top_name p) (top_pattern_list p)
 frame_of frame.Round p = plain.round
-frame_of (frame.NameTypes at) p = plain.name_types at (first [] p.names) (first [] p.type_lists)
+frame_of (frame.NameTypes at) p = plain.name_types at (top_name p) (top_type_list p)
 frame_of (frame.Args at) p =
-    plain.args at (first [] p.names) (types_onto (first [] p.type_lists) no_types) (first [] p.expr_lists)
+    plain.args at (top_name p) (types_onto (top_type_list p) no_types) (top_expr_list p)
 frame_of (frame.Prefixing at op) p = plain.prefixing at op
-frame_of (frame.Left at op h) p = plain.left at op (first no_expr p.exprs) h
+frame_of (frame.Left at op h) p = plain.left at op (top_expr p) h
 frame_of (frame.IfTest at) p = plain.if_test at
-frame_of (frame.IfThen at) p = plain.if_then at (first no_expr p.exprs)
-frame_of (frame.IfRest at) p = plain.if_rest at (first no_expr (rest p.exprs)) (first no_expr p.exprs)
-frame_of (frame.CasesOf at) p = plain.cases_of at (first no_expr p.exprs) (first [] p.case_lists)
-frame_of frame.Guarding p = plain.guarding (first no_pattern p.patterns)
-frame_of frame.Arm p = plain.arm (first no_pattern p.patterns) (first None p.guards)
+frame_of (frame.IfThen at) p = plain.if_then at (top_expr p)
+frame_of (frame.IfRest at) p = plain.if_rest at (second_expr p) (top_expr p)
+frame_of (frame.CasesOf at) p = plain.cases_of at (top_expr p) (top_case_list p)
+frame_of frame.Guarding p = plain.guarding (top_pattern p)
+frame_of frame.Arm p = plain.arm (top_pattern p) (top_guard p)
 frame_of frame.Braces p = plain.braces
-frame_of (frame.ValType at) p = plain.val_type at (first [] p.names)
-frame_of (frame.ValValue at) p = plain.val_value at (first [] p.names) (first None p.given_types)
+frame_of (frame.ValType at) p = plain.val_type at (top_name p)
+frame_of (frame.ValValue at) p = plain.val_value at (top_name p) (top_given_type p)
 frame_of (frame.AfterVal at) p =
-    plain.after_val at (first [] p.names) (first None p.given_types) (first no_expr p.exprs)
+    plain.after_val at (top_name p) (top_given_type p) (top_expr p)
 frame_of (frame.Asserting at) p = plain.asserting at
-frame_of (frame.AfterAssert at) p = plain.after_assert at (first no_expr p.exprs)
+frame_of (frame.AfterAssert at) p = plain.after_assert at (top_expr p)
 
 -- the parts below those of the frame
 abbrev pub below : Frame → Parts → Parts
@@ -148,6 +105,14 @@ over (f ∷ fs) p = frame_of f p ∷ over fs (below f p)
 
 -- ---- the stack
 
+abbrev pub spares_of : declared_spares.Spares → Spares
+spares_of s = record {
+  of = type_of s.of.now.tree;
+  pattern = pattern_of s.pattern.now.tree;
+  expr = tree_of s.expr.now.tree;
+  decl = decl_of s.decl.now.tree;
+}
+
 -- the frames on the stack and the parts, the last first
 pub record Shown : Type 0 where
   pub kinds : List Frame
@@ -171,6 +136,7 @@ shown s = record {
     contracts = stacked contracts_of s.contracts.items [];
     posts = stacked (option_map (λ c. claim_parts c.now)) s.posts.items [];
     decls = stacked (λ d. decl_of d.now.tree) s.decls.items [];
+    spares = spares_of s.spares;
   };
 }
 
@@ -220,66 +186,133 @@ with_post x s = record s { parts = record s.parts { posts = x ∷ s.parts.posts 
 abbrev pub with_decl : DeclTree → Shown → Shown
 with_decl x s = record s { parts = record s.parts { decls = x ∷ s.parts.decls } }
 
-abbrev pub frames : Stack → List plain.Frame
-frames s = over (shown s).kinds (shown s).parts
+-- what is shown, without the one on top
+abbrev pub without_name : Shown → Shown
+without_name s = record s { parts = record s.parts { names = rest s.parts.names } }
 
--- the frames with this one above them
-abbrev pub frames_above : Frame → Stack → List plain.Frame
-frames_above f s = over (f ∷ (shown s).kinds) (shown s).parts
+abbrev pub without_type : Shown → Shown
+without_type s = record s { parts = record s.parts { types = rest s.parts.types } }
+
+abbrev pub without_pattern : Shown → Shown
+without_pattern s = record s { parts = record s.parts { patterns = rest s.parts.patterns } }
+
+abbrev pub without_expr : Shown → Shown
+without_expr s = record s { parts = record s.parts { exprs = rest s.parts.exprs } }
+
+abbrev pub without_given_type : Shown → Shown
+without_given_type s = record s { parts = record s.parts { given_types = rest s.parts.given_types } }
+
+abbrev pub without_guard : Shown → Shown
+without_guard s = record s { parts = record s.parts { guards = rest s.parts.guards } }
+
+abbrev pub without_type_list : Shown → Shown
+without_type_list s = record s { parts = record s.parts { type_lists = rest s.parts.type_lists } }
+
+abbrev pub without_pattern_list : Shown → Shown
+without_pattern_list s = record s { parts = record s.parts { pattern_lists = rest s.parts.pattern_lists } }
+
+abbrev pub without_expr_list : Shown → Shown
+without_expr_list s = record s { parts = record s.parts { expr_lists = rest s.parts.expr_lists } }
+
+abbrev pub without_case_list : Shown → Shown
+without_case_list s = record s { parts = record s.parts { case_lists = rest s.parts.case_lists } }
+
+abbrev pub without_head : Shown → Shown
+without_head s = record s { parts = record s.parts { heads = rest s.parts.heads } }
+
+abbrev pub without_contracts : Shown → Shown
+without_contracts s = record s { parts = record s.parts { contracts = rest s.parts.contracts } }
+
+abbrev pub without_post : Shown → Shown
+without_post s = record s { parts = record s.parts { posts = rest s.parts.posts } }
+
+abbrev pub without_decl : Shown → Shown
+without_decl s = record s { parts = record s.parts { decls = rest s.parts.decls } }
+
+abbrev pub frames_of : Shown → List plain.Frame
+frames_of s = over s.kinds s.parts
+
+abbrev pub frames : Stack → List plain.Frame
+frames s = frames_of (shown s)
+
+-- the part on top, and the frames under it
+abbrev pub name_on : Shown → Word
+name_on s = top_name s.parts
+
+abbrev pub under_name : Shown → List plain.Frame
+under_name s = frames_of (without_name s)
+
+abbrev pub type_on : Shown → TypeTree
+type_on s = top_type s.parts
+
+abbrev pub under_type : Shown → List plain.Frame
+under_type s = frames_of (without_type s)
+
+abbrev pub pattern_on : Shown → PatternTree
+pattern_on s = top_pattern s.parts
+
+abbrev pub under_pattern : Shown → List plain.Frame
+under_pattern s = frames_of (without_pattern s)
+
+abbrev pub expr_on : Shown → Tree
+expr_on s = top_expr s.parts
+
+abbrev pub under_expr : Shown → List plain.Frame
+under_expr s = frames_of (without_expr s)
 
 -- ---- modes and moves
 
 abbrev pub mode_of : Mode → Parts → plain.Mode
 mode_of mode.Want p = plain.want
-mode_of (mode.Have h) p = plain.have (first no_expr p.exprs) h
-mode_of (mode.AfterName at) p = plain.after_name at (first [] p.names)
+mode_of (mode.Have h) p = plain.have (top_expr p) h
+mode_of (mode.AfterName at) p = plain.after_name at (top_name p)
 mode_of (mode.AfterNameTypes at) p =
-    plain.after_name_types at (first [] p.names) (types_onto (first [] p.type_lists) no_types)
-mode_of (mode.ArgsOpen at) p = plain.args_open at (first [] p.names) (types_onto (first [] p.type_lists) no_types)
+    plain.after_name_types at (top_name p) (types_onto (top_type_list p) no_types)
+mode_of (mode.ArgsOpen at) p = plain.args_open at (top_name p) (types_onto (top_type_list p) no_types)
 mode_of (mode.AfterInt at) p = plain.after_int at
 mode_of (mode.AfterIntDot at) p = plain.after_int_dot at
 mode_of (mode.AfterMinus at end) p = plain.after_minus at end
-mode_of mode.HaveNegative p = plain.have_negative (first no_expr p.exprs)
-mode_of mode.AfterNegativeDot p = plain.after_negative_dot (first no_expr p.exprs)
-mode_of (mode.AfterDot h) p = plain.after_dot (first no_expr p.exprs) h
+mode_of mode.HaveNegative p = plain.have_negative (top_expr p)
+mode_of mode.AfterNegativeDot p = plain.after_negative_dot (top_expr p)
+mode_of (mode.AfterDot h) p = plain.after_dot (top_expr p) h
 mode_of (mode.AfterIf at) p = plain.after_if at
 mode_of mode.WantThen p = plain.want_then
-mode_of mode.WantElse p = plain.want_else (first no_expr p.exprs)
-mode_of (mode.AfterMatch at) p = plain.after_match at (first no_expr p.exprs)
+mode_of mode.WantElse p = plain.want_else (top_expr p)
+mode_of (mode.AfterMatch at) p = plain.after_match at (top_expr p)
 mode_of mode.WantCase p = plain.want_case
-mode_of mode.HaveMatched p = plain.have_matched (first no_expr p.exprs)
-mode_of mode.AfterMatchedDot p = plain.after_matched_dot (first no_expr p.exprs)
+mode_of mode.HaveMatched p = plain.have_matched (top_expr p)
+mode_of mode.AfterMatchedDot p = plain.after_matched_dot (top_expr p)
 mode_of mode.WantPattern p = plain.want_pattern
-mode_of (mode.AfterPatternName at) p = plain.after_pattern_name at (first [] p.names)
+mode_of (mode.AfterPatternName at) p = plain.after_pattern_name at (top_name p)
 mode_of (mode.AfterPatternMinus at end) p = plain.after_pattern_minus at end
-mode_of (mode.PatternArgsOpen at) p = plain.pattern_args_open at (first [] p.names)
-mode_of mode.HavePattern p = plain.have_pattern (first no_pattern p.patterns)
+mode_of (mode.PatternArgsOpen at) p = plain.pattern_args_open at (top_name p)
+mode_of mode.HavePattern p = plain.have_pattern (top_pattern p)
 mode_of mode.WantType p = plain.want_type
-mode_of (mode.AfterTypeName at) p = plain.after_type_name at (first [] p.names)
-mode_of mode.HaveType p = plain.have_type (first no_type p.types)
+mode_of (mode.AfterTypeName at) p = plain.after_type_name at (top_name p)
+mode_of mode.HaveType p = plain.have_type (top_type p)
 mode_of mode.WantStat p = plain.want_stat
 mode_of mode.AfterStat p = plain.after_stat
-mode_of mode.AfterLast p = plain.after_last (first no_expr p.exprs)
+mode_of mode.AfterLast p = plain.after_last (top_expr p)
 mode_of (mode.AfterValWord at) p = plain.after_val_word at
-mode_of (mode.AfterValName at) p = plain.after_val_name at (first [] p.names)
+mode_of (mode.AfterValName at) p = plain.after_val_name at (top_name p)
 mode_of (mode.AfterAssertWord at) p = plain.after_assert_word at
 mode_of mode.AfterRequire p = plain.after_require
 mode_of (mode.AfterDecreases at) p = plain.after_decreases at
 mode_of mode.MeasureOpen p = plain.measure_open
-mode_of mode.AfterTuple p = plain.after_tuple (first [] p.expr_lists)
+mode_of mode.AfterTuple p = plain.after_tuple (top_expr_list p)
 mode_of mode.WantBody p = plain.want_body
-mode_of mode.HaveContracted p = plain.have_contracted (first no_expr p.exprs)
-mode_of mode.AfterContractedDot p = plain.after_contracted_dot (first no_expr p.exprs)
-mode_of (mode.AfterEnsuring at) p = plain.after_ensuring at (first no_expr p.exprs)
+mode_of mode.HaveContracted p = plain.have_contracted (top_expr p)
+mode_of mode.AfterContractedDot p = plain.after_contracted_dot (top_expr p)
+mode_of (mode.AfterEnsuring at) p = plain.after_ensuring at (top_expr p)
 mode_of mode.WantLambdaOrSemi p = plain.want_lambda_or_semi
 mode_of mode.WantLambda p = plain.want_lambda
-mode_of (mode.AfterLambdaName at) p = plain.after_lambda_name at (first [] p.names)
+mode_of (mode.AfterLambdaName at) p = plain.after_lambda_name at (top_name p)
 mode_of mode.AfterLambdaRound p = plain.after_lambda_round
-mode_of (mode.AfterLambdaRoundName at) p = plain.after_lambda_round_name at (first [] p.names)
-mode_of (mode.AfterLambdaClosed at) p = plain.after_lambda_closed at (first [] p.names)
-mode_of mode.AfterLambdaTyped p = plain.after_lambda_typed (first [] p.names) (first no_type p.types)
-mode_of mode.AfterClaim p = plain.after_claim (first [] p.names) (first None p.given_types) (first no_expr p.exprs)
-mode_of mode.AfterBody p = plain.after_body (first no_expr p.exprs) (first None p.posts)
+mode_of (mode.AfterLambdaRoundName at) p = plain.after_lambda_round_name at (top_name p)
+mode_of (mode.AfterLambdaClosed at) p = plain.after_lambda_closed at (top_name p)
+mode_of mode.AfterLambdaTyped p = plain.after_lambda_typed (top_name p) (top_type p)
+mode_of mode.AfterClaim p = plain.after_claim (top_name p) (top_given_type p) (top_expr p)
+mode_of mode.AfterBody p = plain.after_body (top_expr p) (top_post p)
 mode_of (mode.WantName k) p = plain.want_name (kind_of k)
 mode_of mode.AfterHeadName p = plain.after_head_name
 mode_of mode.WantTypeParam p = plain.want_type_param
@@ -287,10 +320,10 @@ mode_of mode.AfterTypeParam p = plain.after_type_param
 mode_of mode.AfterTypeParams p = plain.after_type_params
 mode_of mode.ParamsOpen p = plain.params_open
 mode_of mode.WantParam p = plain.want_param
-mode_of (mode.AfterParamName at) p = plain.after_param_name at (first [] p.names)
+mode_of (mode.AfterParamName at) p = plain.after_param_name at (top_name p)
 mode_of mode.AfterParams p = plain.after_params
 mode_of mode.WantObjectName p = plain.want_object_name
-mode_of (mode.AfterObjectName at) p = plain.after_object_name at (first [] p.names)
+mode_of (mode.AfterObjectName at) p = plain.after_object_name at (top_name p)
 
 -- the parts below those of the mode
 abbrev pub under : Mode → Parts → Parts
@@ -330,10 +363,14 @@ under _ p = p
 abbrev pub under_mode : Mode → Shown → List plain.Frame
 under_mode m s = over s.kinds (under m s.parts)
 
+-- the step of the automaton in the mode
+abbrev pub step_in : Word → Token → Mode → Shown → plain.Move
+step_in text t m s = on_mode text t (under_mode m s) (mode_of m s.parts) t.kind
+
 -- the move, with the frames behind it
 abbrev pub move_of : Shown → Move → plain.Move
 move_of s (Go m) = plain.go (under_mode m s) (mode_of m s.parts)
-move_of s Ends = plain.ends (first no_decl s.parts.decls)
+move_of s Ends = plain.ends (top_decl s.parts)
 
 -- where memory lasts, the automaton stops so
 abbrev pub Stops : Stop → plain.Move → Type 0

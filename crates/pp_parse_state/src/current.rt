@@ -1,8 +1,9 @@
 //! The token at which the parser is, and what it works with.
 
 ghost use Rattle.std.specs.Prelude.{◌≡◌, IfOk, MatchBool};
-ghost use Rattle.pp_tokens.specs.declared.token.Bracket.TheVariants.{CloseRound};
-ghost use Rattle.pp_tokens.specs.declared.token.TokenKind.TheVariants.{Mark};
+ghost use Rattle.pp_tokens.specs.declared.token.Bracket.TheVariants.{CloseRound, OpenRound};
+ghost use Rattle.pp_tokens.specs.declared.token.Operator.TheVariants.{Arrow, Colon};
+ghost use Rattle.pp_tokens.specs.declared.token.TokenKind.TheVariants.{Mark, Name, Op};
 ghost use Rattle.pp_tokens.specs.Spans.{IsSpan};
 ghost use Rattle.pp_grammar.specs.Words.{role, word};
 ghost use Rattle.pp_grammar.specs.Frames.{stop, unsupported_at};
@@ -13,7 +14,7 @@ ghost use Rattle.pp_parse_state.specs.Words.{role_of};
 use crate::words::{Role, classify};
 use crate::{NoMemory, Stop};
 use bumpalo::Bump;
-use pp_tokens::{Bracket, Token, TokenKind};
+use pp_tokens::{Bracket, Operator, Token, TokenKind};
 use std::alloc::Global;
 
 /// The token at which the parser is, the text in which it stands, and the arena in which the trees are built.
@@ -50,10 +51,37 @@ impl<'a, 't> Current<'a, 't> {
         classify(self.text())
     }
 
+    /// Whether the token is a name.
+    pub fn is_name(&self) -> bool
+        ensures { MatchBool result (self.now.token.kind ≡ Name) (¬ (self.now.token.kind ≡ Name)) }
+    {
+        matches!(self.token.kind, TokenKind::Name)
+    }
+
+    /// Whether the token is `=>`.
+    pub fn is_arrow(&self) -> bool
+        ensures { MatchBool result (self.now.token.kind ≡ Op Arrow) (¬ (self.now.token.kind ≡ Op Arrow)) }
+    {
+        matches!(self.token.kind, TokenKind::Op(Operator::Arrow))
+    }
+
+    /// Whether the token is a colon.
+    pub fn is_colon(&self) -> bool
+        ensures { MatchBool result (self.now.token.kind ≡ Op Colon) (¬ (self.now.token.kind ≡ Op Colon)) }
+    {
+        matches!(self.token.kind, TokenKind::Op(Operator::Colon))
+    }
+
+    /// Whether the token is a round bracket that opens.
+    pub fn opens_round(&self) -> bool
+        ensures { MatchBool result (self.now.token.kind ≡ Mark OpenRound) (¬ (self.now.token.kind ≡ Mark OpenRound)) }
+    {
+        matches!(self.token.kind, TokenKind::Mark(Bracket::OpenRound))
+    }
+
     /// Whether the token is a round bracket that closes.
     pub fn closes_round(&self) -> bool
-        ensures { MatchBool result (self.now.token.kind ≡ Mark CloseRound)
-            (¬ (self.now.token.kind ≡ Mark CloseRound)) }
+        ensures { MatchBool result (self.now.token.kind ≡ Mark CloseRound) (¬ (self.now.token.kind ≡ Mark CloseRound)) }
     {
         matches!(self.token.kind, TokenKind::Mark(Bracket::CloseRound))
     }

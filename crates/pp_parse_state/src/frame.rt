@@ -90,10 +90,29 @@ pub enum Frame {
     AfterAssert(u32),
 }
 
+impl<'a> Head<'a> {
+    ghost use Rattle.std.specs.Prelude.{◌≡◌};
+    ghost use Rattle.pp_parse_state.specs.Parts.{no_head};
+    ghost use Rattle.pp_parse_state.specs.Values.{head_of};
+
+    /// The head of nothing.
+    pub(crate) fn none(alloc: Global) -> Head<'a>
+        ensures { head_of result ≡ no_head }
+    {
+        Head {
+            at: 0,
+            name: "",
+            type_params: Vec::new(alloc),
+            listed: false,
+            params: Vec::new(alloc),
+        }
+    }
+}
+
 impl<'a> Contracts<'a> {
     ghost use Rattle.std.specs.Prelude.{◌≡◌};
     ghost use Rattle.pp_grammar.specs.Joining.{no_contracts};
-    ghost use Rattle.pp_parse_state.specs.Shown.{contracts_of};
+    ghost use Rattle.pp_parse_state.specs.Values.{contracts_of};
 
     /// No contracts.
     pub fn none(alloc: Global) -> Contracts<'a>

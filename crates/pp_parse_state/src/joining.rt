@@ -4,8 +4,8 @@ ghost use Rattle.std.specs.Prelude.{◌≡◌, IfOk};
 ghost use Rattle.pp_tree.specs.Shown.{tree_of};
 ghost use Rattle.pp_grammar.specs.Joining.{unwind, seal};
 ghost use Rattle.pp_parse_state.specs.Joining.{binds, is_statement, join, join_statement, joined, left_joined};
-ghost use Rattle.pp_parse_state.specs.Joining.{left_sealed, operand_of, sealed};
-ghost use Rattle.pp_parse_state.specs.Shown.{frames, shown};
+ghost use Rattle.pp_parse_state.specs.Joining.{left_sealed, operand_of, sealed, unwound};
+ghost use Rattle.pp_parse_state.specs.Shown.{expr_on, frames, shown, under_expr};
 
 use crate::kept::{keep, type_itself};
 use crate::operators::{TIGHTEST, level};
@@ -50,15 +50,15 @@ fn join<'a>(
             holed: operand.holed,
         },
         Frame::Left(at, op, holed) => {
-            let left = stack.take_expr()?;
+            let left = stack.take_expr();
             Operand {
                 tree: keep(arena, build::binary(arena, at, op, *left, *operand.tree)?)?,
                 holed: holed || operand.holed,
             }
         }
         Frame::IfRest(at) => {
-            let yes = stack.take_expr()?;
-            let test = stack.take_expr()?;
+            let yes = stack.take_expr();
+            let test = stack.take_expr();
             Operand {
                 tree: keep(arena, build::choice(arena, at, *test, *yes, *operand.tree)?)?,
                 holed: operand.holed,
@@ -70,23 +70,39 @@ fn join<'a>(
 }
 
 /// The operand joined with all before it that binds at least as tight as the level.
-pub fn unwind<'a>(
+fn join_all<'a>(
     arena: &'a Bump,
     stack: &mut Stack<'a>,
     tight: u32,
-    tree: &'a Built<Expr<'a>>,
-    holed: bool,
+    operand: Operand<'a>,
 ) -> Result<Operand<'a>, NoMemory>
-    ensures { IfOk result (λ o. unwind tight (frames stack.old) (tree_of tree.now.tree) holed ≡ joined
-        (frames stack.new) (operand_of o)) }
+    ensures { IfOk result (λ o. unwind tight (frames stack.old) (tree_of operand.entry.tree.now.tree)
+        operand.entry.holed ≡ joined (frames stack.new) (operand_of o)) }
 {
-    let mut operand = Operand { tree, holed };
+    let mut operand = operand;
     while stack.binds(tight) {
         if let Some(frame) = stack.pop() {
             operand = join(arena, stack, frame, operand)?;
         }
     }
     Ok(operand)
+}
+
+/// The operand on the stack is joined with all before it that binds at least as tight as the level. What is answered is
+/// whether the hole stands in it then.
+pub fn unwind<'a>(
+    arena: &'a Bump,
+    stack: &mut Stack<'a>,
+    tight: u32,
+    holed: bool,
+) -> Result<bool, NoMemory>
+    ensures { IfOk result (λ h. unwind tight (under_expr (shown stack.old)) (expr_on (shown stack.old)) holed
+        ≡ unwound (shown stack.new) h) }
+{
+    let tree = stack.take_expr();
+    let operand = join_all(arena, stack, tight, Operand { tree, holed })?;
+    stack.put_expr(operand.tree)?;
+    Ok(operand.holed)
 }
 
 /// Whether the frame is a finished statement.
@@ -111,13 +127,13 @@ fn join_statement<'a>(
 {
     match frame {
         Frame::AfterVal(at) => {
-            let value = stack.take_expr()?;
-            let of = stack.take_given_type()?;
-            let name = stack.take_name()?;
+            let value = stack.take_expr();
+            let of = stack.take_given_type();
+            let name = stack.take_name();
             build::val_in(arena, at, name, type_itself(of), *value, last)
         }
         Frame::AfterAssert(at) => {
-            let claim = stack.take_expr()?;
+            let claim = stack.take_expr();
             build::assert_in(arena, at, *claim, last)
         }
         _ => Ok(last),
@@ -125,13 +141,13 @@ fn join_statement<'a>(
 }
 
 /// The last expression of a block joined with the statements before it.
-pub fn seal<'a>(
+fn join_statements<'a>(
     arena: &'a Bump,
     stack: &mut Stack<'a>,
     last: &'a Built<Expr<'a>>,
-) -> Result<&'a Built<Expr<'a>>, NoMemory>
+) -> Result<Built<Expr<'a>>, NoMemory>
     ensures { IfOk result (λ e. seal (frames stack.old) (tree_of last.now.tree) ≡ sealed (frames stack.new)
-        (tree_of e.now.tree)) }
+        (tree_of e.tree)) }
 {
     let mut sealed = *last;
     while stack.ends_statement() {
@@ -139,5 +155,15 @@ pub fn seal<'a>(
             sealed = join_statement(arena, stack, frame, sealed)?;
         }
     }
-    keep(arena, sealed)
+    Ok(sealed)
+}
+
+/// The last expression of a block, which is on the stack, is joined with the statements before it.
+pub fn seal<'a>(arena: &'a Bump, stack: &mut Stack<'a>) -> Result<(), NoMemory>
+    ensures { IfOk result (λ _. seal (under_expr (shown stack.old)) (expr_on (shown stack.old))
+        ≡ sealed (under_expr (shown stack.new)) (expr_on (shown stack.new))) }
+{
+    let last = stack.take_expr();
+    let sealed = join_statements(arena, stack, last)?;
+    stack.keep_expr(arena, sealed)
 }

@@ -14,6 +14,7 @@ mod mode;
 pub mod numbers;
 pub mod operators;
 mod parts;
+mod spares;
 mod stack;
 pub mod words;
 

@@ -1,18 +1,27 @@
 //! The parts of frames and modes: what is put on the stack, and what is taken off it.
 //!
 //! Each frame and each mode has its parts on the stack, so that there is one wherever it is asked for. Where there were
-//! none, the answer would be `NoMemory`, of which no contract says more.
+//! none, the empty one or a spare tree would be answered, as `specs/Shown` says.
 #![tactic(auto, using(crate::proofs::Stacked::stacked_push))]
 
 ghost use Rattle.std.specs.Prelude.{◌≡◌, [], IfOk, option_map};
 ghost use Rattle.pp_tree.specs.Parts.{claim_parts};
 ghost use Rattle.pp_tree.specs.Shown.{decl_of, pattern_of, tree_of, type_of};
-ghost use Rattle.pp_parse_state.specs.Shown.{case_text, contracts_of, head_of, shown, stacked};
+ghost use Rattle.pp_parse_state.specs.Parts.{top_case_list, top_contracts, top_decl, top_expr, top_expr_list};
+ghost use Rattle.pp_parse_state.specs.Parts.{top_given_type, top_guard, top_head, top_name, top_pattern};
+ghost use Rattle.pp_parse_state.specs.Parts.{top_pattern_list, top_post, top_type, top_type_list};
+ghost use Rattle.pp_parse_state.specs.Shown.{shown};
+ghost use Rattle.pp_parse_state.specs.Values.{case_text, contracts_of, head_of, stacked};
 ghost use Rattle.pp_parse_state.specs.Shown.{with_case_list, with_contracts, with_decl, with_expr, with_expr_list};
 ghost use Rattle.pp_parse_state.specs.Shown.{with_given_type, with_guard, with_head, with_name, with_pattern};
 ghost use Rattle.pp_parse_state.specs.Shown.{with_pattern_list, with_post, with_type, with_type_list};
+ghost use Rattle.pp_parse_state.specs.Shown.{without_case_list, without_contracts, without_decl, without_expr};
+ghost use Rattle.pp_parse_state.specs.Shown.{without_expr_list, without_given_type, without_guard, without_head};
+ghost use Rattle.pp_parse_state.specs.Shown.{without_name, without_pattern, without_pattern_list, without_post};
+ghost use Rattle.pp_parse_state.specs.Shown.{without_type, without_type_list};
 
-use crate::{Contracts, Head, NoMemory, Stack};
+use crate::{Contracts, Head, NoMemory, Stack, keep};
+use bumpalo::Bump;
 use pp_tree::build::Claim;
 use pp_tree::{Built, Case, Checked, Decl, Expr, Pattern, TypeText};
 
@@ -25,14 +34,22 @@ impl<'a> Stack<'a> {
         Ok(())
     }
 
-    /// Takes a name off the stack.
-    pub fn take_name(&mut self) -> Result<&'a str, NoMemory>
-        ensures { IfOk result (λ r. shown self.old ≡ with_name r.now (shown self.new)) }
+    /// The name on the stack.
+    pub fn name(&self) -> &'a str
+        ensures { result.now ≡ top_name (shown self.now).parts }
     {
-        match self.names.pop() {
-            Some(part) => Ok(part),
-            None => Err(NoMemory),
+        match self.names.split_last() {
+            Some((name, _)) => name,
+            None => "",
         }
+    }
+
+    /// Takes a name off the stack.
+    pub fn take_name(&mut self) -> &'a str
+        ensures part { result.now ≡ top_name (shown self.old).parts }
+        ensures others { shown self.new ≡ without_name (shown self.old) }
+    {
+        self.names.pop().unwrap_or("")
     }
 
     /// Puts a written type on the stack.
@@ -43,14 +60,19 @@ impl<'a> Stack<'a> {
         Ok(())
     }
 
-    /// Takes a written type off the stack.
-    pub fn take_type(&mut self) -> Result<&'a Built<TypeText<'a>>, NoMemory>
-        ensures { IfOk result (λ r. shown self.old ≡ with_type (type_of r.now.tree) (shown self.new)) }
+    /// Puts a written type on the stack, which is kept in the arena.
+    pub fn keep_type(&mut self, arena: &'a Bump, part: Built<TypeText<'a>>) -> Result<(), NoMemory>
+        ensures { IfOk result (λ _. shown self.new ≡ with_type (type_of part.entry.tree) (shown self.old)) }
     {
-        match self.types.pop() {
-            Some(part) => Ok(part),
-            None => Err(NoMemory),
-        }
+        self.put_type(keep(arena, part)?)
+    }
+
+    /// Takes a written type off the stack.
+    pub fn take_type(&mut self) -> &'a Built<TypeText<'a>>
+        ensures part { type_of result.now.tree ≡ top_type (shown self.old).parts }
+        ensures others { shown self.new ≡ without_type (shown self.old) }
+    {
+        self.types.pop().unwrap_or(self.spares.of)
     }
 
     /// Puts a pattern on the stack.
@@ -61,14 +83,23 @@ impl<'a> Stack<'a> {
         Ok(())
     }
 
-    /// Takes a pattern off the stack.
-    pub fn take_pattern(&mut self) -> Result<&'a Built<Pattern<'a>>, NoMemory>
-        ensures { IfOk result (λ r. shown self.old ≡ with_pattern (pattern_of r.now.tree) (shown self.new)) }
+    /// Puts a pattern on the stack, which is kept in the arena.
+    pub fn keep_pattern(
+        &mut self,
+        arena: &'a Bump,
+        part: Built<Pattern<'a>>,
+    ) -> Result<(), NoMemory>
+        ensures { IfOk result (λ _. shown self.new ≡ with_pattern (pattern_of part.entry.tree) (shown self.old)) }
     {
-        match self.patterns.pop() {
-            Some(part) => Ok(part),
-            None => Err(NoMemory),
-        }
+        self.put_pattern(keep(arena, part)?)
+    }
+
+    /// Takes a pattern off the stack.
+    pub fn take_pattern(&mut self) -> &'a Built<Pattern<'a>>
+        ensures part { pattern_of result.now.tree ≡ top_pattern (shown self.old).parts }
+        ensures others { shown self.new ≡ without_pattern (shown self.old) }
+    {
+        self.patterns.pop().unwrap_or(self.spares.pattern)
     }
 
     /// Puts an expression on the stack.
@@ -79,14 +110,19 @@ impl<'a> Stack<'a> {
         Ok(())
     }
 
-    /// Takes an expression off the stack.
-    pub fn take_expr(&mut self) -> Result<&'a Built<Expr<'a>>, NoMemory>
-        ensures { IfOk result (λ r. shown self.old ≡ with_expr (tree_of r.now.tree) (shown self.new)) }
+    /// Puts an expression on the stack, which is kept in the arena.
+    pub fn keep_expr(&mut self, arena: &'a Bump, part: Built<Expr<'a>>) -> Result<(), NoMemory>
+        ensures { IfOk result (λ _. shown self.new ≡ with_expr (tree_of part.entry.tree) (shown self.old)) }
     {
-        match self.exprs.pop() {
-            Some(part) => Ok(part),
-            None => Err(NoMemory),
-        }
+        self.put_expr(keep(arena, part)?)
+    }
+
+    /// Takes an expression off the stack.
+    pub fn take_expr(&mut self) -> &'a Built<Expr<'a>>
+        ensures part { tree_of result.now.tree ≡ top_expr (shown self.old).parts }
+        ensures others { shown self.new ≡ without_expr (shown self.old) }
+    {
+        self.exprs.pop().unwrap_or(self.spares.expr)
     }
 
     /// Puts a type that may be left out on the stack.
@@ -99,14 +135,11 @@ impl<'a> Stack<'a> {
     }
 
     /// Takes a type that may be left out off the stack.
-    pub fn take_given_type(&mut self) -> Result<Option<&'a Built<TypeText<'a>>>, NoMemory>
-        ensures { IfOk result (λ r. shown self.old
-            ≡ with_given_type (option_map (λ t. type_of t.now.tree) r) (shown self.new)) }
+    pub fn take_given_type(&mut self) -> Option<&'a Built<TypeText<'a>>>
+        ensures part { option_map (λ t. type_of t.now.tree) result ≡ top_given_type (shown self.old).parts }
+        ensures others { shown self.new ≡ without_given_type (shown self.old) }
     {
-        match self.given_types.pop() {
-            Some(part) => Ok(part),
-            None => Err(NoMemory),
-        }
+        self.given_types.pop().unwrap_or(None)
     }
 
     /// Puts a guard of a case, if it has one on the stack.
@@ -119,14 +152,11 @@ impl<'a> Stack<'a> {
     }
 
     /// Takes a guard of a case, if it has one off the stack.
-    pub fn take_guard(&mut self) -> Result<Option<&'a Built<Expr<'a>>>, NoMemory>
-        ensures { IfOk result (λ r. shown self.old
-            ≡ with_guard (option_map (λ e. tree_of e.now.tree) r) (shown self.new)) }
+    pub fn take_guard(&mut self) -> Option<&'a Built<Expr<'a>>>
+        ensures part { option_map (λ e. tree_of e.now.tree) result ≡ top_guard (shown self.old).parts }
+        ensures others { shown self.new ≡ without_guard (shown self.old) }
     {
-        match self.guards.pop() {
-            Some(part) => Ok(part),
-            None => Err(NoMemory),
-        }
+        self.guards.pop().unwrap_or(None)
     }
 
     /// Puts a list of types on the stack.
@@ -139,14 +169,11 @@ impl<'a> Stack<'a> {
     }
 
     /// Takes a list of types off the stack.
-    pub fn take_type_list(&mut self) -> Result<Vec<Built<TypeText<'a>>>, NoMemory>
-        ensures { IfOk result (λ r. shown self.old
-            ≡ with_type_list (stacked (λ t. type_of t.tree) r.items []) (shown self.new)) }
+    pub fn take_type_list(&mut self) -> Vec<Built<TypeText<'a>>>
+        ensures part { stacked (λ t. type_of t.tree) result.items [] ≡ top_type_list (shown self.old).parts }
+        ensures others { shown self.new ≡ without_type_list (shown self.old) }
     {
-        match self.type_lists.pop() {
-            Some(part) => Ok(part),
-            None => Err(NoMemory),
-        }
+        self.type_lists.pop().unwrap_or(Vec::new(self.alloc))
     }
 
     /// Puts a list of patterns on the stack.
@@ -159,14 +186,11 @@ impl<'a> Stack<'a> {
     }
 
     /// Takes a list of patterns off the stack.
-    pub fn take_pattern_list(&mut self) -> Result<Vec<Built<Pattern<'a>>>, NoMemory>
-        ensures { IfOk result (λ r. shown self.old
-            ≡ with_pattern_list (stacked (λ p. pattern_of p.tree) r.items []) (shown self.new)) }
+    pub fn take_pattern_list(&mut self) -> Vec<Built<Pattern<'a>>>
+        ensures part { stacked (λ p. pattern_of p.tree) result.items [] ≡ top_pattern_list (shown self.old).parts }
+        ensures others { shown self.new ≡ without_pattern_list (shown self.old) }
     {
-        match self.pattern_lists.pop() {
-            Some(part) => Ok(part),
-            None => Err(NoMemory),
-        }
+        self.pattern_lists.pop().unwrap_or(Vec::new(self.alloc))
     }
 
     /// Puts a list of expressions on the stack.
@@ -179,14 +203,11 @@ impl<'a> Stack<'a> {
     }
 
     /// Takes a list of expressions off the stack.
-    pub fn take_expr_list(&mut self) -> Result<Vec<Built<Expr<'a>>>, NoMemory>
-        ensures { IfOk result (λ r. shown self.old
-            ≡ with_expr_list (stacked (λ e. tree_of e.tree) r.items []) (shown self.new)) }
+    pub fn take_expr_list(&mut self) -> Vec<Built<Expr<'a>>>
+        ensures part { stacked (λ e. tree_of e.tree) result.items [] ≡ top_expr_list (shown self.old).parts }
+        ensures others { shown self.new ≡ without_expr_list (shown self.old) }
     {
-        match self.expr_lists.pop() {
-            Some(part) => Ok(part),
-            None => Err(NoMemory),
-        }
+        self.expr_lists.pop().unwrap_or(Vec::new(self.alloc))
     }
 
     /// Puts a list of cases on the stack.
@@ -199,14 +220,11 @@ impl<'a> Stack<'a> {
     }
 
     /// Takes a list of cases off the stack.
-    pub fn take_case_list(&mut self) -> Result<Vec<Built<Case<'a>>>, NoMemory>
-        ensures { IfOk result (λ r. shown self.old
-            ≡ with_case_list (stacked (λ c. case_text c.tree) r.items []) (shown self.new)) }
+    pub fn take_case_list(&mut self) -> Vec<Built<Case<'a>>>
+        ensures part { stacked (λ c. case_text c.tree) result.items [] ≡ top_case_list (shown self.old).parts }
+        ensures others { shown self.new ≡ without_case_list (shown self.old) }
     {
-        match self.case_lists.pop() {
-            Some(part) => Ok(part),
-            None => Err(NoMemory),
-        }
+        self.case_lists.pop().unwrap_or(Vec::new(self.alloc))
     }
 
     /// Puts a head of a declaration on the stack.
@@ -218,13 +236,11 @@ impl<'a> Stack<'a> {
     }
 
     /// Takes a head of a declaration off the stack.
-    pub fn take_head(&mut self) -> Result<Head<'a>, NoMemory>
-        ensures { IfOk result (λ r. shown self.old ≡ with_head (head_of r) (shown self.new)) }
+    pub fn take_head(&mut self) -> Head<'a>
+        ensures part { head_of result ≡ top_head (shown self.old).parts }
+        ensures others { shown self.new ≡ without_head (shown self.old) }
     {
-        match self.heads.pop() {
-            Some(part) => Ok(part),
-            None => Err(NoMemory),
-        }
+        self.heads.pop().unwrap_or(Head::none(self.alloc))
     }
 
     /// Puts a contracts of a body on the stack.
@@ -236,13 +252,11 @@ impl<'a> Stack<'a> {
     }
 
     /// Takes a contracts of a body off the stack.
-    pub fn take_contracts(&mut self) -> Result<Contracts<'a>, NoMemory>
-        ensures { IfOk result (λ r. shown self.old ≡ with_contracts (contracts_of r) (shown self.new)) }
+    pub fn take_contracts(&mut self) -> Contracts<'a>
+        ensures part { contracts_of result ≡ top_contracts (shown self.old).parts }
+        ensures others { shown self.new ≡ without_contracts (shown self.old) }
     {
-        match self.contracts.pop() {
-            Some(part) => Ok(part),
-            None => Err(NoMemory),
-        }
+        self.contracts.pop().unwrap_or(Contracts::none(self.alloc))
     }
 
     /// Puts a postcondition of a body, if it has one on the stack.
@@ -255,14 +269,11 @@ impl<'a> Stack<'a> {
     }
 
     /// Takes a postcondition of a body, if it has one off the stack.
-    pub fn take_post(&mut self) -> Result<Option<&'a Claim<'a>>, NoMemory>
-        ensures { IfOk result (λ r. shown self.old
-            ≡ with_post (option_map (λ c. claim_parts c.now) r) (shown self.new)) }
+    pub fn take_post(&mut self) -> Option<&'a Claim<'a>>
+        ensures part { option_map (λ c. claim_parts c.now) result ≡ top_post (shown self.old).parts }
+        ensures others { shown self.new ≡ without_post (shown self.old) }
     {
-        match self.posts.pop() {
-            Some(part) => Ok(part),
-            None => Err(NoMemory),
-        }
+        self.posts.pop().unwrap_or(None)
     }
 
     /// Puts a whole declaration on the stack.
@@ -274,12 +285,10 @@ impl<'a> Stack<'a> {
     }
 
     /// Takes a whole declaration off the stack.
-    pub fn take_decl(&mut self) -> Result<&'a Checked<Decl<'a>>, NoMemory>
-        ensures { IfOk result (λ r. shown self.old ≡ with_decl (decl_of r.now.tree) (shown self.new)) }
+    pub fn take_decl(&mut self) -> &'a Checked<Decl<'a>>
+        ensures part { decl_of result.now.tree ≡ top_decl (shown self.old).parts }
+        ensures others { shown self.new ≡ without_decl (shown self.old) }
     {
-        match self.decls.pop() {
-            Some(part) => Ok(part),
-            None => Err(NoMemory),
-        }
+        self.decls.pop().unwrap_or(self.spares.decl)
     }
 }

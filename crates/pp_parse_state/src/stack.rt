@@ -5,11 +5,13 @@ ghost use Rattle.pp_grammar.specs.Frames.{Frame as plain_frame};
 ghost use Rattle.pp_grammar.specs.Joining.{floor, takes_hole};
 ghost use Rattle.pp_parse_state.specs.Joining.{top_binds, top_is_statement, lets_hole, is_claim};
 ghost use Rattle.pp_parse_state.specs.Parts.{Parts};
-ghost use Rattle.pp_parse_state.specs.Shown.{frame_of, frames, shown, with_frame};
+ghost use Rattle.pp_parse_state.specs.Shown.{frame_of, frames, over, shown, with_frame};
 
 use crate::joining::{binds, is_statement};
 use crate::operators::{LOOSEST, TIGHTEST, level};
+use crate::spares::Spares;
 use crate::{Contracts, Frame, Head, NoMemory};
+use bumpalo::Bump;
 use pp_tree::build::Claim;
 use pp_tree::{Built, Case, Checked, Decl, Expr, Pattern, TypeText};
 use std::alloc::Global;
@@ -17,6 +19,7 @@ use std::alloc::Global;
 /// What is open, and the parts of it and of what was read last, of each kind the last on top.
 #[derive(Drop)]
 pub struct Stack<'a> {
+    pub(crate) alloc: Global,
     pub(crate) frames: Vec<Frame>,
     pub(crate) names: Vec<&'a str>,
     pub(crate) types: Vec<&'a Built<TypeText<'a>>>,
@@ -32,14 +35,30 @@ pub struct Stack<'a> {
     pub(crate) contracts: Vec<Contracts<'a>>,
     pub(crate) posts: Vec<Option<&'a Claim<'a>>>,
     pub(crate) decls: Vec<&'a Checked<Decl<'a>>>,
+    pub(crate) spares: Spares<'a>,
 }
 
 impl<'a> Stack<'a> {
     /// Nothing is open.
-    pub fn new(alloc: Global) -> Stack<'a>
+    pub fn new(alloc: Global, arena: &'a Bump) -> Result<Stack<'a>, NoMemory>
+        ensures { IfOk result (λ s. frames s ≡ []) }
+    {
+        Ok(Stack::empty(alloc, Spares::new(arena)?))
+    }
+
+    /// Nothing is open any more.
+    pub fn clear(&mut self)
+        ensures { frames self.new ≡ [] }
+    {
+        *self = Stack::empty(self.alloc, self.spares);
+    }
+
+    /// The stack on which nothing lies.
+    fn empty(alloc: Global, spares: Spares<'a>) -> Stack<'a>
         ensures { frames result ≡ [] }
     {
         Stack {
+            alloc,
             frames: Vec::new(alloc),
             names: Vec::new(alloc),
             types: Vec::new(alloc),
@@ -55,6 +74,7 @@ impl<'a> Stack<'a> {
             contracts: Vec::new(alloc),
             posts: Vec::new(alloc),
             decls: Vec::new(alloc),
+            spares,
         }
     }
 
@@ -70,7 +90,7 @@ impl<'a> Stack<'a> {
     /// The frame on top is taken off. Its parts stay.
     #[tactic(auto, using(crate::proofs::Stacked::stacked_push))]
     pub fn pop(&mut self) -> Option<Frame>
-        ensures { MatchOption result ((frames self.old ≡ []) × (frames self.new ≡ []))
+        ensures { MatchOption result (((shown self.old).kinds ≡ []) × (shown self.new ≡ shown self.old))
             (λ f. shown self.old ≡ with_frame f (shown self.new)) }
     {
         self.frames.pop()
@@ -79,7 +99,8 @@ impl<'a> Stack<'a> {
     /// How tight an operand has to bind above the frames.
     #[tactic(auto, using(crate::proofs::Stacked::stacked_push))]
     pub fn floor(&self) -> u32
-        ensures { result ≡ floor (frames self.now) }
+        ensures frames { result ≡ floor (frames self.now) }
+        ensures kinds { (p : Parts) → result ≡ floor (over (shown self.now).kinds p) }
     {
         match self.frames.split_last() {
             None => 0,

@@ -1,16 +1,19 @@
 //! The steps in the heads of classes and functions.
 
 ghost use Rattle.pp_tokens.specs.Spans.{IsSpan};
-ghost use Rattle.pp_grammar.specs.StepBodies.{on_after_params, on_after_type_param, on_after_type_params};
-ghost use Rattle.pp_grammar.specs.StepBodies.{on_class_params, on_def_params, on_head_name, on_no_params};
-ghost use Rattle.pp_grammar.specs.StepBodies.{on_object_name, on_param_name, on_params_open, on_type_param};
-ghost use Rattle.pp_grammar.specs.StepBodies.{on_want_name, on_want_object_name, on_want_param, on_want_type_param};
+ghost use Rattle.pp_grammar.specs.StepBodies.{on_after_params, on_no_params, on_type_param};
+ghost use Rattle.pp_parse_state.specs.declared.frame.Frame.TheVariants.{Header};
+ghost use Rattle.pp_parse_state.specs.declared.frame.Kind.TheVariants.{Class, Def};
+ghost use Rattle.pp_parse_state.specs.declared.mode.Mode.TheVariants.{AfterHeadName, AfterObjectName, AfterParamName};
+ghost use Rattle.pp_parse_state.specs.declared.mode.Mode.TheVariants.{AfterParams, AfterTypeParam, AfterTypeParams};
+ghost use Rattle.pp_parse_state.specs.declared.mode.Mode.TheVariants.{ParamsOpen, WantName, WantObjectName};
+ghost use Rattle.pp_parse_state.specs.declared.mode.Mode.TheVariants.{WantParam, WantTypeParam};
 ghost use Rattle.pp_parse_state.specs.declared.stack.Stack.{Stack};
-ghost use Rattle.pp_parse_state.specs.Shown.{frames, head_of, kind_of, Moves};
+ghost use Rattle.pp_parse_state.specs.Shown.{Moves, frames, frames_of, shown, step_in, with_frame};
 
-use pp_parse_frames::heads::{class_ends, head_at, with_list, with_type_param};
-use pp_parse_frames::opening::{behind_name, open};
-use pp_parse_state::{Current, Frame, Head, Kind, Mode, Move, Stack, Stop};
+use pp_parse_frames::heads::{add_type_param, class_ends, end_params, head_at};
+use pp_parse_frames::opening::{behind_word, open};
+use pp_parse_state::{Current, Frame, Kind, Mode, Move, Stack, Stop};
 use pp_tokens::{Bracket, Operator, Reserved, TokenKind};
 
 /// The name of a class or a function is wanted.
@@ -20,13 +23,11 @@ pub fn on_want_name<'a>(
     kind: Kind,
 ) -> Result<Move, Stop<'a>>
     requires { IsSpan cx.now.text.now cx.now.token }
-    ensures { Moves result stack.new (on_want_name cx.now.text.now cx.now.token (frames stack.old)
-        (kind_of kind) cx.now.token.kind) }
+    ensures { Moves result stack.new (step_in cx.now.text.now cx.now.token (WantName kind) (shown stack.old)) }
 {
     match cx.token.kind {
         TokenKind::Name => {
-            let head = head_at(cx, cx.token.from, cx.word()?);
-            stack.put_head(head)?;
+            stack.put_head(head_at(cx, cx.token.from, cx.word()?))?;
             open(stack, Frame::Header(kind), Mode::AfterHeadName)
         }
         _ => Err(cx.refuse()),
@@ -40,11 +41,10 @@ fn on_class_params<'a>(
     sealed: bool,
     case: bool,
     is_trait: bool,
-    head: Head<'a>,
 ) -> Result<Move, Stop<'a>>
     requires { IsSpan cx.now.text.now cx.now.token }
-    ensures { Moves result stack.new (on_class_params cx.now.text.now cx.now.token (frames stack.old) sealed
-        case is_trait (head_of head.entry) cx.now.token.kind) }
+    ensures { Moves result stack.new (on_after_params cx.now.text.now cx.now.token
+        (frames_of (with_frame (Header (Class sealed case is_trait)) (shown stack.old))) cx.now.token.kind) }
 {
     match cx.token.kind {
         TokenKind::Word(Reserved::Extends) => {
@@ -53,27 +53,21 @@ fn on_class_params<'a>(
                 case,
                 is_trait,
             };
-            stack.put_head(head)?;
             stack.push(Frame::Header(kind))?;
             open(stack, Frame::ParentType, Mode::WantType)
         }
-        _ => class_ends(cx, stack, sealed, case, is_trait, head, None),
+        _ => class_ends(cx, stack, sealed, case, is_trait, None),
     }
 }
 
 /// Behind the parameters of a function.
-fn on_def_params<'a>(
-    cx: &Current<'a, '_>,
-    stack: &mut Stack<'a>,
-    head: Head<'a>,
-) -> Result<Move, Stop<'a>>
+fn on_def_params<'a>(cx: &Current<'a, '_>, stack: &mut Stack<'a>) -> Result<Move, Stop<'a>>
     requires { IsSpan cx.now.text.now cx.now.token }
-    ensures { Moves result stack.new (on_def_params cx.now.text.now cx.now.token (frames stack.old)
-        (head_of head.entry) cx.now.token.kind) }
+    ensures { Moves result stack.new (on_after_params cx.now.text.now cx.now.token
+        (frames_of (with_frame (Header Def) (shown stack.old))) cx.now.token.kind) }
 {
     match cx.token.kind {
         TokenKind::Op(Operator::Colon) => {
-            stack.put_head(head)?;
             stack.push(Frame::Header(Kind::Def))?;
             open(stack, Frame::ResultType, Mode::WantType)
         }
@@ -84,24 +78,19 @@ fn on_def_params<'a>(
 /// Behind the parameters.
 pub fn on_after_params<'a>(cx: &Current<'a, '_>, stack: &mut Stack<'a>) -> Result<Move, Stop<'a>>
     requires { IsSpan cx.now.text.now cx.now.token }
-    ensures { Moves result stack.new (on_after_params cx.now.text.now cx.now.token (frames stack.old)
-        cx.now.token.kind) }
+    ensures { Moves result stack.new (step_in cx.now.text.now cx.now.token AfterParams (shown stack.old)) }
 {
-    let Some(frame) = stack.pop() else {
-        return Err(cx.refuse());
-    };
-    match frame {
-        Frame::Header(kind) => {
-            let head = stack.take_head()?;
-            match kind {
+    match stack.pop() {
+        Some(
+            Frame::Header(
                 Kind::Class {
                     sealed,
                     case,
                     is_trait,
-                } => on_class_params(cx, stack, sealed, case, is_trait, head),
-                Kind::Def => on_def_params(cx, stack, head),
-            }
-        }
+                },
+            ),
+        ) => on_class_params(cx, stack, sealed, case, is_trait),
+        Some(Frame::Header(Kind::Def)) => on_def_params(cx, stack),
         _ => Err(cx.refuse()),
     }
 }
@@ -112,8 +101,7 @@ pub fn on_after_type_params<'a>(
     stack: &mut Stack<'a>,
 ) -> Result<Move, Stop<'a>>
     requires { IsSpan cx.now.text.now cx.now.token }
-    ensures { Moves result stack.new (on_after_type_params cx.now.text.now cx.now.token (frames stack.old)
-        cx.now.token.kind) }
+    ensures { Moves result stack.new (step_in cx.now.text.now cx.now.token AfterTypeParams (shown stack.old)) }
 {
     match cx.token.kind {
         TokenKind::Mark(Bracket::OpenRound) => Ok(Move::Go(Mode::ParamsOpen)),
@@ -124,8 +112,7 @@ pub fn on_after_type_params<'a>(
 /// Behind the name of a class or a function.
 pub fn on_head_name<'a>(cx: &Current<'a, '_>, stack: &mut Stack<'a>) -> Result<Move, Stop<'a>>
     requires { IsSpan cx.now.text.now cx.now.token }
-    ensures { Moves result stack.new (on_head_name cx.now.text.now cx.now.token (frames stack.old)
-        cx.now.token.kind) }
+    ensures { Moves result stack.new (step_in cx.now.text.now cx.now.token AfterHeadName (shown stack.old)) }
 {
     match cx.token.kind {
         TokenKind::Mark(Bracket::OpenSquare) => Ok(Move::Go(Mode::WantTypeParam)),
@@ -138,14 +125,9 @@ fn on_type_param<'a>(cx: &Current<'a, '_>, stack: &mut Stack<'a>) -> Result<Move
     requires { IsSpan cx.now.text.now cx.now.token }
     ensures { Moves result stack.new (on_type_param cx.now.text.now cx.now.token (frames stack.old)) }
 {
-    let Some(frame) = stack.pop() else {
-        return Err(cx.refuse());
-    };
-    match frame {
-        Frame::Header(kind) => {
-            let head = stack.take_head()?;
-            let head = with_type_param(head, cx.word()?)?;
-            stack.put_head(head)?;
+    match stack.pop() {
+        Some(Frame::Header(kind)) => {
+            add_type_param(cx, stack)?;
             open(stack, Frame::Header(kind), Mode::AfterTypeParam)
         }
         _ => Err(cx.refuse()),
@@ -155,8 +137,7 @@ fn on_type_param<'a>(cx: &Current<'a, '_>, stack: &mut Stack<'a>) -> Result<Move
 /// A type parameter is wanted.
 pub fn on_want_type_param<'a>(cx: &Current<'a, '_>, stack: &mut Stack<'a>) -> Result<Move, Stop<'a>>
     requires { IsSpan cx.now.text.now cx.now.token }
-    ensures { Moves result stack.new (on_want_type_param cx.now.text.now cx.now.token (frames stack.old)
-        cx.now.token.kind) }
+    ensures { Moves result stack.new (step_in cx.now.text.now cx.now.token WantTypeParam (shown stack.old)) }
 {
     match cx.token.kind {
         TokenKind::Name => on_type_param(cx, stack),
@@ -167,8 +148,7 @@ pub fn on_want_type_param<'a>(cx: &Current<'a, '_>, stack: &mut Stack<'a>) -> Re
 /// Behind a type parameter.
 pub fn on_after_type_param<'a>(cx: &Current<'a, '_>) -> Result<Move, Stop<'a>>
     requires { IsSpan cx.now.text.now cx.now.token }
-    ensures { (s : Stack) → Moves result s (on_after_type_param cx.now.text.now cx.now.token (frames s)
-        cx.now.token.kind) }
+    ensures { (s : Stack) → Moves result s (step_in cx.now.text.now cx.now.token AfterTypeParam (shown s)) }
 {
     match cx.token.kind {
         TokenKind::Mark(Bracket::Comma) => Ok(Move::Go(Mode::WantTypeParam)),
@@ -180,10 +160,10 @@ pub fn on_after_type_param<'a>(cx: &Current<'a, '_>) -> Result<Move, Stop<'a>>
 /// A parameter is wanted.
 pub fn on_want_param<'a>(cx: &Current<'a, '_>, stack: &mut Stack<'a>) -> Result<Move, Stop<'a>>
     requires { IsSpan cx.now.text.now cx.now.token }
-    ensures { Moves result stack.new (on_want_param cx.now.text.now cx.now.token (frames stack.old) cx.now.token.kind) }
+    ensures { Moves result stack.new (step_in cx.now.text.now cx.now.token WantParam (shown stack.old)) }
 {
     match cx.token.kind {
-        TokenKind::Name => behind_name(stack, cx.word()?, Mode::AfterParamName(cx.token.from)),
+        TokenKind::Name => behind_word(cx, stack, Mode::AfterParamName(cx.token.from)),
         _ => Err(cx.refuse()),
     }
 }
@@ -193,13 +173,9 @@ fn on_no_params<'a>(cx: &Current<'a, '_>, stack: &mut Stack<'a>) -> Result<Move,
     requires { IsSpan cx.now.text.now cx.now.token }
     ensures { Moves result stack.new (on_no_params cx.now.text.now cx.now.token (frames stack.old)) }
 {
-    let Some(frame) = stack.pop() else {
-        return Err(cx.refuse());
-    };
-    match frame {
-        Frame::Header(kind) => {
-            let head = stack.take_head()?;
-            stack.put_head(with_list(head))?;
+    match stack.pop() {
+        Some(Frame::Header(kind)) => {
+            end_params(stack)?;
             open(stack, Frame::Header(kind), Mode::AfterParams)
         }
         _ => Err(cx.refuse()),
@@ -209,8 +185,7 @@ fn on_no_params<'a>(cx: &Current<'a, '_>, stack: &mut Stack<'a>) -> Result<Move,
 /// Behind the bracket that opens the parameters.
 pub fn on_params_open<'a>(cx: &Current<'a, '_>, stack: &mut Stack<'a>) -> Result<Move, Stop<'a>>
     requires { IsSpan cx.now.text.now cx.now.token }
-    ensures { Moves result stack.new (on_params_open cx.now.text.now cx.now.token (frames stack.old)
-        cx.now.token.kind) }
+    ensures { Moves result stack.new (step_in cx.now.text.now cx.now.token ParamsOpen (shown stack.old)) }
 {
     match cx.token.kind {
         TokenKind::Mark(Bracket::CloseRound) => on_no_params(cx, stack),
@@ -223,17 +198,12 @@ pub fn on_param_name<'a>(
     cx: &Current<'a, '_>,
     stack: &mut Stack<'a>,
     at: u32,
-    name: &'a str,
 ) -> Result<Move, Stop<'a>>
     requires { IsSpan cx.now.text.now cx.now.token }
-    ensures { Moves result stack.new (on_param_name cx.now.text.now cx.now.token (frames stack.old) at
-        name.now cx.now.token.kind) }
+    ensures { Moves result stack.new (step_in cx.now.text.now cx.now.token (AfterParamName at) (shown stack.old)) }
 {
     match cx.token.kind {
-        TokenKind::Op(Operator::Colon) => {
-            stack.put_name(name)?;
-            open(stack, Frame::ParamType(at), Mode::WantType)
-        }
+        TokenKind::Op(Operator::Colon) => open(stack, Frame::ParamType(at), Mode::WantType),
         _ => Err(cx.refuse()),
     }
 }
@@ -244,11 +214,10 @@ pub fn on_want_object_name<'a>(
     stack: &mut Stack<'a>,
 ) -> Result<Move, Stop<'a>>
     requires { IsSpan cx.now.text.now cx.now.token }
-    ensures { Moves result stack.new (on_want_object_name cx.now.text.now cx.now.token (frames stack.old)
-        cx.now.token.kind) }
+    ensures { Moves result stack.new (step_in cx.now.text.now cx.now.token WantObjectName (shown stack.old)) }
 {
     match cx.token.kind {
-        TokenKind::Name => behind_name(stack, cx.word()?, Mode::AfterObjectName(cx.token.from)),
+        TokenKind::Name => behind_word(cx, stack, Mode::AfterObjectName(cx.token.from)),
         _ => Err(cx.refuse()),
     }
 }
@@ -258,17 +227,12 @@ pub fn on_object_name<'a>(
     cx: &Current<'a, '_>,
     stack: &mut Stack<'a>,
     at: u32,
-    name: &'a str,
 ) -> Result<Move, Stop<'a>>
     requires { IsSpan cx.now.text.now cx.now.token }
-    ensures { Moves result stack.new (on_object_name cx.now.text.now cx.now.token (frames stack.old) at
-        name.now cx.now.token.kind) }
+    ensures { Moves result stack.new (step_in cx.now.text.now cx.now.token (AfterObjectName at) (shown stack.old)) }
 {
     match cx.token.kind {
-        TokenKind::Word(Reserved::Extends) => {
-            stack.put_name(name)?;
-            open(stack, Frame::ObjectParent(at), Mode::WantType)
-        }
+        TokenKind::Word(Reserved::Extends) => open(stack, Frame::ObjectParent(at), Mode::WantType),
         _ => Err(cx.refuse()),
     }
 }

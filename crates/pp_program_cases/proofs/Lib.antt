@@ -1,1 +1,4 @@
+mod Frames
+mod Growth
 mod Ranges
+mod Symbols

@@ -1,143 +1,59 @@
-//! Tries what the program answers: a case a line of standard input, an answer a line. What the answers must be
-//! was worked out apart from the program: `stdout` has it.
+//! Tries what becomes of whole programs, and measures how fast it is: what is answered to words and sources, rounds
+//! beside the evaluator, plans, circuits of runs, proofs, and whether matches are covered. What is to be printed was
+//! worked out apart from the program: `stdout` has it.
 //!
-//! A case is the words of the command line without the paths, then `|`, then the sources; without `|` there are none.
-//! In the sources `\n`, `\r` and `\t` stand for what they stand for in Rust, `\x` for the byte 255, and `\s` stands
-//! between sources. The answer is the exit status and then what is put, where `\n` stands for a line feed. It is
-//! `no case` where a source is too long or there are more than 16, and `no words` where the words are refused before
-//! any source is read. A run that the plain evaluator can make is made by it and by the machine, and the answer is `the
-//! evaluators differ` where their outcomes do.
+//! Each word of the command line is a task and, behind a blank, what it takes: a file of programs, or a source or a
+//! case with its sizes. It is printed as a heading, and below it what the task prints. `args` has the tasks that are
+//! tried on the files in `data`; the scripts under `benches/` give those that measure larger sizes.
+//!
+//! | Task | What is done | Module |
+//! |---|---|---|
+//! | `answers FILE` | what the program answers to words and sources | `answers` |
+//! | `rounds FILE` | the circuits of rounds are compared with the runs | `rounds` |
+//! | `plans FILE` | what the plans of the programs say | `plans` |
+//! | `circuits SOURCE ROUND DEPTH TIMES` | how large the circuits of runs are | `circuits` |
+//! | `guess_runs FILE` | whether checks are proved in a round | `guess_runs` |
+//! | `guesses SOURCE ROUNDS LEMMAS` | what the proofs of checks take | `guesses` |
+//! | `clauses SOURCE CHECK ROUND` | the clauses of a proof | `asked` |
+//! | `coverage CASE SIZE` | whether a large match is covered | `coverage` |
 #![tactic(auto)]
 
-mod evaluators;
+mod answers;
+mod asked;
+mod circuits;
+mod coverage;
+mod guess_runs;
+mod guesses;
+mod plans;
+mod programs;
+mod rounds;
+mod solving;
+mod steps;
+mod words;
 
-ghost use Rattle.std.specs.Prelude.{◌↔◌, All, IsTrue};
-ghost use Rattle.pp_front.specs.Programs.{IsShort};
-ghost use Rattle.pp_modes.specs.Answers.{IsInRange};
-ghost use Rattle.pp_words.specs.Told.{task_told};
+use anyhow::{Context, Result, bail};
+use std::env;
 
-use crate::evaluators::agree;
-use anyhow::Result;
-use pp_answers::{Response, respond};
-use pp_text::MOST_BYTES;
-use pp_words::{Task, read};
-use std::alloc::Global;
-use std::io::{BufRead, BufReader};
-
-/// The words, with a path for each source.
-fn words<'a>(alloc: Global, text: &'a str, sources: usize) -> Result<Vec<&'a str>> {
-    let mut words = Vec::new(alloc);
-    for word in text.split_whitespace() {
-        words.push(word)?;
-    }
-    for _ in 0..sources {
-        words.push("a.scala")?;
-    }
-    Ok(words)
-}
-
-/// The byte that an escape stands for.
-fn escaped(byte: u8) -> u8 {
-    match byte {
-        b'n' => b'\n',
-        b'r' => b'\r',
-        b't' => b'\t',
-        b'x' => 255,
-        other => other,
-    }
-}
-
-/// The source that a part of a line has.
-fn source(alloc: Global, part: &str) -> Result<Vec<u8>> {
-    let mut source = Vec::new(alloc);
-    let mut escapes = false;
-    for byte in part.as_bytes() {
-        if !escapes && *byte == b'\\' {
-            escapes = true;
-            continue;
-        }
-        source.push(if escapes { escaped(*byte) } else { *byte })?;
-        escapes = false;
-    }
-    Ok(source)
-}
-
-fn sources(alloc: Global, text: &str) -> Result<Vec<Vec<u8>>> {
-    let mut sources = Vec::new(alloc);
-    for part in text.split("\\s") {
-        sources.push(source(alloc, part)?)?;
-    }
-    Ok(sources)
-}
-
-fn are_short(sources: &[Vec<u8>]) -> bool
-    ensures { IsTrue result ↔ All IsShort sources.now }
-{
-    sources.iter().all(|source| source.len() <= MOST_BYTES)
-}
-
-/// Adds a text, with its line feeds shown.
-fn push_shown(out: &mut String, text: &str) -> Result<()> {
-    let mut lines = text.split("\n");
-    if let Some(first) = lines.next() {
-        out.push_str(first)?;
-    }
-    for line in lines {
-        out.push_str("\\n")?;
-        out.push_str(line)?;
-    }
-    Ok(())
-}
-
-fn shown(alloc: Global, response: &Response) -> Result<String> {
-    match response {
-        Response::Report(status, lines) => {
-            let mut out = format!(in alloc; "{} ", status.code())?;
-            for line in lines {
-                push_shown(&mut out, line.as_str())?;
-            }
-            Ok(out)
-        }
-        Response::Refusal(status, line) => {
-            let mut out = format!(in alloc; "{} ", status.code())?;
-            push_shown(&mut out, line.as_str())?;
-            Ok(out)
-        }
-    }
-}
-
-/// What is answered to a task on these sources.
-fn told(alloc: Global, task: Task, sources: &[Vec<u8>]) -> Result<String>
-    requires { IsInRange (task_told task) }
-{
-    if sources.len() > 16 || !are_short(sources) {
-        return Ok(String::from_str(alloc, "no case")?);
-    }
-    if !agree(alloc, &task, sources)? {
-        return Ok(String::from_str(alloc, "the evaluators differ")?);
-    }
-    shown(alloc, &respond(alloc, task, sources)?)
-}
-
-#[tactic(auto, using(crate::proofs::Ranges::line_in_range))]
-fn answer(alloc: Global, case: &str) -> Result<String> {
-    let (text, sources) = match case.split_once('|') {
-        Some((text, parts)) => (text, sources(alloc, parts)?),
-        None => (case, Vec::new(alloc)),
-    };
-    let words = words(alloc, text, sources.len())?;
-    match read(alloc, &words) {
-        Ok(line) => told(alloc, line.task, &sources),
-        Err(_) => Ok(String::from_str(alloc, "no words")?),
+/// Does a task.
+fn run(rt: &HostRuntime, task: &str) -> Result<()> {
+    println!(rt; "# {task}")?;
+    let (name, given) = task.split_once(' ').context("a task and what it takes")?;
+    match name {
+        "answers" => answers::print_answers(rt, given),
+        "rounds" => rounds::print_rounds(rt, given),
+        "plans" => plans::print_plans(rt, given),
+        "circuits" => circuits::print_sizes(rt, given),
+        "guess_runs" => guess_runs::print_proved(rt, given),
+        "guesses" => guesses::print_proofs(rt, given),
+        "clauses" => asked::print_asked(rt, given),
+        "coverage" => coverage::print_coverage(rt, given),
+        other => bail!("no task {other}"),
     }
 }
 
 fn main(rt: HostRuntime) -> Result<()> {
-    let alloc = rt.alloc();
-    for line in BufReader::new(alloc, rt.reader())?.lines(alloc) {
-        let line = line?;
-        let answer = answer(alloc, line.as_str())?;
-        println!(rt; "{answer}")?;
+    for task in env::args(&rt)?.skip(1) {
+        run(&rt, task.as_str())?;
     }
     Ok(())
 }

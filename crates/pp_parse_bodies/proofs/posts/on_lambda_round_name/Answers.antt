@@ -5,7 +5,7 @@ use Rattle.pp_tokens.specs.declared.token.Operator.TheVariants.{Colon}
 use Rattle.pp_tokens.specs.declared.token.TokenKind.{TokenKind}
 use Rattle.pp_tokens.specs.declared.token.TokenKind.TheVariants.{Mark, Op}
 use Rattle.pp_grammar.specs.Frames.{Move}
-use Rattle.pp_parse_state.specs.Shown.{Moves, frames}
+use Rattle.pp_parse_state.specs.Shown.{Moves, name_on, shown, under_name}
 use Rattle.pp_parse_bodies.proofs.Claims.{round_name_or_claim}
 use Rattle.pp_parse_bodies.proofs.posts.on_lambda_round_name.Goals as goal
 
@@ -13,11 +13,11 @@ pub returns : goal.returns
 returns c =
     let text = c.args.cx.now.text.now in
     let t = c.args.cx.now.token in
-    let s = frames c.args.stack.now in
+    let s = shown c.args.stack.now in
     let k = t.kind in
     let P : Move → Type 0 = λ m. Moves c.on_round_claim_name.result c.on_round_claim_name.new.stack m in
     let Q : TokenKind → Bool → Type 0 = λ x b. MatchBool b (k ≡ x) (k ≡ x → ⊥) in
     let closes : k ≡ Mark CloseRound → ⊥ = subst (Q (Mark CloseRound)) c.if-closes_round.false c.closes_round.ensures in
     let colon : k ≡ Op Colon → ⊥ = subst (Q (Op Colon)) c.if-is_colon.false c.is_colon.ensures in
-    subst P (sym (round_name_or_claim text t s c.args.at c.args.name.now k closes colon))
+    subst P (sym (round_name_or_claim text t (under_name s) c.args.at (name_on s) k closes colon))
     c.on_round_claim_name.ensures

@@ -3,6 +3,3 @@ use Rattle.pp_parse_bodies.proofs.posts.on_late_name.Goals as goal
 
 pub returns-in_default : goal.returns-in_default
 returns-in_default c = let h = c.misplaced_name.ensures c.args.cx.now.text.now c.args.cx.now.token in grind arith
-
-pub returns-in-Int : goal.returns-in-Int
-returns-in-Int c = let h = c.on_int.ensures c.args.stack.now in grind arith

@@ -17,6 +17,6 @@ returns c =
     let P : Move → Type 0 = λ m. Moves c.on_claim.result c.on_claim.new.stack m in
     let Q : TokenKind → Bool → Type 0 = λ x b. MatchBool b (k ≡ x) (k ≡ x → ⊥) in
     let name : k ≡ Name → ⊥ = subst (Q Name) c.if-is_name.false c.is_name.ensures in
-    let opening : k ≡ Mark OpenRound → ⊥ = subst (Q (Mark OpenRound)) c.if-is_opening.false c.is_opening.ensures in
+    let opening : k ≡ Mark OpenRound → ⊥ = subst (Q (Mark OpenRound)) c.if-opens_round.false c.opens_round.ensures in
     subst P (sym (lambda_or_claim text t s k name opening))
     c.on_claim.ensures

@@ -1,7 +1,8 @@
 use Rattle.std.proofs.Common.{◌≡◌, ◌≤◌, length, take, []}
 use Rattle.pp_grammar.specs.Joining.{takes_hole}
 use Rattle.pp_parse_state.specs.Joining.{hole_in}
-use Rattle.pp_parse_state.specs.Shown.{frames, stacked}
+use Rattle.pp_parse_state.specs.Shown.{frames}
+use Rattle.pp_parse_state.specs.Values.{stacked}
 use Rattle.pp_parse_state.proofs.stack.Stack.takes_hole.Given as goal
 
 abbrev pub invariant-loop-depth : goal.invariant-loop-depth

@@ -1,3 +1,0 @@
-mod Frames
-mod Growth
-mod Symbols
