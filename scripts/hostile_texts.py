@@ -45,7 +45,7 @@ def sources():
     """The tokens of each source in four lists: examples, whole programs, and sources for the parser and for typing."""
     files = sorted(ROOT.glob("examples/**/*.scala")) + sorted(ROOT.glob("crates/*/data/*.scala"))
     pools = [[path.read_bytes() for path in files], [], [], []]
-    for line in (ROOT / "crates/pp_program_cases/data/answers.txt").read_bytes().split(b"\n"):
+    for line in (ROOT / "crates/pp_answer_cases/stdin").read_bytes().split(b"\n"):
         pools[1] += unfolded(line.partition(b"|")[2])
     for place, name in (2, "units"), (3, "typing"):
         for line in (ROOT / f"crates/pp_source_cases/data/{name}.txt").read_bytes().split(b"\n"):

@@ -1,6 +1,7 @@
 //! Cases, and how they are read and written.
 
 use anyhow::{Context, Result};
+use pp_case_line::CaseLine;
 use pp_prog::{DataId, Value};
 use std::alloc::Global;
 
@@ -44,24 +45,23 @@ pub fn number(word: Option<&str>) -> Result<u32> {
     Ok(number)
 }
 
-/// The numbers that spell the value, with a blank between two.
-pub fn spelled(alloc: Global, value: &Value) -> Result<String> {
-    let mut line = String::new(alloc);
-    spell(&mut line, value)?;
-    Ok(String::from_str(alloc, line.as_str().trim())?)
-}
-
 /// Adds the numbers that spell the value, each behind a blank.
-pub fn spell(line: &mut String, value: &Value) -> Result<()> {
+pub fn spell(line: &mut CaseLine, value: &Value) {
     match value {
-        Value::Int(n) => write!(line, " {n}")?,
-        Value::Bool(b) => write!(line, " {}", u8::from(*b))?,
+        Value::Int(n) => push_number(line, *n),
+        Value::Bool(b) => push_number(line, i32::from(*b)),
         Value::Tree(c, fields) => {
-            write!(line, " {}", c.0)?;
+            line.put(" ");
+            line.put(c.0);
             for field in fields.as_slice() {
-                spell(line, field)?;
+                spell(line, field);
             }
         }
     }
-    Ok(())
+}
+
+/// Adds a number behind a blank.
+fn push_number(line: &mut CaseLine, number: i32) {
+    line.put(" ");
+    line.put(number);
 }

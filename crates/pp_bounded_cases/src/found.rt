@@ -1,9 +1,9 @@
 //! What is read of two trees, of the comparisons of them and of the choice between them.
 
-use crate::case::{Case, spelled};
+use crate::case::{Case, spell};
 use anyhow::{Result, ensure};
+use pp_case_line::CaseLine;
 use pp_prog::Value;
-use std::alloc::Global;
 
 /// The values for which the two trees and the choice between them stand, and what the domain's comparisons say.
 #[derive(Drop)]
@@ -35,13 +35,16 @@ impl Found {
         Ok(())
     }
 
-    /// The values, spelled, with the comparisons between them.
-    pub fn show(&self, alloc: Global) -> Result<String> {
-        let left = spelled(alloc, &self.left)?;
-        let right = spelled(alloc, &self.right)?;
-        let same = u8::from(self.same);
-        let below = u8::from(self.below);
-        let merged = spelled(alloc, &self.merged)?;
-        Ok(format!(in alloc; "{left} | {right} | {same} {below} | {merged}")?)
+    /// Adds the values, each spelled behind a blank, with the comparisons between them.
+    pub fn show(&self, line: &mut CaseLine) {
+        spell(line, &self.left);
+        line.put(" |");
+        spell(line, &self.right);
+        line.put(" | ");
+        line.put(u8::from(self.same));
+        line.put(" ");
+        line.put(u8::from(self.below));
+        line.put(" |");
+        spell(line, &self.merged);
     }
 }

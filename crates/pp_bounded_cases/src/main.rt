@@ -68,7 +68,8 @@ fn main(rt: HostRuntime) -> Result<()> {
     for line in BufReader::new(alloc, rt.reader())?.lines(alloc) {
         let line = line?;
         let answer = answer(alloc, &table, line.as_str())?;
-        println!(rt; "{answer}")?;
+        // A value is spelled with a blank before it, also where it is the first of its line.
+        println!(rt; "{}", answer.as_str().trim_start())?;
     }
     Ok(())
 }

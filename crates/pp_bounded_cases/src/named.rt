@@ -10,6 +10,7 @@ use crate::case::number;
 use crate::registers::literal_at;
 use crate::solving::assignment;
 use anyhow::Result;
+use pp_case_line::CaseLine;
 use pp_clause::Lit;
 use pp_domain::{Symbol, Symbols};
 use pp_gate::Circuit;
@@ -40,7 +41,7 @@ fn answer_in(
     requires sample { IsSample table.now }
     requires fits { NamedFits table.now trees.old circuit.old }
 {
-    let mut answer = String::new(alloc);
+    let mut answer = CaseLine::new(alloc);
     let mut symbols = Items::new(alloc);
     let mut asked = Vec::new(alloc);
     for _ in 0..words.len() {
@@ -56,8 +57,8 @@ fn answer_in(
     }
     asked.push(trees.ok)?;
     let found = assignment(alloc, circuit, &asked)?;
-    answer.push_str(if found.is_some() { "sat" } else { "unsat" })?;
-    Ok(answer)
+    answer.put(if found.is_some() { "sat" } else { "unsat" });
+    Ok(answer.end()?)
 }
 
 /// The words of the line but the first, the last one first.
@@ -79,7 +80,7 @@ fn next_call(
     symbols: &mut Symbols<NamedTree>,
     asked: &mut Vec<Lit>,
     words: &mut Vec<&str>,
-    answer: &mut String,
+    answer: &mut CaseLine,
 ) -> Result<()>
     requires sample { IsSample table.now }
     requires held { AreHeld table.now trees.old circuit.old symbols.old }
@@ -108,7 +109,7 @@ fn counted(
     symbols: &mut Symbols<NamedTree>,
     word: &str,
     words: &mut Vec<&str>,
-    answer: &mut String,
+    answer: &mut CaseLine,
 ) -> Result<()>
     requires sample { IsSample table.now }
     requires held { AreHeld table.now trees.old circuit.old symbols.old }
@@ -119,6 +120,9 @@ fn counted(
     call(trees, circuit, table, symbols, word, words)?;
     let more = circuit.gates().saturating_sub(gates);
     let seen = trees.expansions.len().saturating_sub(looks);
-    write!(answer, "{more} {seen}, ")?;
+    answer.put(more);
+    answer.put(" ");
+    answer.put(seen);
+    answer.put(", ");
     Ok(())
 }

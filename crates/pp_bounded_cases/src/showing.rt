@@ -10,6 +10,7 @@ use anyhow::{Context, Result};
 use pp_bounded::{Bounded, BoundedTree};
 use pp_bounded_samples::looks::{ctor_literal, field_count, is_ctor_of};
 use pp_bounded_samples::reading::{is_true, read, read_field};
+use pp_case_line::CaseLine;
 use pp_clause::Assignment;
 use pp_gate::Circuit;
 use pp_prog::{CtorId, TypeTable, Value};
@@ -38,7 +39,7 @@ pub fn show_parts(
     table: &TypeTable,
     a: &Assignment,
     tree: &BoundedTree,
-    line: &mut String,
+    line: &mut CaseLine,
 ) -> Result<()>
     requires { CanRead table.now domain.old circuit.old (assigned a.now) tree.now }
     ensures { OnOk result (Looked table.now domain.old circuit.old domain.new circuit.new) }
@@ -61,7 +62,7 @@ fn show_ctor(
     a: &Assignment,
     tree: &BoundedTree,
     ctor: CtorId,
-    line: &mut String,
+    line: &mut CaseLine,
 ) -> Result<()>
     requires read { CanRead table.now domain.old circuit.old (assigned a.now) tree.now }
     requires ctor { IsCtorOf table.now ctor tree.now.of }
@@ -69,16 +70,16 @@ fn show_ctor(
 {
     let lit = ctor_literal(domain, circuit, table, tree, ctor)?;
     if !is_true(a, lit) {
-        write!(line, " 0")?;
+        line.put(" 0");
         return Ok(());
     }
-    write!(line, " 1")?;
+    line.put(" 1");
     for place in 0..field_count(table, ctor) {
         let field = read_field(alloc, domain, circuit, table, a, tree, ctor, place)?;
         let value = field.context("no field")?;
-        write!(line, " (")?;
-        spell(line, &value)?;
-        write!(line, " )")?;
+        line.put(" (");
+        spell(line, &value);
+        line.put(" )");
     }
     Ok(())
 }

@@ -19,6 +19,7 @@ use pp_bounded_samples::pair::TreePair;
 use pp_bounded_samples::reading::is_true;
 use pp_bounded_samples::table::is_low;
 use pp_bounded_samples::trees::{below, equal, fresh, merge, unknown_pair};
+use pp_case_line::CaseLine;
 use pp_clause::{Assignment, Lit};
 use pp_domain::{Domain, Symbol};
 use pp_gate::Circuit;
@@ -165,11 +166,12 @@ fn told(
     requires kept { AreKept table.now domain.old circuit.old compared.now }
     requires gives { Gives (assigned a.now) circuit.old }
 {
-    let mut line = told_values(alloc, domain, circuit, table, a, compared, case)?;
+    let mut line = CaseLine::new(alloc);
+    show_values(alloc, domain, circuit, table, a, compared, case, &mut line)?;
     let left = &compared.pair.left;
-    line.push_str(" |")?;
+    line.put(" |");
     show_parts(alloc, domain, circuit, table, a, left, &mut line)?;
-    line.push_str(" |")?;
+    line.put(" |");
     show_parts(
         alloc,
         domain,
@@ -179,11 +181,11 @@ fn told(
         &compared.merged,
         &mut line,
     )?;
-    Ok(line)
+    Ok(line.end()?)
 }
 
-/// What is read and compared under the assignment.
-fn told_values(
+/// Adds what is read and compared under the assignment.
+fn show_values(
     alloc: Global,
     domain: &Bounded,
     circuit: &Circuit,
@@ -191,7 +193,8 @@ fn told_values(
     a: &Assignment,
     compared: &Compared,
     case: &Case,
-) -> Result<String>
+    line: &mut CaseLine,
+) -> Result<()>
     requires kept { AreKept table.now domain.now circuit.now compared.now }
     requires gives { Gives (assigned a.now) circuit.now }
 {
@@ -203,5 +206,6 @@ fn told_values(
         merged: value_of(alloc, domain, circuit, table, a, &compared.merged)?,
     };
     found.check(case)?;
-    found.show(alloc)
+    found.show(line);
+    Ok(())
 }

@@ -133,15 +133,15 @@ fn arithmetic(circuit: &mut Circuit, op: BinaryOp, a: Word, b: Word) -> Result<W
     match op {
         BinaryOp::Add => Ok(pp_wordgate::add(circuit, a, b)?),
         BinaryOp::Sub => Ok(pp_wordgate::sub(circuit, a, b)?),
-        BinaryOp::Mul => Ok(pp_wordgate::mul(circuit, a, b)?),
+        BinaryOp::Mul => Ok(pp_wordscale::mul(circuit, a, b)?),
         BinaryOp::Div => Ok(quotient(circuit, a, b)?),
         BinaryOp::Rem => Ok(remainder(circuit, a, b)?),
         BinaryOp::And => Ok(pp_wordgate::and(circuit, a, b)?),
         BinaryOp::Or => Ok(pp_wordgate::or(circuit, a, b)?),
         BinaryOp::Xor => Ok(pp_wordgate::xor(circuit, a, b)?),
-        BinaryOp::Shl => Ok(pp_wordgate::shl(circuit, a, b)?),
-        BinaryOp::Shr => Ok(pp_wordgate::shr(circuit, a, b)?),
-        BinaryOp::Ushr => Ok(pp_wordgate::ushr(circuit, a, b)?),
+        BinaryOp::Shl => Ok(pp_wordscale::shl(circuit, a, b)?),
+        BinaryOp::Shr => Ok(pp_wordscale::shr(circuit, a, b)?),
+        BinaryOp::Ushr => Ok(pp_wordscale::ushr(circuit, a, b)?),
         BinaryOp::Equal
         | BinaryOp::Differ
         | BinaryOp::Less
@@ -162,7 +162,7 @@ fn quotient(circuit: &mut Circuit, a: Word, b: Word) -> Result<Word, NoMemory>
     ensures stands { IfOk result (λ r. StandsForWord w32 circuit.new r
         (λ s. word_div w32 (word_of w32 s a) (word_of w32 s b))) }
 {
-    let plain = pp_wordgate::div(circuit, a, b)?;
+    let plain = pp_wordscale::div(circuit, a, b)?;
     let zero = pp_wordgate::constant(circuit, 0)?;
     let none = pp_wordgate::equal(circuit, b, zero)?;
     let whole = pp_wordgate::choose(circuit, none, zero, plain)?;
@@ -178,7 +178,7 @@ fn remainder(circuit: &mut Circuit, a: Word, b: Word) -> Result<Word, NoMemory>
     ensures stands { IfOk result (λ r. StandsForWord w32 circuit.new r
         (λ s. word_rem w32 (word_of w32 s a) (word_of w32 s b))) }
 {
-    let plain = pp_wordgate::rem(circuit, a, b)?;
+    let plain = pp_wordscale::rem(circuit, a, b)?;
     let zero = pp_wordgate::constant(circuit, 0)?;
     let none = pp_wordgate::equal(circuit, b, zero)?;
     let whole = pp_wordgate::choose(circuit, none, a, plain)?;

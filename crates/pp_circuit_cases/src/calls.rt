@@ -1,9 +1,9 @@
 //! Gates and values of the calls on numbers: those of `pp_bits`, `pp_products` and `pp_shifts` on numbers of so many
-//! digits, and those of `pp_wordgate` on words. A case is a call, for the first a number of digits, and two numbers.
-//! The answer has the value that the call's answer stands for, and the gates that the call adds: over fresh inputs,
-//! where the second number is a constant, where the first is, and where both are (-1 where the value is another). Of a
-//! call on words it also has how many gates are added when the call is made a second time, and then with its operands
-//! swapped, over fresh inputs.
+//! digits, and those of `pp_wordgate` and `pp_wordscale` on words. A case is a call, for the first a number of digits,
+//! and two numbers. The answer has the value that the call's answer stands for, and the gates that the call adds: over
+//! fresh inputs, where the second number is a constant, where the first is, and where both are (-1 where the value is
+//! another). Of a call on words it also has how many gates are added when the call is made a second time, and then with
+//! its operands swapped, over fresh inputs.
 
 mod digits;
 mod words;

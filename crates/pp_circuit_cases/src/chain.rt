@@ -6,7 +6,8 @@ ghost use Rattle.pp_gate.specs.Growth.{Grows, AddsGates};
 
 use pp_clause::Lit;
 use pp_gate::{Circuit, NoMemory};
-use pp_wordgate::{mul, unknown};
+use pp_wordgate::unknown;
+use pp_wordscale::mul;
 
 /// Adds three inputs and four gates a turn, each over the newest literals, so that none is shared, to a circuit that
 /// has no gates yet. Each gate may be asked for twice.

@@ -8,12 +8,13 @@
 //! A case with `word` in the place of a call has the 32 literals of a word as its answer, as operands: the second
 //! operand, the first one thirty times, and the third.
 
-ghost use Rattle.std.specs.Prelude.{◌≡◌, ◌+◌, ◌<◌, ◌≤◌, ◌^◌, length, IfOk};
+ghost use Rattle.std.specs.Prelude.{◌≡◌, ◌<◌, ◌≤◌, ◌^◌, length, IfOk};
 ghost use Rattle.pp_gate.specs.Circuit.{IsOf, IsWithin};
 ghost use Rattle.pp_gate.specs.Growth.{Grows};
 
 use crate::numbers::numbers;
 use anyhow::{Result, ensure};
+use pp_case_line::CaseLine;
 use pp_clause::{Assignment, Clauses, Lit, NoMemory};
 use pp_gate::{Circuit, Word};
 use std::alloc::Global;
@@ -32,9 +33,10 @@ struct Operands {
 /// The answer to a case.
 pub fn answer(alloc: Global, name: &str, numbers: &str) -> Result<String> {
     let on = operands_of(numbers)?;
-    let mut line = String::from_str(alloc, ":")?;
+    let mut line = CaseLine::new(alloc);
+    line.put(":");
     push_answer(&mut line, alloc, name, on)?;
-    Ok(line)
+    Ok(line.end()?)
 }
 
 /// The operands of these numbers.
@@ -56,15 +58,16 @@ fn operands_of(text: &str) -> Result<Operands>
 }
 
 /// Adds the answer to a case.
-fn push_answer(line: &mut String, alloc: Global, name: &str, on: Operands) -> Result<(), NoMemory>
+fn push_answer(line: &mut CaseLine, alloc: Global, name: &str, on: Operands) -> Result<(), NoMemory>
     requires choice { IsWithin 4 on.c }
     requires left { IsWithin 4 on.a }
     requires right { IsWithin 4 on.b }
 {
-    match name {
-        "word" => push_word(line, on),
-        _ => push_table(line, alloc, name, on),
+    if name != "word" {
+        return push_table(line, alloc, name, on);
     }
+    push_word(line, on);
+    Ok(())
 }
 
 /// The literal of an operand's number.
@@ -76,18 +79,19 @@ fn literal(number: u32) -> Lit
 }
 
 /// Adds the literals of the word whose lowest is `a` and whose highest is `b`; the others are `c`.
-fn push_word(line: &mut String, on: Operands) -> Result<(), NoMemory> {
+fn push_word(line: &mut CaseLine, on: Operands) {
     let mut lits = [on.c; 32];
     lits[0] = on.a;
     lits[31] = on.b;
     let word = Word::of(lits);
     if Word::from_lits(word.lits()) != word {
-        return line.push_str(" another word");
+        line.put(" another word");
+        return;
     }
     for place in 0..32u32 {
-        write!(line, " {}", operand(word.bit(place)))?;
+        line.put(" ");
+        line.put(operand(word.bit(place)));
     }
-    Ok(())
 }
 
 /// The number of a literal.
@@ -96,7 +100,7 @@ fn operand(lit: Lit) -> u32 {
 }
 
 /// Adds the table of the call of this name.
-fn push_table(line: &mut String, alloc: Global, name: &str, on: Operands) -> Result<(), NoMemory>
+fn push_table(line: &mut CaseLine, alloc: Global, name: &str, on: Operands) -> Result<(), NoMemory>
     requires choice { IsWithin 4 on.c }
     requires left { IsWithin 4 on.a }
     requires right { IsWithin 4 on.b }
@@ -108,7 +112,7 @@ fn push_table(line: &mut String, alloc: Global, name: &str, on: Operands) -> Res
 
 /// Adds what the call answers, and what it leaves when it is made with the operands turned round.
 fn push_calls(
-    line: &mut String,
+    line: &mut CaseLine,
     circuit: &mut Circuit,
     name: &str,
     on: Operands,
@@ -130,12 +134,16 @@ fn push_calls(
 }
 
 /// Adds the number of gates, and that of the clauses of what an answer stands on.
-fn push_asked(line: &mut String, circuit: &Circuit, answer: Lit) -> Result<(), NoMemory>
+fn push_asked(line: &mut CaseLine, circuit: &Circuit, answer: Lit) -> Result<(), NoMemory>
     requires room { length circuit.now ≤ 6 }
     requires of { IsOf circuit.now answer }
 {
     let asked = circuit.clauses_of(&[answer])?;
-    write!(line, ", turned {}, asked {}", circuit.gates(), asked.len())
+    line.put(", turned ");
+    line.put(circuit.gates());
+    line.put(", asked ");
+    line.put(asked.len());
+    Ok(())
 }
 
 /// The literal that the call of this name answers.
@@ -157,32 +165,39 @@ fn apply(circuit: &mut Circuit, name: &str, on: Operands) -> Result<Lit, NoMemor
 }
 
 /// Adds the values of an answer, the number of gates and that of their clauses.
-fn push_values(line: &mut String, circuit: &Circuit, answer: Lit) -> Result<(), NoMemory>
+fn push_values(line: &mut CaseLine, circuit: &Circuit, answer: Lit) -> Result<(), NoMemory>
     requires { length circuit.now ≤ 5 }
 {
     let clauses = circuit.clauses()?;
     for inputs in 0..8u32 {
         push_value(line, circuit, &clauses, answer, inputs)?;
     }
-    let gates = circuit.gates();
-    write!(line, ", {gates} gates, {} clauses", clauses.len())
+    line.put(", ");
+    line.put(circuit.gates());
+    line.put(" gates, ");
+    line.put(clauses.len());
+    line.put(" clauses");
+    Ok(())
 }
 
 /// Adds the value of a literal where the inputs have the lowest three bits as their values, and 2 where a clause is
 /// false.
 fn push_value(
-    line: &mut String,
+    line: &mut CaseLine,
     circuit: &Circuit,
     clauses: &Clauses,
     lit: Lit,
     inputs: u32,
 ) -> Result<(), NoMemory> {
     let all = completed(circuit, inputs)?;
-    if !clauses.holds(&all) {
-        return line.push_str(" 2");
-    }
-    let is_true = all.value(lit.var()) == lit.is_positive();
-    line.push_str(if is_true { " 1" } else { " 0" })
+    line.put(if !clauses.holds(&all) {
+        " 2"
+    } else if all.value(lit.var()) == lit.is_positive() {
+        " 1"
+    } else {
+        " 0"
+    });
+    Ok(())
 }
 
 /// The values of all gates where the inputs have the lowest three bits as their values.

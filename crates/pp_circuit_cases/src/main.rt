@@ -11,7 +11,7 @@
 //! | `word FILE` | the calls of `pp_word` on pairs of numbers | `word` |
 //! | `gate FILE` | truth tables of the calls of a circuit | `gate` |
 //! | `bits FILE` | gates and numbers of the calls of `pp_bits`, `pp_products`, `pp_shifts` | `calls`, `calls::digits` |
-//! | `wordgate FILE` | gates and values of the calls of `pp_wordgate` | `calls`, `calls::words` |
+//! | `wordgate FILE` | gates and values of the calls of `pp_wordgate` and `pp_wordscale` | `calls`, `calls::words` |
 //! | `gates SIZE`, `shared SIZE`, `clauses SIZE`, `products SIZE` | circuits that are built to be timed | `timed` |
 #![tactic(auto)]
 

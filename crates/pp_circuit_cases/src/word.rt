@@ -4,7 +4,7 @@
 
 use crate::numbers::numbers;
 use anyhow::Result;
-use pp_clause::NoMemory;
+use pp_case_line::{CaseLine, NoMemory};
 use pp_word::{add, and, at_most, div, less, mul, neg, not, or, rem, shl, shr, sub, ushr, xor};
 use std::alloc::Global;
 
@@ -16,11 +16,15 @@ pub fn answer(alloc: Global, case: &str) -> Result<String> {
 
 /// What the calls make of two numbers.
 fn row(alloc: Global, a: i32, b: i32) -> Result<String, NoMemory> {
-    let mut line = String::from_str(alloc, ":")?;
-    push_all(&mut line, &values(a, b))?;
-    push_division(&mut line, a, b)?;
-    write!(line, " {} {}", less(a, b), at_most(a, b))?;
-    Ok(line)
+    let mut line = CaseLine::new(alloc);
+    line.put(":");
+    push_all(&mut line, &values(a, b));
+    push_division(&mut line, a, b);
+    line.put(" ");
+    line.put(less(a, b));
+    line.put(" ");
+    line.put(at_most(a, b));
+    line.end()
 }
 
 /// What the calls answer that answer a number.
@@ -41,17 +45,22 @@ fn values(a: i32, b: i32) -> [i32; 11] {
 }
 
 /// Adds numbers, each behind a blank.
-fn push_all(line: &mut String, numbers: &[i32]) -> Result<(), NoMemory> {
+fn push_all(line: &mut CaseLine, numbers: &[i32]) {
     for number in numbers {
-        write!(line, " {number}")?;
+        line.put(" ");
+        line.put(number);
     }
-    Ok(())
 }
 
 /// Adds the quotient and the remainder.
-fn push_division(line: &mut String, a: i32, b: i32) -> Result<(), NoMemory> {
+fn push_division(line: &mut CaseLine, a: i32, b: i32) {
     match (div(a, b), rem(a, b)) {
-        (Some(quotient), Some(rest)) => write!(line, " {quotient} {rest}"),
-        _ => line.push_str(" none none"),
+        (Some(quotient), Some(rest)) => {
+            line.put(" ");
+            line.put(quotient);
+            line.put(" ");
+            line.put(rest);
+        }
+        _ => line.put(" none none"),
     }
 }

@@ -12,6 +12,7 @@
 use crate::case::{cases, number, small, word};
 use crate::falter::{Drip, Slow};
 use anyhow::Result;
+use pp_case_line::CaseLine;
 use pp_seam::{
     Bytes, FetchFault, FileShelf, NoMemory, ReadFault, Shelf, Shelves, Sink, StdSink, read_within,
 };
@@ -78,28 +79,29 @@ fn answer(
     asked: &mut Asked<impl Files + Drop>,
     case: &str,
 ) -> Result<String, NoMemory> {
-    let mut out = String::new(alloc);
+    let mut out = CaseLine::new(alloc);
     push_answer(&mut out, alloc, asked, case)?;
-    out.push_str("\n")?;
-    Ok(out)
+    out.put("\n");
+    out.end()
 }
 
 /// Adds the answer to a case.
 fn push_answer(
-    out: &mut String,
+    out: &mut CaseLine,
     alloc: Global,
     asked: &mut Asked<impl Files + Drop>,
     case: &str,
 ) -> Result<(), NoMemory> {
     match word(case, 0) {
-        "add" | "fail" => stock(out, &mut asked.shelves, case),
+        "add" | "fail" => stock(out, &mut asked.shelves, case)?,
         "fetch" => fetch(out, alloc, &mut asked.shelves, case),
-        "room" | "cut" => prepare(out, alloc, &mut asked.sink, case),
+        "room" | "cut" => prepare(out, alloc, &mut asked.sink, case)?,
         "put" => put(out, &mut asked.sink, case),
         "file" => fetch_file(out, alloc, &mut asked.files, case),
         "read" => read(out, alloc, case),
         _ => write(out, case),
     }
+    Ok(())
 }
 
 /// The bytes, where they are text.
@@ -115,38 +117,40 @@ fn fault_text(fault: FetchFault) -> &'static str {
     }
 }
 
-fn fetch(
-    out: &mut String,
-    alloc: Global,
-    shelf: &mut impl Shelf,
-    case: &str,
-) -> Result<(), NoMemory> {
+fn fetch(out: &mut CaseLine, alloc: Global, shelf: &mut impl Shelf, case: &str) {
     match shelf.fetch(alloc, word(case, 1), number(case, 2)) {
-        Ok(bytes) => write!(out, "gives {}", shown(&bytes)),
-        Err(fault) => out.push_str(fault_text(fault)),
+        Ok(bytes) => push_bytes(out, "gives ", &bytes),
+        Err(fault) => out.put(fault_text(fault)),
     }
+}
+
+/// Adds bytes behind words.
+fn push_bytes(out: &mut CaseLine, words: &str, bytes: &[u8]) {
+    out.put(words);
+    out.put(shown(bytes));
 }
 
 fn fetch_file(
-    out: &mut String,
+    out: &mut CaseLine,
     alloc: Global,
     files: &mut FileShelf<impl Files + Drop>,
     case: &str,
-) -> Result<(), NoMemory> {
-    fetch(out, alloc, files, case)?;
-    push_seen(out, &files.overlong, &files.failed)
+) {
+    fetch(out, alloc, files, case);
+    push_seen(out, &files.overlong, &files.failed);
 }
 
 /// Adds what was kept of a file that is too long, and the paths that failed.
-fn push_seen(out: &mut String, overlong: &[u8], failed: &[String]) -> Result<(), NoMemory> {
-    write!(out, ", kept {}, failed", shown(overlong))?;
+fn push_seen(out: &mut CaseLine, overlong: &[u8], failed: &[String]) {
+    push_bytes(out, ", kept ", overlong);
+    out.put(", failed");
     for path in failed {
-        write!(out, " {}", path.as_str())?;
+        out.put(" ");
+        out.put(path.as_str());
     }
-    Ok(())
 }
 
-fn read(out: &mut String, alloc: Global, case: &str) -> Result<(), NoMemory> {
+fn read(out: &mut CaseLine, alloc: Global, case: &str) {
     let mut drip = Drip {
         interrupted: small(case, 1),
         left: number(case, 2),
@@ -154,15 +158,28 @@ fn read(out: &mut String, alloc: Global, case: &str) -> Result<(), NoMemory> {
         fails: word(case, 4) == "fails",
     };
     match read_within(alloc, &mut drip, number(case, 5)) {
-        Ok(bytes) => write!(out, "{} bytes, {} left", bytes.len(), drip.left),
-        Err(ReadFault::TooLong(bytes)) => {
-            write!(out, "too long after {}, {} left", bytes.len(), drip.left)
+        Ok(bytes) => {
+            out.put(bytes.len());
+            out.put(" bytes");
+            push_left(out, drip.left);
         }
-        Err(_) => out.push_str("failed"),
+        Err(ReadFault::TooLong(bytes)) => {
+            out.put("too long after ");
+            out.put(bytes.len());
+            push_left(out, drip.left);
+        }
+        Err(_) => out.put("failed"),
     }
 }
 
-fn write(out: &mut String, case: &str) -> Result<(), NoMemory> {
+/// Adds how many bytes are left.
+fn push_left(out: &mut CaseLine, left: usize) {
+    out.put(", ");
+    out.put(left);
+    out.put(" left");
+}
+
+fn write(out: &mut CaseLine, case: &str) {
     let mut sink = StdSink::new(Slow {
         interrupted: small(case, 1),
         step: number(case, 2),
@@ -172,31 +189,49 @@ fn write(out: &mut String, case: &str) -> Result<(), NoMemory> {
     });
     let empty = sink.put("".as_bytes()).is_ok();
     let ok = sink.put("hello".as_bytes()).is_ok();
-    let (faults, taken) = (sink.faults, sink.writer.taken);
-    write!(out, "{empty} {ok}, {faults} faults, {taken} taken")
+    push_written(out, empty, ok, sink.faults, sink.writer.taken);
 }
 
-fn put(out: &mut String, sink: &mut Bytes, case: &str) -> Result<(), NoMemory> {
-    let ok = sink.put(word(case, 1).as_bytes()).is_ok();
-    write!(out, "{ok}, has {}", shown(sink.taken()))
+/// Adds whether both puts went well, and what the sink counted.
+fn push_written(out: &mut CaseLine, empty: bool, ok: bool, faults: u64, taken: usize) {
+    out.put(empty);
+    out.put(" ");
+    out.put(ok);
+    out.put(", ");
+    out.put(faults);
+    out.put(" faults, ");
+    out.put(taken);
+    out.put(" taken");
+}
+
+fn put(out: &mut CaseLine, sink: &mut Bytes, case: &str) {
+    out.put(sink.put(word(case, 1).as_bytes()).is_ok());
+    push_bytes(out, ", has ", sink.taken());
 }
 
 /// Prepares the shelves in memory.
-fn stock(out: &mut String, shelves: &mut Shelves, case: &str) -> Result<(), NoMemory> {
+fn stock(out: &mut CaseLine, shelves: &mut Shelves, case: &str) -> Result<(), NoMemory> {
     if word(case, 0) == "add" {
         shelves.add(word(case, 1), word(case, 2).as_bytes())?;
     } else {
         shelves.fail_at(small(case, 1))?;
     }
-    out.push_str("stocked")
+    out.put("stocked");
+    Ok(())
 }
 
 /// Prepares the sink in memory.
-fn prepare(out: &mut String, alloc: Global, sink: &mut Bytes, case: &str) -> Result<(), NoMemory> {
+fn prepare(
+    out: &mut CaseLine,
+    alloc: Global,
+    sink: &mut Bytes,
+    case: &str,
+) -> Result<(), NoMemory> {
     if word(case, 0) == "room" {
         *sink = Bytes::with_room(alloc, number(case, 1))?;
     } else {
         sink.fail_at(small(case, 1), number(case, 2));
     }
-    out.push_str("prepared")
+    out.put("prepared");
+    Ok(())
 }

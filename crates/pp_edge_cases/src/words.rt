@@ -3,6 +3,7 @@
 
 use crate::case::{cases, words};
 use anyhow::Result;
+use pp_case_line::CaseLine;
 use pp_seam::NoMemory;
 use pp_words::{Numbers, Task, WordsFault, read};
 use std::alloc::Global;
@@ -31,32 +32,52 @@ fn answer(alloc: Global, words: &[&str]) -> Result<String, NoMemory> {
 }
 
 fn told(alloc: Global, task: Task, files: &[&str]) -> Result<String, NoMemory> {
-    let mut out = String::new(alloc);
-    push_task(&mut out, task)?;
+    let mut out = CaseLine::new(alloc);
+    push_task(&mut out, task);
     for file in files {
-        write!(out, " {}", if file.is_empty() { "''" } else { file })?;
+        out.put(" ");
+        out.put(if file.is_empty() { "''" } else { file });
     }
-    Ok(out)
+    out.end()
 }
 
-fn push_task(out: &mut String, task: Task) -> Result<(), NoMemory> {
+fn push_task(out: &mut CaseLine, task: Task) {
     match task {
         Task::Verify(numbers) => push_numbers(out, "verify", numbers),
-        Task::List { rounds, depth } => write!(out, "list {rounds} {depth}"),
-        Task::Run { function, fuel } => write!(out, "run ({function}) {fuel}"),
+        Task::List { rounds, depth } => {
+            out.put("list ");
+            out.put(rounds);
+            out.put(" ");
+            out.put(depth);
+        }
+        Task::Run { function, fuel } => {
+            out.put("run (");
+            out.put(function);
+            out.put(") ");
+            out.put(fuel);
+        }
         Task::Make { seed, numbers } => {
-            write!(out, "make {seed}")?;
+            out.put("make ");
+            out.put(seed);
             push_numbers(out, "", numbers)
         }
     }
 }
 
-fn push_numbers(out: &mut String, mode: &str, numbers: Numbers) -> Result<(), NoMemory> {
+fn push_numbers(out: &mut CaseLine, mode: &str, numbers: Numbers) {
     let Numbers {
         rounds,
         depth,
         lemmas,
         gates,
     } = numbers;
-    write!(out, "{mode} {rounds} {depth} {lemmas} {gates}")
+    out.put(mode);
+    out.put(" ");
+    out.put(rounds);
+    out.put(" ");
+    out.put(depth);
+    out.put(" ");
+    out.put(lemmas);
+    out.put(" ");
+    out.put(gates);
 }

@@ -32,7 +32,8 @@ use pp_tree::{Built, Expr};
 fn on_require_word<'a>(cx: &Current<'a, '_>, stack: &mut Stack<'a>) -> Result<Move, Stop<'a>>
     requires { IsSpan cx.now.text.now cx.now.token }
     ensures { Moves result stack.new (on_require_word cx.now.text.now cx.now.token
-        (frames_of (without_contracts (shown stack.old))) (top_contracts (shown stack.old).parts) (top_contracts (shown stack.old).parts).late) }
+        (frames_of (without_contracts (shown stack.old))) (top_contracts (shown stack.old).parts)
+        (top_contracts (shown stack.old).parts).late) }
 {
     let contracts = stack.take_contracts();
     if let Some(at) = contracts.late {
@@ -47,7 +48,8 @@ fn on_require_word<'a>(cx: &Current<'a, '_>, stack: &mut Stack<'a>) -> Result<Mo
 fn on_decreases_word<'a>(cx: &Current<'a, '_>, stack: &mut Stack<'a>) -> Result<Move, Stop<'a>>
     requires { IsSpan cx.now.text.now cx.now.token }
     ensures { Moves result stack.new (on_decreases_word cx.now.text.now cx.now.token
-        (frames_of (without_contracts (shown stack.old))) (top_contracts (shown stack.old).parts) (has_measure (top_contracts (shown stack.old).parts).measure)) }
+        (frames_of (without_contracts (shown stack.old))) (top_contracts (shown stack.old).parts)
+        (has_measure (top_contracts (shown stack.old).parts).measure)) }
 {
     let from = cx.token.from;
     let contracts = stack.take_contracts();

@@ -1,24 +1,14 @@
 -- How the automaton joins operands and statements, one frame at a time. Source: own.
 use Rattle.std.specs.Prelude.{ℕ, Bool, true, false, cond, ◌||◌, nat_le, List, [], ◌∷◌}
-use Rattle.pp_tree.specs.Plain.{Tree, unary, binary, choice, val_in, assert_in}
-use Rattle.pp_tree.specs.Shown.{tree_of}
+use Rattle.pp_tree.specs.Plain.{unary, binary, choice, val_in, assert_in}
 use Rattle.pp_grammar.specs.Words.{level, tightest}
-use Rattle.pp_grammar.specs.Frames.{Frame as plain_frame}
 use Rattle.pp_grammar.specs.Joining.{Operand as plain_operand, Sealed}
 use Rattle.pp_parse_state.specs.declared.frame.Frame.{Frame}
 use Rattle.pp_parse_state.specs.declared.frame.Frame.TheVariants.{Prefixing, Left, IfRest, AfterVal, AfterAssert}
 use Rattle.pp_parse_state.specs.declared.frame.Frame.TheVariants.{ClaimingHole}
-use Rattle.pp_parse_state.specs.declared.joining.Operand.{Operand}
-use Rattle.pp_parse_state.specs.Parts.{Parts, top_name, top_given_type, top_expr, second_expr}
-use Rattle.pp_parse_state.specs.Shown.{Shown, below, expr_on, under_expr}
-
--- an operand and whether the hole stands in it
-pub record Holed : Type 0 where
-  pub tree : Tree
-  pub holed : Bool
-
-abbrev pub operand_of : Operand → Holed
-operand_of o = record { tree = tree_of o.tree.now.tree; holed = o.holed }
+use Rattle.pp_parse_state.specs.Parts.{top_given_type}
+use Rattle.pp_parse_state.specs.Shown.{Shown, expr_on, name_on, under_expr, with_expr, without_expr}
+use Rattle.pp_parse_state.specs.Shown.{without_given_type, without_name}
 
 -- the frame is an operator before an operand that binds at least as tight as level p
 abbrev pub binds : ℕ → Frame → Bool
@@ -27,25 +17,22 @@ binds p (Left at op h) = nat_le p (level op)
 binds p (IfRest at) = nat_le p 0
 binds p _ = false
 
--- the operand with the operator before it
-abbrev pub join : Frame → Parts → Holed → Holed
-join (Prefixing at op) p e = record { tree = unary at op e.tree; holed = e.holed }
-join (Left at op h) p e = record { tree = binary at op (top_expr p) e.tree; holed = h || e.holed }
-join (IfRest at) p e = record {
-  tree = choice at (second_expr p) (top_expr p) e.tree;
-  holed = e.holed;
-}
-join _ p e = e
+-- the operand on the stack with the operator before it, whose parts lie below
+abbrev pub join : Frame → Shown → Shown
+join (Prefixing at op) s = with_expr (unary at op (expr_on s)) (without_expr s)
+join (Left at op h) s =
+    let b = without_expr s in
+    with_expr (binary at op (expr_on b) (expr_on s)) (without_expr b)
+join (IfRest at) s =
+    let yes = without_expr s in
+    let test = without_expr yes in
+    with_expr (choice at (expr_on test) (expr_on yes) (expr_on s)) (without_expr test)
+join _ s = s
 
--- the parts that are left then
-abbrev pub left_joined : Frame → Parts → Parts
-left_joined (Left at op h) p = below (Left at op h) p
-left_joined (IfRest at) p = below (IfRest at) p
-left_joined _ p = p
-
--- the frames with the operand above them
-abbrev pub joined : List plain_frame → Holed → plain_operand
-joined s o = record { frames = s; tree = o.tree; holed = o.holed }
+-- whether the hole stands in it then
+abbrev pub joined_holed : Frame → Bool → Bool
+joined_holed (Left at op h) g = h || g
+joined_holed _ g = g
 
 -- the operand on the stack, with the frames under it
 abbrev pub unwound : Shown → Bool → plain_operand
@@ -65,21 +52,20 @@ abbrev pub top_is_statement : List Frame → Bool
 top_is_statement [] = false
 top_is_statement (f ∷ s) = is_statement f
 
--- the expression with the statement before it
-abbrev pub join_statement : Frame → Parts → Tree → Tree
-join_statement (AfterVal at) p e = val_in at (top_name p) (top_given_type p) (top_expr p) e
-join_statement (AfterAssert at) p e = assert_in at (top_expr p) e
-join_statement _ p e = e
+-- the expression on the stack with the statement before it, whose parts lie below
+abbrev pub join_statement : Frame → Shown → Shown
+join_statement (AfterVal at) s =
+    let b = without_expr s in
+    with_expr (val_in at (name_on b) (top_given_type b.parts) (expr_on b) (expr_on s))
+    (without_name (without_given_type (without_expr b)))
+join_statement (AfterAssert at) s =
+    let b = without_expr s in
+    with_expr (assert_in at (expr_on b) (expr_on s)) (without_expr b)
+join_statement _ s = s
 
--- the parts that are left then
-abbrev pub left_sealed : Frame → Parts → Parts
-left_sealed (AfterVal at) p = below (AfterVal at) p
-left_sealed (AfterAssert at) p = below (AfterAssert at) p
-left_sealed _ p = p
-
--- the frames with the expression above them
-abbrev pub sealed : List plain_frame → Tree → Sealed
-sealed s e = record { frames = s; tree = e }
+-- the expression on the stack, with the frames under it
+abbrev pub sealed : Shown → Sealed
+sealed s = record { frames = under_expr s; tree = expr_on s }
 
 -- a frame above which the hole may stand, if it may stand below it
 abbrev pub lets_hole : Frame → Bool

@@ -229,6 +229,7 @@ without_post s = record s { parts = record s.parts { posts = rest s.parts.posts 
 abbrev pub without_decl : Shown → Shown
 without_decl s = record s { parts = record s.parts { decls = rest s.parts.decls } }
 
+-- the automaton's frames that they are
 abbrev pub frames_of : Shown → List plain.Frame
 frames_of s = over s.kinds s.parts
 

@@ -21,7 +21,7 @@ pub mod words;
 pub use current::Current;
 pub use fault::Stop;
 pub use frame::{Around, Contracts, Frame, Head, Kind, Placed};
-pub use joining::{Operand, seal, unwind};
+pub use joining::{seal, unwind};
 pub use kept::{claim_itself, expr_itself, keep, type_itself};
 pub use mode::{Mode, Move};
 pub use pp_tree::NoMemory;

@@ -53,7 +53,7 @@ impl<'a> Stack<'a> {
     }
 
     /// Puts a written type on the stack.
-    pub fn put_type(&mut self, part: &'a Built<TypeText<'a>>) -> Result<(), NoMemory>
+    pub(crate) fn put_type(&mut self, part: &'a Built<TypeText<'a>>) -> Result<(), NoMemory>
         ensures { IfOk result (λ _. shown self.new ≡ with_type (type_of part.now.tree) (shown self.old)) }
     {
         self.types.push(part)?;
@@ -76,7 +76,7 @@ impl<'a> Stack<'a> {
     }
 
     /// Puts a pattern on the stack.
-    pub fn put_pattern(&mut self, part: &'a Built<Pattern<'a>>) -> Result<(), NoMemory>
+    pub(crate) fn put_pattern(&mut self, part: &'a Built<Pattern<'a>>) -> Result<(), NoMemory>
         ensures { IfOk result (λ _. shown self.new ≡ with_pattern (pattern_of part.now.tree) (shown self.old)) }
     {
         self.patterns.push(part)?;
@@ -103,7 +103,7 @@ impl<'a> Stack<'a> {
     }
 
     /// Puts an expression on the stack.
-    pub fn put_expr(&mut self, part: &'a Built<Expr<'a>>) -> Result<(), NoMemory>
+    pub(crate) fn put_expr(&mut self, part: &'a Built<Expr<'a>>) -> Result<(), NoMemory>
         ensures { IfOk result (λ _. shown self.new ≡ with_expr (tree_of part.now.tree) (shown self.old)) }
     {
         self.exprs.push(part)?;

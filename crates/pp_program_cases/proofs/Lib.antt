@@ -1,4 +1,2 @@
 mod Frames
-mod Growth
-mod Ranges
 mod Symbols

@@ -7,9 +7,9 @@ ghost use Rattle.pp_checks.specs.Plan.{IsPlanOf};
 ghost use Rattle.pp_estimate.specs.Estimates as spec;
 ghost use Rattle.pp_gate.specs.Circuit.{IsOf};
 
-use crate::programs::accepted;
 use crate::words::number;
-use anyhow::{Context, Result, ensure};
+use anyhow::{Result, ensure};
+use pp_case_line::CaseLine;
 use pp_clause::{Clauses, Lit, greatest_var};
 use pp_estimate::estimate;
 use pp_front::Accepted;
@@ -19,7 +19,6 @@ use pp_prog::CheckId;
 use pp_query::{Question, question_of};
 use pp_symbolic::{Mode, NoMemory};
 use std::alloc::Global;
-use std::fs;
 
 /// Clauses, and literals that are to be true besides.
 #[derive(Drop)]
@@ -28,14 +27,13 @@ struct Formula {
     lits: [Lit; 2],
 }
 
-/// Prints the clauses of the proof that the words name.
-pub fn print_asked(rt: &HostRuntime, words: &str) -> Result<()> {
-    let (path, numbers) = words.split_once(' ').context("a source")?;
+/// Prints the clauses of the proof that the numbers name.
+pub fn print_asked(rt: &impl Print, alloc: Global, accepted: &Accepted, numbers: &str) -> Result<()>
+    requires { IsPlanOf accepted.now.plan accepted.now.program }
+{
     let check = CheckId(number(numbers, 0, 0, u32::MAX)?);
     let round = number(numbers, 1, 0, 12)?;
-    let source = fs::read_to_string(rt, path)?;
-    let accepted = accepted(rt.alloc(), source.as_str())?;
-    print_check(rt, rt.alloc(), &accepted, check, round)
+    print_check(rt, alloc, accepted, check, round)
 }
 
 /// Prints the clauses of the proof of a check.
@@ -107,14 +105,14 @@ fn print_formula(rt: &impl Print, alloc: Global, formula: &Formula) -> Result<()
 
 /// The clause as a line: its variables, with a sign where they are negated, and 0.
 fn line(alloc: Global, lits: &[Lit]) -> Result<String, NoMemory> {
-    let mut line = String::new(alloc);
+    let mut line = CaseLine::new(alloc);
     for lit in lits {
         if !lit.is_positive() {
-            line.push('-')?;
+            line.put("-");
         }
-        let word = format!(in alloc; "{} ", lit.var())?;
-        line.push_str(word.as_str())?;
+        line.put(lit.var());
+        line.put(" ");
     }
-    line.push('0')?;
-    Ok(line)
+    line.put("0");
+    line.end()
 }

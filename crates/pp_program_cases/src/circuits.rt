@@ -6,10 +6,9 @@ ghost use Rattle.std.specs.Prelude.{◌<◌, ◌≤◌, length, IfOk};
 ghost use Rattle.pp_checks.specs.Plan.{IsPlanOf};
 ghost use Rattle.pp_estimate.specs.Estimates as spec;
 
-use crate::programs::accepted;
 use crate::steps::steps_of;
 use crate::words::number;
-use anyhow::{Context, Result};
+use anyhow::Result;
 use pp_bounded::Bounded;
 use pp_estimate::estimate;
 use pp_front::Accepted;
@@ -18,7 +17,6 @@ use pp_prog::CheckId;
 use pp_query::question_of;
 use pp_symbolic::{Mode, NoMemory};
 use std::alloc::Global;
-use std::fs;
 
 /// The round and the depth of circuits, and how often each is built.
 #[derive(Clone, Copy)]
@@ -36,20 +34,11 @@ struct Measured {
     most: u64,
 }
 
-/// Prints the sizes of what the words ask for.
-pub fn print_sizes(rt: &HostRuntime, words: &str) -> Result<()> {
-    let (path, numbers) = words.split_once(' ').context("a source")?;
-    let sizes = read_sizes(numbers)?;
-    let source = fs::read_to_string(rt, path)?;
-    print_source(rt, rt.alloc(), source.as_str(), sizes)
-}
-
-/// Prints the sizes of the circuits of a source.
-fn print_source(rt: &impl Print, alloc: Global, source: &str, sizes: Sizes) -> Result<()>
-    requires round { sizes.round ≤ 12 }
-    requires depth { (1 ≤ sizes.depth) × (sizes.depth ≤ 6) }
+/// Prints the sizes of the circuits that the numbers ask for.
+pub fn print_sizes(rt: &impl Print, alloc: Global, accepted: &Accepted, numbers: &str) -> Result<()>
+    requires { IsPlanOf accepted.now.plan accepted.now.program }
 {
-    print_checks(rt, alloc, &accepted(alloc, source)?, sizes)
+    print_checks(rt, alloc, accepted, read_sizes(numbers)?)
 }
 
 /// The sizes that the numbers spell.

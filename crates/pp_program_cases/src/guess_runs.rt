@@ -3,7 +3,7 @@
 //! check is proved. What is to be printed was worked out by the definition of guess runs, over all arguments and all
 //! tables of answers: the functions of these sources are over truth values.
 
-ghost use Rattle.std.specs.Prelude.{◌<◌, ◌≤◌, length};
+ghost use Rattle.std.specs.Prelude.{◌≤◌};
 ghost use Rattle.pp_checks.specs.Plan.{IsPlanOf};
 
 use crate::programs::accepted;

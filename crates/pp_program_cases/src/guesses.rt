@@ -9,11 +9,10 @@ ghost use Rattle.pp_checks.specs.Plan.{IsPlanOf};
 ghost use Rattle.pp_estimate.specs.Estimates as spec;
 ghost use Rattle.pp_gate.specs.Circuit.{IsOf};
 
-use crate::programs::accepted;
 use crate::solving::{Found, find};
 use crate::steps::steps_of;
 use crate::words::number;
-use anyhow::{Context, Result};
+use anyhow::Result;
 use pp_estimate::estimate;
 use pp_front::Accepted;
 use pp_limits::GATES;
@@ -22,7 +21,6 @@ use pp_prog::CheckId;
 use pp_query::{Question, comparisons, question_of};
 use pp_symbolic::{Mode, NoMemory};
 use std::alloc::Global;
-use std::fs;
 
 /// The most lemmas of a proof.
 const MOST_LEMMAS: u32 = 1_000_000;
@@ -43,20 +41,16 @@ struct Taken {
     found: Found,
 }
 
-/// Prints what the proofs of what the words ask for take.
-pub fn print_proofs(rt: &HostRuntime, words: &str) -> Result<()> {
-    let (path, numbers) = words.split_once(' ').context("a source")?;
-    let limits = read_limits(numbers)?;
-    let source = fs::read_to_string(rt, path)?;
-    print_source(rt, rt.alloc(), source.as_str(), limits)
-}
-
-/// Prints what the proofs of a source take.
-fn print_source(rt: &impl Print, alloc: Global, source: &str, limits: Limits) -> Result<()>
-    requires rounds { limits.rounds ≤ 12 }
-    requires lemmas { (1 ≤ limits.lemmas) × (limits.lemmas ≤ 1000000) }
+/// Prints what the proofs take within the limits that the numbers spell.
+pub fn print_proofs(
+    rt: &impl Print,
+    alloc: Global,
+    accepted: &Accepted,
+    numbers: &str,
+) -> Result<()>
+    requires { IsPlanOf accepted.now.plan accepted.now.program }
 {
-    print_checks(rt, alloc, &accepted(alloc, source)?, limits)
+    print_checks(rt, alloc, accepted, read_limits(numbers)?)
 }
 
 /// The limits that the numbers spell.

@@ -1,6 +1,6 @@
-//! Tries what becomes of whole programs, and measures how fast it is: what is answered to words and sources, rounds
-//! beside the evaluator, plans, circuits of runs, proofs, and whether matches are covered. What is to be printed was
-//! worked out apart from the program: `stdout` has it.
+//! Tries what becomes of whole programs, and measures how fast it is: rounds beside the evaluator, plans, circuits of
+//! runs, proofs, and whether matches are covered. What is to be printed was worked out apart from the program: `stdout`
+//! has it.
 //!
 //! Each word of the command line is a task and, behind a blank, what it takes: a file of programs, or a source or a
 //! case with its sizes. It is printed as a heading, and below it what the task prints. `args` has the tasks that are
@@ -8,17 +8,15 @@
 //!
 //! | Task | What is done | Module |
 //! |---|---|---|
-//! | `answers FILE` | what the program answers to words and sources | `answers` |
 //! | `rounds FILE` | the circuits of rounds are compared with the runs | `rounds` |
 //! | `plans FILE` | what the plans of the programs say | `plans` |
 //! | `circuits SOURCE ROUND DEPTH TIMES` | how large the circuits of runs are | `circuits` |
 //! | `guess_runs FILE` | whether checks are proved in a round | `guess_runs` |
 //! | `guesses SOURCE ROUNDS LEMMAS` | what the proofs of checks take | `guesses` |
 //! | `clauses SOURCE CHECK ROUND` | the clauses of a proof | `asked` |
-//! | `coverage CASE SIZE` | whether a large match is covered | `coverage` |
+//! | `coverage SOURCE CASE SIZE` | whether a large match is covered | `coverage` |
 #![tactic(auto)]
 
-mod answers;
 mod asked;
 mod circuits;
 mod coverage;
@@ -28,10 +26,12 @@ mod plans;
 mod programs;
 mod rounds;
 mod solving;
+mod sources;
 mod steps;
 mod words;
 
-use anyhow::{Context, Result, bail};
+use anyhow::{Context, Result};
+use sources::print_on_source;
 use std::env;
 
 /// Does a task.
@@ -39,15 +39,10 @@ fn run(rt: &HostRuntime, task: &str) -> Result<()> {
     println!(rt; "# {task}")?;
     let (name, given) = task.split_once(' ').context("a task and what it takes")?;
     match name {
-        "answers" => answers::print_answers(rt, given),
         "rounds" => rounds::print_rounds(rt, given),
         "plans" => plans::print_plans(rt, given),
-        "circuits" => circuits::print_sizes(rt, given),
         "guess_runs" => guess_runs::print_proved(rt, given),
-        "guesses" => guesses::print_proofs(rt, given),
-        "clauses" => asked::print_asked(rt, given),
-        "coverage" => coverage::print_coverage(rt, given),
-        other => bail!("no task {other}"),
+        _ => print_on_source(rt, name, given),
     }
 }
 

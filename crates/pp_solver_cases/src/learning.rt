@@ -9,7 +9,8 @@ ghost use Rattle.pp_solver_cases.specs.Conflict.{IsConflict};
 use crate::case::Case;
 use crate::tries::{push_lits, word};
 use anyhow::{Result, bail};
-use pp_clause::{Lemma, Lit, greatest_var, raised};
+use pp_case_line::CaseLine;
+use pp_clause::{Lemma, Lit, NoMemory, greatest_var, raised};
 use pp_learn::{Analysis, Learnt};
 use pp_watch::Watch;
 use std::alloc::Global;
@@ -111,7 +112,7 @@ fn learn_from(alloc: Global, watch: &Watch, conflict: Conflict) -> Result<String
         conflict.number,
         conflict.start,
     )?;
-    show_learnt(alloc, &learnt, analysis.met())
+    Ok(show_learnt(alloc, &learnt, analysis.met())?)
 }
 
 /// What is derived of the decisions alone from a clause that is false.
@@ -126,33 +127,37 @@ fn refute_from(alloc: Global, watch: &Watch, number: u32) -> Result<String>
         watch.places(),
         number,
     )?;
-    show_lemma(alloc, &lemma)
+    let mut line = CaseLine::new(alloc);
+    push_lemma(&mut line, &lemma);
+    Ok(line.end()?)
 }
 
 /// Shows a lemma, its literal that the last decision made false, how many steps make the others false, and the
 /// variables that were met.
-fn show_learnt(alloc: Global, learnt: &Learnt, met: &[u32]) -> Result<String> {
-    let mut line = show_lemma(alloc, &learnt.lemma)?;
-    line.push_str(", literal")?;
-    push_lits(&mut line, &[learnt.literal])?;
-    write!(line, ", back {}, met", learnt.back)?;
-    push_numbers(&mut line, met)?;
-    Ok(line)
+fn show_learnt(alloc: Global, learnt: &Learnt, met: &[u32]) -> Result<String, NoMemory> {
+    let mut line = CaseLine::new(alloc);
+    push_lemma(&mut line, &learnt.lemma);
+    line.put(", literal");
+    push_lits(&mut line, &[learnt.literal]);
+    line.put(", back ");
+    line.put(learnt.back);
+    line.put(", met");
+    push_numbers(&mut line, met);
+    line.end()
 }
 
-/// Shows the clause of a lemma, and the numbers of the clauses that derive it.
-fn show_lemma(alloc: Global, lemma: &Lemma) -> Result<String> {
-    let mut line = word(alloc, "lemma")?;
-    push_lits(&mut line, lemma.clause.lits())?;
-    line.push_str(", chain")?;
-    push_numbers(&mut line, lemma.chain.numbers())?;
-    Ok(line)
+/// Adds the clause of a lemma, and the numbers of the clauses that derive it.
+fn push_lemma(line: &mut CaseLine, lemma: &Lemma) {
+    line.put("lemma");
+    push_lits(line, lemma.clause.lits());
+    line.put(", chain");
+    push_numbers(line, lemma.chain.numbers());
 }
 
 /// Adds the numbers, each behind a blank.
-fn push_numbers(line: &mut String, numbers: &[u32]) -> Result<()> {
+fn push_numbers(line: &mut CaseLine, numbers: &[u32]) {
     for number in numbers {
-        write!(line, " {number}")?;
+        line.put(" ");
+        line.put(number);
     }
-    Ok(())
 }

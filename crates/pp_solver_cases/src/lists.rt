@@ -3,23 +3,25 @@
 use crate::case::{MOST, first_number, lits, numbers, read_clauses};
 use crate::tries::{push_lits, word};
 use anyhow::{Result, ensure};
-use pp_clause::{Assignment, Chain, Clause, Clauses, Lit, is_ascending, laws};
+use pp_case_line::CaseLine;
+use pp_clause::{Assignment, Chain, Clause, Clauses, Lit, NoMemory, is_ascending, laws};
 use std::alloc::Global;
 
 /// The clause of the literals that a line has in the place of assumptions.
 pub fn clause(alloc: Global, rest: &str) -> Result<String> {
     let (_, literals) = rest.split_once(':').unwrap_or((rest, ""));
     match Clause::of(alloc, &lits(alloc, literals)?)? {
-        Some(clause) => show_clause(alloc, "clause", &clause),
+        Some(clause) => Ok(show_clause(alloc, "clause", &clause)?),
         None => word(alloc, "none"),
     }
 }
 
 /// A word and the literals of a clause.
-fn show_clause(alloc: Global, name: &str, clause: &Clause) -> Result<String> {
-    let mut line = word(alloc, name)?;
-    push_lits(&mut line, clause.lits())?;
-    Ok(line)
+fn show_clause(alloc: Global, name: &str, clause: &Clause) -> Result<String, NoMemory> {
+    let mut line = CaseLine::new(alloc);
+    line.put(name);
+    push_lits(&mut line, clause.lits());
+    line.end()
 }
 
 /// Whether the numbers are a chain, which then has just these.
@@ -64,16 +66,21 @@ pub fn literal(alloc: Global, rest: &str) -> Result<String> {
         .first()
         .copied()
         .unwrap_or(Lit::default());
-    let mut line = word(alloc, "lit")?;
-    push_parts(&mut line, lit)?;
-    push_parts(&mut line, lit.negated())?;
-    Ok(line)
+    let mut line = CaseLine::new(alloc);
+    line.put("lit");
+    push_parts(&mut line, lit);
+    push_parts(&mut line, lit.negated());
+    Ok(line.end()?)
 }
 
-fn push_parts(line: &mut String, lit: Lit) -> Result<()> {
+fn push_parts(line: &mut CaseLine, lit: Lit) {
     let (var, positive, index) = (lit.var(), lit.is_positive(), lit.index());
-    write!(line, " {var} {positive} {index}")?;
-    Ok(())
+    line.put(" ");
+    line.put(var);
+    line.put(" ");
+    line.put(positive);
+    line.put(" ");
+    line.put(index);
 }
 
 /// The clause of the literals, where they are in order.
@@ -82,12 +89,13 @@ pub fn ascending(alloc: Global, rest: &str) -> Result<String> {
     if !is_ascending(&lits) {
         return word(alloc, "no");
     }
-    show_clause(alloc, "ascending", &Clause::of_ascending(alloc, &lits)?)
+    let clause = Clause::of_ascending(alloc, &lits)?;
+    Ok(show_clause(alloc, "ascending", &clause)?)
 }
 
 /// Copies of the clauses, and whether there are none.
 pub fn copies(alloc: Global, clauses: &Clauses) -> Result<String> {
-    show_copies(alloc, &copied(alloc, clauses)?)
+    Ok(show_copies(alloc, &copied(alloc, clauses)?)?)
 }
 
 fn copied(alloc: Global, clauses: &Clauses) -> Result<Clauses> {
@@ -100,13 +108,14 @@ fn copied(alloc: Global, clauses: &Clauses) -> Result<Clauses> {
     Ok(copies)
 }
 
-fn show_copies(alloc: Global, copies: &Clauses) -> Result<String> {
-    let mut line = word(alloc, if copies.is_empty() { "none" } else { "copies" })?;
+fn show_copies(alloc: Global, copies: &Clauses) -> Result<String, NoMemory> {
+    let mut line = CaseLine::new(alloc);
+    line.put(if copies.is_empty() { "none" } else { "copies" });
     for place in 0..copies.len() {
-        push_lits(&mut line, copies.get(place as u32 + 1).lits())?;
-        line.push_str(" ;")?;
+        push_lits(&mut line, copies.get(place as u32 + 1).lits());
+        line.put(" ;");
     }
-    Ok(line)
+    line.end()
 }
 
 /// Calls the functions that only state theorems.

@@ -2,6 +2,7 @@
 
 use crate::case::MOST;
 use anyhow::{Context, Result, bail, ensure};
+use pp_case_line::CaseLine;
 use pp_clause::{Clause, Clauses, Lit, greatest_var, raised};
 use pp_trail::Step;
 use pp_watch::Watch;
@@ -29,11 +30,11 @@ pub fn order(alloc: Global, clauses: &str, calls: &str, shown: Shown) -> Result<
 
 /// Makes the calls, and tells what is shown.
 fn make_all(alloc: Global, watch: &mut Watch, calls: &str, shown: Shown) -> Result<String> {
-    let mut line = String::new(alloc);
+    let mut line = CaseLine::new(alloc);
     for call in calls.split_whitespace() {
         make(alloc, watch, call.as_bytes(), shown, &mut line)?;
     }
-    Ok(line)
+    Ok(line.end()?)
 }
 
 /// The clauses of the words of a field.
@@ -73,7 +74,7 @@ fn make(
     watch: &mut Watch,
     call: &[u8],
     shown: Shown,
-    line: &mut String,
+    line: &mut CaseLine,
 ) -> Result<()> {
     let Some((first, rest)) = call.split_first() else {
         return Ok(());
@@ -83,7 +84,10 @@ fn make(
         b'?' => decide(watch, rest),
         b'<' => undo(watch, rest),
         b'!' => propagate(watch, shown, line),
-        b'.' => show(watch, shown, line),
+        b'.' => {
+            show(watch, shown, line);
+            Ok(())
+        }
         _ => bail!("no such call"),
     }
 }
@@ -119,54 +123,59 @@ fn undo(watch: &mut Watch, digits: &[u8]) -> Result<()> {
 }
 
 /// Propagates, and shows the trail, or an exclamation mark where a clause is false.
-fn propagate(watch: &mut Watch, shown: Shown, line: &mut String) -> Result<()> {
+fn propagate(watch: &mut Watch, shown: Shown, line: &mut CaseLine) -> Result<()> {
     match watch.propagate()? {
-        Some(number) if shown == Shown::Steps => write!(line, "!{number};")?,
-        Some(_) => line.push_str("!;")?,
-        None => show(watch, shown, line)?,
+        Some(number) => show_conflict(number, shown, line),
+        None => show(watch, shown, line),
     }
     Ok(())
 }
 
-fn show(watch: &Watch, shown: Shown, line: &mut String) -> Result<()> {
+/// Shows that a clause is false, and which where steps are shown.
+fn show_conflict(number: u32, shown: Shown, line: &mut CaseLine) {
+    line.put("!");
+    if shown == Shown::Steps {
+        line.put(number);
+    }
+    line.put(";");
+}
+
+fn show(watch: &Watch, shown: Shown, line: &mut CaseLine) {
     if shown == Shown::Values {
-        show_values(watch, line)?;
+        show_values(watch, line);
     } else {
-        show_steps(watch, line)?;
+        show_steps(watch, line);
     }
-    line.push(';')?;
-    Ok(())
+    line.put(";");
 }
 
-fn show_values(watch: &Watch, line: &mut String) -> Result<()> {
+fn show_values(watch: &Watch, line: &mut CaseLine) {
     for var in 1..=LAST {
         let lit = Lit::new(var, true);
         match watch.value(lit) {
-            Some(true) => line.push(letter(lit))?,
-            Some(false) => line.push(letter(lit.negated()))?,
+            Some(true) => line.put(letter(lit)),
+            Some(false) => line.put(letter(lit.negated())),
             None => {}
         }
     }
-    Ok(())
 }
 
-fn show_steps(watch: &Watch, line: &mut String) -> Result<()> {
+fn show_steps(watch: &Watch, line: &mut CaseLine) {
     for step in watch.trail() {
-        show_step(watch, step, line)?;
+        show_step(watch, step, line);
     }
-    Ok(())
 }
 
 /// Shows a step: its literal, the place of its variable, and the number of its reason.
-fn show_step(watch: &Watch, step: &Step, line: &mut String) -> Result<()> {
-    line.push(letter(step.lit))?;
+fn show_step(watch: &Watch, step: &Step, line: &mut CaseLine) {
+    line.put(letter(step.lit));
     if let Some(place) = watch.place(step.lit.var()) {
-        write!(line, "{place}")?;
+        line.put(place);
     }
     if let Some(reason) = step.reason {
-        write!(line, ":{reason}")?;
+        line.put(":");
+        line.put(reason);
     }
-    Ok(())
 }
 
 /// The letter of the literal.

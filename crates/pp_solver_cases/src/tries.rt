@@ -6,8 +6,9 @@ use crate::ring::check_steps;
 use crate::three::decided_lists;
 use crate::{learning, lists};
 use anyhow::{Result, bail, ensure};
+use pp_case_line::CaseLine;
 use pp_cdcl::{Answer, solve};
-use pp_clause::{Assignment, Clause, Lit, Lits, Log, Spent};
+use pp_clause::{Assignment, Clause, Lit, Lits, Log, NoMemory, Spent};
 use pp_refute::{LogFault, accepts, log_text, read_log};
 use std::alloc::Global;
 
@@ -131,46 +132,51 @@ fn is_model(case: &Case, a: &Assignment) -> bool {
 /// The kind of the answer, and of one with a log how many lemmas this has.
 fn counted(alloc: Global, case: &Case) -> Result<String> {
     let answer = solved(alloc, case)?;
-    let mut line = word(alloc, kind_of(&answer))?;
+    let mut line = CaseLine::new(alloc);
+    line.put(kind_of(&answer));
     if let Answer::Unsat(log) | Answer::Spent(log) = &answer {
-        let lemmas = log.as_slice().len();
-        write!(line, ", {lemmas} lemmas")?;
+        line.put(", ");
+        line.put(log.as_slice().len());
+        line.put(" lemmas");
     }
-    Ok(line)
+    Ok(line.end()?)
 }
 
 /// The variables from 1 to 9 that are true, where the answer is an assignment.
 fn model(alloc: Global, case: &Case) -> Result<String> {
     match solved(alloc, case)? {
-        Answer::Sat(a) => show_model(alloc, &a),
+        Answer::Sat(a) => Ok(show_model(alloc, &a)?),
         _ => bail!("no assignment"),
     }
 }
 
-fn show_model(alloc: Global, a: &Assignment) -> Result<String> {
-    let mut line = word(alloc, "sat")?;
+fn show_model(alloc: Global, a: &Assignment) -> Result<String, NoMemory> {
+    let mut line = CaseLine::new(alloc);
+    line.put("sat");
     for var in 1..10u32 {
         if a.value(var) {
-            write!(line, " {var}")?;
+            line.put(" ");
+            line.put(var);
         }
     }
-    Ok(line)
+    line.end()
 }
 
 /// The last clause of the log, where the answer refutes.
 fn last(alloc: Global, case: &Case) -> Result<String> {
     match solved(alloc, case)? {
-        Answer::Unsat(log) => last_clause(alloc, &log),
+        Answer::Unsat(log) => Ok(last_clause(alloc, &log)?),
         _ => bail!("no refutation"),
     }
 }
 
-fn last_clause(alloc: Global, log: &Log) -> Result<String> {
-    let mut line = word(alloc, "last")?;
+fn last_clause(alloc: Global, log: &Log) -> Result<String, NoMemory> {
+    let mut line = CaseLine::new(alloc);
+    line.put("last");
     if let Some(last) = log.as_slice().last() {
-        push_lits(&mut line, last.clause.lits())?;
+        push_lits(&mut line, last.clause.lits());
     }
-    Ok(line)
+    line.end()
 }
 
 /// The assumptions and the number of lemmas of the evidence that a problem's lemmas are spent.
@@ -180,14 +186,14 @@ fn evidence(alloc: Global, case: Case) -> Result<String> {
     };
     let assumptions = assumptions(alloc, &case)?;
     let clauses = case.clauses;
-    show_spent(
+    Ok(show_spent(
         alloc,
         &Spent {
             clauses,
             assumptions,
             log,
         },
-    )
+    )?)
 }
 
 fn assumptions(alloc: Global, case: &Case) -> Result<Lits> {
@@ -198,22 +204,24 @@ fn assumptions(alloc: Global, case: &Case) -> Result<Lits> {
     Ok(assumptions)
 }
 
-fn show_spent(alloc: Global, spent: &Spent) -> Result<String> {
-    let mut line = word(alloc, "assuming")?;
-    push_lits(&mut line, spent.assumptions.as_slice())?;
-    let (lemmas, clauses) = (spent.log.as_slice().len(), spent.clauses.len());
-    write!(line, ", {lemmas} lemmas over {clauses}")?;
-    Ok(line)
+fn show_spent(alloc: Global, spent: &Spent) -> Result<String, NoMemory> {
+    let mut line = CaseLine::new(alloc);
+    line.put("assuming");
+    push_lits(&mut line, spent.assumptions.as_slice());
+    line.put(", ");
+    line.put(spent.log.as_slice().len());
+    line.put(" lemmas over ");
+    line.put(spent.clauses.len());
+    line.end()
 }
 
 /// Adds the numbers of literals, each behind a blank.
-pub fn push_lits(line: &mut String, lits: &[Lit]) -> Result<()> {
+pub fn push_lits(line: &mut CaseLine, lits: &[Lit]) {
     for lit in lits {
-        line.push_str(if lit.is_positive() { " " } else { " -" })?;
+        line.put(if lit.is_positive() { " " } else { " -" });
         let var = lit.var();
-        write!(line, "{var}")?;
+        line.put(var);
     }
-    Ok(())
 }
 
 pub fn word(alloc: Global, word: &str) -> Result<String> {

@@ -5,6 +5,7 @@
 //! A line `\*COUNT PIECE` stands for the piece so many times over, and then only the number of tokens is told.
 
 use crate::escapes::{repeated, source};
+use pp_case_line::CaseLine;
 use pp_text::{MOST_BYTES, NoMemory, Text, TextFault};
 use pp_tokens::{LexFault, Token, TokenKind, tokens};
 use std::alloc::Global;
@@ -48,31 +49,35 @@ fn refused(alloc: Global, fault: LexFault) -> Result<String, NoMemory> {
 }
 
 fn spelled(alloc: Global, text: &Text, tokens: &[Token]) -> Result<String, NoMemory> {
-    let mut out = String::from_str(alloc, "tokens")?;
+    let mut out = CaseLine::new(alloc);
+    out.put("tokens");
     for token in tokens {
-        push_token(&mut out, text, *token)?;
+        push_token(&mut out, text, *token);
     }
-    Ok(out)
+    out.end()
 }
 
 /// Adds a token, and the characters where it stands if they are others.
-fn push_token(out: &mut String, text: &Text, token: Token) -> Result<(), NoMemory> {
+fn push_token(out: &mut CaseLine, text: &Text, token: Token) {
     let piece = piece(text.as_str(), token);
     let characters = characters(token.kind, piece);
-    write!(out, " {}:", token.from)?;
-    push_kind(out, token.kind, characters)?;
+    out.put(" ");
+    out.put(token.from);
+    out.put(":");
+    push_kind(out, token.kind, characters);
     if matches!(token.kind, TokenKind::Newline | TokenKind::End) {
-        push_place(out, text, token.from)?;
+        push_place(out, text, token.from);
     }
-    push_other(out, piece, characters)
+    push_other(out, piece, characters);
 }
 
 /// Adds the characters where a token stands, if they are others than it has.
-fn push_other(out: &mut String, piece: &str, characters: &str) -> Result<(), NoMemory> {
+fn push_other(out: &mut CaseLine, piece: &str, characters: &str) {
     if piece == characters {
-        return Ok(());
+        return;
     }
-    write!(out, " stands at {piece}")
+    out.put(" stands at ");
+    out.put(piece);
 }
 
 /// The characters where a token stands.
@@ -99,23 +104,34 @@ fn characters(kind: TokenKind, piece: &str) -> &str {
     }
 }
 
-fn push_kind(out: &mut String, kind: TokenKind, characters: &str) -> Result<(), NoMemory> {
+fn push_kind(out: &mut CaseLine, kind: TokenKind, characters: &str) {
     match kind {
-        TokenKind::Word(_) => write!(out, "'{characters}"),
-        TokenKind::Number(value) => write!(out, "#{value}"),
-        TokenKind::Hex(value) => write!(out, "${value}"),
-        TokenKind::Hole => out.push_str("HOLE"),
-        TokenKind::Newline => out.push_str("NL"),
-        TokenKind::End => out.push_str("END"),
-        _ => out.push_str(characters),
+        TokenKind::Word(_) => {
+            out.put("'");
+            out.put(characters);
+        }
+        TokenKind::Number(value) => {
+            out.put("#");
+            out.put(value);
+        }
+        TokenKind::Hex(value) => {
+            out.put("$");
+            out.put(value);
+        }
+        TokenKind::Hole => out.put("HOLE"),
+        TokenKind::Newline => out.put("NL"),
+        TokenKind::End => out.put("END"),
+        _ => out.put(characters),
     }
 }
 
 /// The line and the column of an offset.
-fn push_place(out: &mut String, text: &Text, at: u32) -> Result<(), NoMemory> {
+fn push_place(out: &mut CaseLine, text: &Text, at: u32) {
     if text.as_str().is_char_boundary(at as usize) {
         let (line, column) = text.place(at);
-        write!(out, " at {line}:{column}")?;
+        out.put(" at ");
+        out.put(line);
+        out.put(":");
+        out.put(column);
     }
-    Ok(())
 }

@@ -1,52 +1,58 @@
 //! How types, patterns and expressions print: each node in round brackets, behind its offset.
 
-use pp_parse::NoMemory;
+use pp_case_line::CaseLine;
 use pp_tree::{BinaryOp, Case, Expr, ExprKind, Pattern, PatternKind, TypeText, UnaryOp};
 
 /// A type.
-pub fn push_type(out: &mut String, of: &TypeText) -> Result<(), NoMemory> {
-    write!(out, " {}:{}", of.at, of.name)?;
+pub fn push_type(out: &mut CaseLine, of: &TypeText) {
+    out.put(" ");
+    out.put(of.at);
+    out.put(":");
+    out.put(of.name);
     if of.args.is_empty() {
-        return Ok(());
+        return;
     }
-    out.push_str("[")?;
+    out.put("[");
     for arg in of.args {
-        push_type(out, arg)?;
+        push_type(out, arg);
     }
-    out.push_str("]")
+    out.put("]");
 }
 
 /// A type behind a word, where it is written.
-pub fn push_written(out: &mut String, word: &str, of: &Option<TypeText>) -> Result<(), NoMemory> {
+pub fn push_written(out: &mut CaseLine, word: &str, of: &Option<TypeText>) {
     if let Some(of) = of {
-        out.push_str(word)?;
-        push_type(out, of)?;
+        out.put(word);
+        push_type(out, of);
     }
-    Ok(())
 }
 
 /// The patterns of fields.
 #[cycle(pattern)]
-fn push_fields(out: &mut String, fields: &[Pattern]) -> Result<(), NoMemory> {
+fn push_fields(out: &mut CaseLine, fields: &[Pattern]) {
     for field in fields {
-        push_pattern(out, field)?;
+        push_pattern(out, field);
     }
-    out.push_str(")")
+    out.put(")");
 }
 
 /// A pattern.
 #[cycle(pattern)]
-fn push_pattern(out: &mut String, pattern: &Pattern) -> Result<(), NoMemory> {
-    write!(out, " {}:", pattern.at)?;
+fn push_pattern(out: &mut CaseLine, pattern: &Pattern) {
+    out.put(" ");
+    out.put(pattern.at);
+    out.put(":");
     if let Some(name) = pattern.name {
-        write!(out, "{name}@")?;
+        out.put(name);
+        out.put("@");
     }
     match pattern.kind {
-        PatternKind::Any => out.push_str("_"),
-        PatternKind::Int(n) => write!(out, "{n}"),
-        PatternKind::Bool(b) => write!(out, "{b}"),
+        PatternKind::Any => out.put("_"),
+        PatternKind::Int(n) => out.put(n),
+        PatternKind::Bool(b) => out.put(b),
         PatternKind::Ctor(ctor, fields) => {
-            write!(out, "({ctor}")?;
+            out.put("(");
+            out.put(ctor);
             push_fields(out, fields)
         }
     }
@@ -87,53 +93,64 @@ fn binary_text(op: BinaryOp) -> &'static str {
 }
 
 /// What stands before the parts of an expression.
-fn push_head(out: &mut String, kind: &ExprKind) -> Result<(), NoMemory> {
+fn push_head(out: &mut CaseLine, kind: &ExprKind) {
     match kind {
-        ExprKind::Int(n) => write!(out, "{n}"),
-        ExprKind::Bool(b) => write!(out, "{b}"),
-        ExprKind::Name(name) => out.push_str(name),
+        ExprKind::Int(n) => out.put(n),
+        ExprKind::Bool(b) => out.put(b),
+        ExprKind::Name(name) => out.put(name),
         ExprKind::Apply(name, types, _) => push_applied(out, name, types),
-        ExprKind::Field(_, name) => write!(out, "(.{name}"),
-        ExprKind::Unary(op, _) => write!(out, "({}", unary_text(*op)),
-        ExprKind::Binary(op, _, _) => write!(out, "({}", binary_text(*op)),
-        ExprKind::If(..) => out.push_str("(if"),
-        ExprKind::Match(..) => out.push_str("(match"),
+        ExprKind::Field(_, name) => {
+            out.put("(.");
+            out.put(name);
+        }
+        ExprKind::Unary(op, _) => {
+            out.put("(");
+            out.put(unary_text(*op));
+        }
+        ExprKind::Binary(op, _, _) => {
+            out.put("(");
+            out.put(binary_text(*op));
+        }
+        ExprKind::If(..) => out.put("(if"),
+        ExprKind::Match(..) => out.put("(match"),
         ExprKind::Val(name, of, _, _) => push_declared(out, name, of),
-        ExprKind::Assert(..) => out.push_str("(assert"),
+        ExprKind::Assert(..) => out.put("(assert"),
     }
 }
 
-fn push_applied(out: &mut String, name: &str, types: &[TypeText]) -> Result<(), NoMemory> {
-    write!(out, "{name}[")?;
+fn push_applied(out: &mut CaseLine, name: &str, types: &[TypeText]) {
+    out.put(name);
+    out.put("[");
     for of in types {
-        push_type(out, of)?;
+        push_type(out, of);
     }
-    out.push_str("](")
+    out.put("](");
 }
 
-fn push_declared(out: &mut String, name: &str, of: &Option<TypeText>) -> Result<(), NoMemory> {
-    write!(out, "(val {name}")?;
-    push_written(out, " of", of)
+fn push_declared(out: &mut CaseLine, name: &str, of: &Option<TypeText>) {
+    out.put("(val ");
+    out.put(name);
+    push_written(out, " of", of);
 }
 
 /// The parts of an expression.
 #[cycle(push)]
-fn push_parts(out: &mut String, kind: &ExprKind) -> Result<(), NoMemory> {
+fn push_parts(out: &mut CaseLine, kind: &ExprKind) {
     match kind {
-        ExprKind::Int(_) | ExprKind::Bool(_) | ExprKind::Name(_) => Ok(()),
+        ExprKind::Int(_) | ExprKind::Bool(_) | ExprKind::Name(_) => {}
         ExprKind::Apply(_, _, args) => push_exprs(out, args),
         ExprKind::Field(a, _) | ExprKind::Unary(_, a) => push_expr(out, a),
         ExprKind::Binary(_, a, b) | ExprKind::Val(_, _, a, b) | ExprKind::Assert(a, b) => {
-            push_expr(out, a)?;
+            push_expr(out, a);
             push_expr(out, b)
         }
         ExprKind::If(test, yes, no) => {
-            push_expr(out, test)?;
-            push_expr(out, yes)?;
+            push_expr(out, test);
+            push_expr(out, yes);
             push_expr(out, no)
         }
         ExprKind::Match(matched, cases) => {
-            push_expr(out, matched)?;
+            push_expr(out, matched);
             push_cases(out, cases)
         }
     }
@@ -141,47 +158,47 @@ fn push_parts(out: &mut String, kind: &ExprKind) -> Result<(), NoMemory> {
 
 /// An expression.
 #[cycle(push)]
-pub fn push_expr(out: &mut String, expr: &Expr) -> Result<(), NoMemory> {
-    write!(out, " {}:", expr.at)?;
-    push_head(out, &expr.kind)?;
-    push_parts(out, &expr.kind)?;
+pub fn push_expr(out: &mut CaseLine, expr: &Expr) {
+    out.put(" ");
+    out.put(expr.at);
+    out.put(":");
+    push_head(out, &expr.kind);
+    push_parts(out, &expr.kind);
     if matches!(
         expr.kind,
         ExprKind::Int(_) | ExprKind::Bool(_) | ExprKind::Name(_)
     ) {
-        return Ok(());
+        return;
     }
-    out.push_str(")")
+    out.put(")");
 }
 
 /// Expressions in order.
 #[cycle(push)]
-fn push_exprs(out: &mut String, exprs: &[Expr]) -> Result<(), NoMemory> {
+fn push_exprs(out: &mut CaseLine, exprs: &[Expr]) {
     for expr in exprs {
-        push_expr(out, expr)?;
+        push_expr(out, expr);
     }
-    Ok(())
 }
 
 /// The cases of a match.
 #[cycle(push)]
-fn push_cases(out: &mut String, cases: &[Case]) -> Result<(), NoMemory> {
+fn push_cases(out: &mut CaseLine, cases: &[Case]) {
     for case in cases {
-        push_case(out, case)?;
+        push_case(out, case);
     }
-    Ok(())
 }
 
 /// A case of a match.
 #[cycle(push)]
-fn push_case(out: &mut String, case: &Case) -> Result<(), NoMemory> {
-    out.push_str(" (case")?;
-    push_pattern(out, &case.pattern)?;
+fn push_case(out: &mut CaseLine, case: &Case) {
+    out.put(" (case");
+    push_pattern(out, &case.pattern);
     if let Some(guard) = &case.guard {
-        out.push_str(" if")?;
-        push_expr(out, guard)?;
+        out.put(" if");
+        push_expr(out, guard);
     }
-    out.push_str(" =>")?;
-    push_expr(out, &case.body)?;
-    out.push_str(")")
+    out.put(" =>");
+    push_expr(out, &case.body);
+    out.put(")");
 }

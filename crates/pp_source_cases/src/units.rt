@@ -1,30 +1,32 @@
 //! How units and declarations print.
 
 use crate::exprs::{push_expr, push_type, push_written};
-use pp_parse::NoMemory;
+use pp_case_line::CaseLine;
 use pp_tree::{ClassDecl, Decl, DefDecl, Expr, Import, Param, Post, Unit};
 
 /// A unit: its imports, its objects and its declarations.
-pub fn push_unit(out: &mut String, unit: &Unit) -> Result<(), NoMemory> {
-    out.push_str("unit")?;
-    push_imports(out, unit.imports)?;
+pub fn push_unit(out: &mut CaseLine, unit: &Unit) {
+    out.put("unit");
+    push_imports(out, unit.imports);
     for object in unit.objects {
-        write!(out, " object {object}")?;
+        out.put(" object ");
+        out.put(object);
     }
     for decl in unit.decls {
-        push_decl(out, decl)?;
+        push_decl(out, decl);
     }
-    Ok(())
 }
 
-fn push_imports(out: &mut String, imports: &[Import]) -> Result<(), NoMemory> {
+fn push_imports(out: &mut CaseLine, imports: &[Import]) {
     for import in imports {
-        write!(out, " import {}:{}", import.at, import.name)?;
+        out.put(" import ");
+        out.put(import.at);
+        out.put(":");
+        out.put(import.name);
     }
-    Ok(())
 }
 
-fn push_decl(out: &mut String, decl: &Decl) -> Result<(), NoMemory> {
+fn push_decl(out: &mut CaseLine, decl: &Decl) {
     match decl {
         Decl::Root(class) => push_class(out, "root", class),
         Decl::Ctor(class) => push_class(out, "ctor", class),
@@ -34,78 +36,84 @@ fn push_decl(out: &mut String, decl: &Decl) -> Result<(), NoMemory> {
 }
 
 /// A class, a trait or a case object.
-fn push_class(out: &mut String, kind: &str, class: &ClassDecl) -> Result<(), NoMemory> {
-    push_declared(out, kind, class.at, class.name, class.params)?;
-    push_params(out, class.fields)?;
-    push_written(out, " extends", &class.parent)?;
-    out.push_str(if class.object { " object}" } else { "}" })
+fn push_class(out: &mut CaseLine, kind: &str, class: &ClassDecl) {
+    push_declared(out, kind, class.at, class.name, class.params);
+    push_params(out, class.fields);
+    push_written(out, " extends", &class.parent);
+    out.put(if class.object { " object}" } else { "}" });
 }
 
 /// What is declared, with the names of its type parameters in square brackets, where there are any.
-fn push_declared(
-    out: &mut String,
-    kind: &str,
-    at: u32,
-    name: &str,
-    params: &[&str],
-) -> Result<(), NoMemory> {
-    write!(out, " {{{kind} {at}:{name}")?;
+fn push_declared(out: &mut CaseLine, kind: &str, at: u32, name: &str, params: &[&str]) {
+    out.put(" {");
+    out.put(kind);
+    out.put(" ");
+    out.put(at);
+    out.put(":");
+    out.put(name);
     if params.is_empty() {
-        return Ok(());
+        return;
     }
-    out.push_str("[")?;
+    out.put("[");
     for param in params {
-        write!(out, " {param}")?;
+        out.put(" ");
+        out.put(param);
     }
-    out.push_str("]")
+    out.put("]");
 }
 
 /// Parameters or fields.
-fn push_params(out: &mut String, params: &[Param]) -> Result<(), NoMemory> {
-    out.push_str("(")?;
+fn push_params(out: &mut CaseLine, params: &[Param]) {
+    out.put("(");
     for param in params {
-        write!(out, " {}:{} of", param.at, param.name)?;
-        push_type(out, &param.of)?;
+        out.put(" ");
+        out.put(param.at);
+        out.put(":");
+        out.put(param.name);
+        out.put(" of");
+        push_type(out, &param.of);
     }
-    out.push_str(")")
+    out.put(")");
 }
 
 /// A function.
-fn push_def(out: &mut String, def: &DefDecl) -> Result<(), NoMemory> {
-    push_declared(out, "def", def.at, def.name, def.type_params)?;
+fn push_def(out: &mut CaseLine, def: &DefDecl) {
+    push_declared(out, "def", def.at, def.name, def.type_params);
     if def.list {
-        push_params(out, def.params)?;
+        push_params(out, def.params);
     }
-    out.push_str(" result")?;
-    push_type(out, &def.result)?;
-    push_claims(out, def)?;
-    push_post(out, &def.post)?;
-    out.push_str("}")
+    out.put(" result");
+    push_type(out, &def.result);
+    push_claims(out, def);
+    push_post(out, &def.post);
+    out.put("}");
 }
 
 /// The preconditions, the measure and the body of a function.
-fn push_claims(out: &mut String, def: &DefDecl) -> Result<(), NoMemory> {
-    push_each(out, " require", def.pre)?;
-    push_each(out, " decreases", def.measure)?;
-    out.push_str(" body")?;
-    push_expr(out, &def.body)
+fn push_claims(out: &mut CaseLine, def: &DefDecl) {
+    push_each(out, " require", def.pre);
+    push_each(out, " decreases", def.measure);
+    out.put(" body");
+    push_expr(out, &def.body);
 }
 
 /// Expressions, each behind the word.
-fn push_each(out: &mut String, word: &str, exprs: &[Expr]) -> Result<(), NoMemory> {
+fn push_each(out: &mut CaseLine, word: &str, exprs: &[Expr]) {
     for expr in exprs {
-        out.push_str(word)?;
-        push_expr(out, expr)?;
+        out.put(word);
+        push_expr(out, expr);
     }
-    Ok(())
 }
 
 /// A postcondition, where there is one.
-fn push_post(out: &mut String, post: &Option<Post>) -> Result<(), NoMemory> {
+fn push_post(out: &mut CaseLine, post: &Option<Post>) {
     let Some(post) = post else {
-        return Ok(());
+        return;
     };
-    write!(out, " post {}:{}", post.at, post.name)?;
-    push_written(out, " of", &post.of)?;
-    push_expr(out, &post.claim)
+    out.put(" post ");
+    out.put(post.at);
+    out.put(":");
+    out.put(post.name);
+    push_written(out, " of", &post.of);
+    push_expr(out, &post.claim);
 }

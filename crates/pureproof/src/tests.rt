@@ -1,5 +1,5 @@
 //! Whole runs in memory, and what is shown where something outside gives out. What is answered to which sources is
-//! tried by the program `pp_program_cases`, and files by the script `check_program.sh`.
+//! tried by the program `pp_answer_cases`, and files by the script `check_program.sh`.
 
 use super::*;
 use pp_seam::{Bytes, Shelves};

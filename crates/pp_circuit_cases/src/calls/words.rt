@@ -1,6 +1,6 @@
-//! The calls of `pp_wordgate` by their names.
+//! The calls of `pp_wordgate` and `pp_wordscale` by their names.
 
-ghost use Rattle.std.specs.Prelude.{◌≡◌, ◌+◌, ◌≤◌, ◌^◌, All, length, IfOk};
+ghost use Rattle.std.specs.Prelude.{◌+◌, ◌≤◌, ◌^◌, All, length, IfOk};
 ghost use Rattle.pp_gate.specs.Circuit.{IsOf};
 ghost use Rattle.pp_gate.specs.Growth.{Grows};
 
@@ -8,9 +8,9 @@ use crate::calls::{Call, Count, Known, completed};
 use pp_clause::Lit;
 use pp_gate::{Circuit, NoMemory, Word};
 use pp_wordgate::{
-    add, and, choose, constant, div, equal, less, mul, neg, not, or, rem, shl, shr, sub, unknown,
-    ushr, value, xor,
+    add, and, choose, constant, equal, less, neg, not, or, sub, unknown, value, xor,
 };
+use pp_wordscale::{div, mul, rem, shl, shr, ushr};
 
 /// What the call comes to in a circuit that has no gates yet.
 pub fn counted(circuit: &mut Circuit, call: &Call, known: Known) -> Result<Count, NoMemory>

@@ -2,20 +2,50 @@
 
 ghost use Rattle.std.specs.Prelude.{◌≡◌, ◌+◌, ◌<◌, ◌≤◌, IfSome, length};
 
-use crate::coverage::table::{FIELDS, GRID, PAIR, PAIRS, ROW, WIDE, WIDE_CTORS, table};
 use pp_cover::{CoverFault, NoMemory, covered};
 use pp_list::{Boxed, Items};
 use pp_prog::{CtorId, DataId, Pattern, Patterns, Sort, TypeTable};
 use std::alloc::Global;
 
+/// How many datatypes the source has, `data/coverage.scala`. They are known here by their places in it.
+pub const DATATYPES: usize = 5;
+
+/// The datatype of pairs of truth values, and its one constructor.
+const PAIR: u32 = 0;
+
+/// The datatype of 16 pairs, and its one constructor.
+const PAIRS: u32 = 1;
+
+/// The datatype of 16 truth values, and its one constructor.
+const ROW: u32 = 2;
+
+/// The datatype of 16 rows, and its one constructor.
+const GRID: u32 = 3;
+
+/// The datatype of many constructors with 16 truth values each, and the first of them.
+const WIDE: u32 = 4;
+
+/// How many constructors it has.
+const WIDE_CTORS: u32 = 64;
+
+/// How many fields a constructor has, but that of pairs.
+const FIELDS: u32 = 16;
+
 /// The most patterns that a match has.
 const MOST: usize = 65_535;
 
 /// Whether the match of this name and size is covered. Another name is a match of a number without cases.
-pub fn is_covered(alloc: Global, case: &str, size: u32) -> Result<bool, CoverFault> {
+pub fn is_covered(
+    alloc: Global,
+    table: &TypeTable,
+    case: &str,
+    size: u32,
+) -> Result<bool, CoverFault>
+    requires { length table.now.datatypes ≡ 5 }
+{
     let mut patterns = Items::new(alloc);
     push_patterns(alloc, &mut patterns, case, size)?;
-    covered_in(alloc, &table(alloc)?, datatype(case), patterns.as_slice())
+    covered_in(alloc, table, datatype(case), patterns.as_slice())
 }
 
 /// The datatype of the match of this name, or none for a match of a number.

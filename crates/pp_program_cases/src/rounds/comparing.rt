@@ -9,6 +9,7 @@ use crate::rounds::question::{fails_at, round_question};
 use crate::rounds::running::{run_fails, sorts_of};
 use anyhow::{Result, ensure};
 use pp_bounded::{Bounded, BoundedTree};
+use pp_case_line::CaseLine;
 use pp_front::Accepted;
 use pp_list::at;
 use pp_prog::{CheckId, Ctor, FunctionId, Program, Value, Values};
@@ -123,30 +124,33 @@ fn difference(
     said: Option<bool>,
     fails: bool,
 ) -> Result<String> {
-    let mut line = String::new(alloc);
+    let mut line = CaseLine::new(alloc);
     for argument in arguments {
-        spell(&mut line, ctors, argument)?;
+        spell(&mut line, ctors, argument);
     }
-    write!(line, ": circuit says {said:?}, run says {fails}")?;
-    Ok(line)
+    let said = format!(in alloc; "{said:?}")?;
+    line.put(": circuit says ");
+    line.put(said.as_str());
+    line.put(", run says ");
+    line.put(fails);
+    Ok(line.end()?)
 }
 
 /// Adds the value behind a blank: a tree by the name of its constructor, and its fields in brackets.
-fn spell(text: &mut String, ctors: &[Ctor], value: &Value) -> Result<()> {
+fn spell(text: &mut CaseLine, ctors: &[Ctor], value: &Value) {
+    text.put(" ");
     match value {
-        Value::Int(n) => write!(text, " {n}")?,
-        Value::Bool(b) => write!(text, " {b}")?,
+        Value::Int(n) => text.put(n),
+        Value::Bool(b) => text.put(b),
         Value::Tree(ctor, fields) => {
-            text.push_str(" ")?;
             if let Some(entry) = at(ctors, ctor.0 as usize) {
-                text.push_str(entry.name.as_str())?;
+                text.put(entry.name.as_str());
             }
-            text.push_str("(")?;
+            text.put("(");
             for field in fields.as_slice() {
-                spell(text, ctors, field)?;
+                spell(text, ctors, field);
             }
-            text.push_str(" )")?;
+            text.put(" )");
         }
     }
-    Ok(())
 }
