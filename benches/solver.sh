@@ -4,14 +4,14 @@
 # and 10,000 lemmas, and prints how many microseconds a lemma took, the processor time of solving alone: what a run with
 # one lemma takes, which is reading, is taken off. Of minisat (-no-pre, at most 20 s) it prints the same of a whole run,
 # without its parsing, and at the end how many times longer our conflicts took at the last number.
-# It wants minisat (apt-get install minisat), python3, and crates/pp_solver_cases/out/pp_solver_cases, which `rt run` in
+# It wants minisat (apt-get install minisat), python3, and crates/pp_circuit_cases/out/pp_circuit_cases, which `rt run` in
 # that crate's folder leaves; another program in its place is named by SOLVER_CASES.
 set -eu
 root=$(cd "$(dirname "${BASH_SOURCE[0]}")/.." && pwd)
 here=$(mktemp -d)
 trap 'rm -rf "$here"' EXIT
 cd "$here"
-python3 -B - "${SOLVER_CASES:-$root/crates/pp_solver_cases/out/pp_solver_cases}" "$root/benches" <<'PY'
+python3 -B - "${SOLVER_CASES:-$root/crates/pp_circuit_cases/out/pp_circuit_cases}" "$root/benches" <<'PY'
 import random, re, resource, subprocess, sys
 
 sys.path.insert(0, sys.argv[2])
@@ -100,7 +100,7 @@ def ours(lemmas):
     before = resource.getrusage(resource.RUSAGE_CHILDREN).ru_utime
     with open("clauses") as clauses:
         line = f"lemmas {lemmas} : : {clauses.read()}\n"
-    run = subprocess.run([PROGRAM], input=line, capture_output=True, text=True, check=True)
+    run = subprocess.run([PROGRAM, "solver /dev/stdin"], input=line, capture_output=True, text=True, check=True)
     seconds = resource.getrusage(resource.RUSAGE_CHILDREN).ru_utime - before
     found = re.search(r"(\d+) lemmas", run.stdout)
     return (int(found.group(1)) if found else None), seconds

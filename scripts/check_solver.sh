@@ -1,8 +1,8 @@
 #!/usr/bin/env bash
-# The solver beside minisat: 500 random problems, some with assumptions, which pp_solver_cases decides (and tries the
+# The solver beside minisat: 500 random problems, some with assumptions, which pp_circuit_cases decides (and tries the
 # evidence of) and minisat too, with the assumptions as clauses. And its orders of calls to a trail, beside a plain
 # scan. Ends with the number of checks that passed and failed. Where minisat is missing the problems are skipped. It
-# wants python3 and crates/pp_solver_cases/out/pp_solver_cases, which `rt run` in that crate's folder leaves.
+# wants python3 and crates/pp_circuit_cases/out/pp_circuit_cases, which `rt run` in that crate's folder leaves.
 set -eu
 root=$(cd "$(dirname "${BASH_SOURCE[0]}")/.." && pwd)
 python3 "$root/scripts/solver_orders.py"
@@ -13,7 +13,7 @@ fi
 here=$(mktemp -d)
 trap 'rm -rf "$here"' EXIT
 cd "$here"
-python3 - "$root/crates/pp_solver_cases/out/pp_solver_cases" <<'PY'
+python3 - "$root/crates/pp_circuit_cases/out/pp_circuit_cases" <<'PY'
 import random, subprocess, sys
 
 PROBLEMS = 500
@@ -41,9 +41,10 @@ def minisat(clauses):
 problems = [problem(random.Random(seed)) for seed in range(PROBLEMS)]
 text = lambda lits: " ".join(map(str, lits))
 lines = [f"solve 1000000 : {text(a)} : " + " ; ".join(map(text, cs)) + " ;" for a, cs in problems]
-ours = subprocess.run([sys.argv[1]], input="\n".join(lines) + "\n", capture_output=True, text=True, check=True)
+command = [sys.argv[1], "solver /dev/stdin"]
+ours = subprocess.run(command, input="\n".join(lines) + "\n", capture_output=True, text=True, check=True)
 wanted = [minisat(cs + [[lit] for lit in a]) for a, cs in problems]
-found = ours.stdout.splitlines()
+found = ours.stdout.splitlines()[1:]
 wrong = [n for n in range(PROBLEMS) if found[n] != wanted[n]]
 for n in wrong:
     print(f"check_solver: problem {n}: {found[n]} instead of {wanted[n]}")

@@ -2,21 +2,22 @@
 # The second tier of must-fail edits, those under edits/: tries them on a copy of the repository. It is no part of the
 # gate, whose own edits stand in crates/NAME/must-fail/.
 #
-#   edits.sh             tries the edits of each crate whose sources, edits or toolchain changed since they were tried
+#   edits.sh             tries the edits of each crate whose sources, edits or logic changed since they were tried
 #   edits.sh NAME ..     tries those of these crates
 #   edits.sh --all       tries all
 #   edits.sh --list      says which crates are untried, and tries nothing
 #
 # Ten crates are tried at once, so that each processor has an edit, or the proof that a crate's edits begin with.
 #
-# edits/TRIED has a line for each crate: its name, the sum of its sources, its edits and the toolchain's line when they
-# were last tried, and the edits that were refused then. It stays untried where a try came to no verdict. The lines of
+# edits/TRIED has a line for each crate: its name, the sum of its sources, its edits and the toolchain's logic when they
+# were last tried, and the edits that were refused then. Toolchains of one logic refuse alike: what is false is proved by
+# none. A crate stays untried where a try came to no verdict. The lines of
 # ten crates are written as soon as they are done, so a run that was stopped is taken up by the next. Libraries that
 # were built in this checkout aren't built again.
 set -u
 root=$(cd "$(dirname "${BASH_SOURCE[0]}")/.." && pwd)
 tried=$root/edits/TRIED
-kit=$(rt version)
+logic=$(rt version | sed "s/.* logic/logic/")
 at_once=10
 
 # The crates with edits of the second tier.
@@ -24,10 +25,10 @@ names_of_all() {
     (cd "$root/edits" && printf '%s\n' */ | tr -d /)
 }
 
-# sum_of NAME: the sum of the crate's sources, its edits of the second tier and the toolchain's line
+# sum_of NAME: the sum of the crate's sources, its edits of the second tier and the toolchain's logic
 sum_of() {
     (cd "$root" && {
-        printf '%s\n' "$kit"
+        printf '%s\n' "$logic"
         find "crates/$1" "edits/$1" -name out -prune -o -type f \( -name '*.rt' -o -name '*.antt' \) -print0 \
             -o -type f -path "edits/$1/*.edit" -print0 | LC_ALL=C sort -z | xargs -0 sha256sum
     } | sha256sum | cut -c 1-16)

@@ -1,8 +1,8 @@
 #!/usr/bin/env python3
 """Orders of calls to a trail with propagation, and what must stand there, by a plain scan of all clauses.
 
-    solver_orders.py              compares the cases in crates/pp_solver_cases with what it works out
-    solver_orders.py write        writes 2,000 of them to the end of its stdin and stdout, in place of those there
+    solver_orders.py              compares the cases in crates/pp_circuit_cases with what it works out
+    solver_orders.py write        writes 2,000 of them to the end of data/solver.txt and stdout there, in place of those
 
 The order in which literals follow is the program's choice. So a trail is shown where calls alone determine what stands
 there: which literals follow from the decisions, and whether a clause is false then. Calls that would depend on more are
@@ -12,7 +12,9 @@ import random
 import sys
 from pathlib import Path
 
-CASES = Path(__file__).resolve().parent.parent / "crates" / "pp_solver_cases"
+CASES = Path(__file__).resolve().parent.parent / "crates" / "pp_circuit_cases"
+TASKS, PRINTED = "data/solver.txt", "stdout"
+HEADING = "# solver solver.txt"
 COUNT = 2_000
 VARIABLES = 5
 
@@ -121,22 +123,24 @@ def cases():
 
 
 def split(name):
-    """The lines before the orders, which follow the task `laws`, and those from there on."""
-    lines, tasks = ((CASES / file).read_text().splitlines() for file in (name, "stdin"))
+    """The lines before the orders, which follow the case `laws`, and those from there on."""
+    lines, tasks = ((CASES / file).read_text().splitlines() for file in (name, TASKS))
     first = tasks.index("laws") + 1
+    if name == PRINTED:
+        first += lines.index(HEADING) + 1
     return lines[:first], lines[first:]
 
 
 def main():
     wanted = list(zip(*cases()))
-    for name, lines in zip(("stdin", "stdout"), wanted):
+    for name, lines in zip((TASKS, PRINTED), wanted):
         head, found = split(name)
         if sys.argv[1:] == ["write"]:
             (CASES / name).with_suffix(".new").write_text("\n".join(head + list(lines)) + "\n")
         elif found != list(lines):
             sys.exit(f"solver_orders: {name} differs from what the scan finds")
     if sys.argv[1:] == ["write"]:
-        for name in ("stdin", "stdout"):
+        for name in (TASKS, PRINTED):
             (CASES / name).with_suffix(".new").rename(CASES / name)
     print(f"{COUNT} orders")
 

@@ -5,7 +5,7 @@ ghost use Rattle.pp_eval.specs.Runs.{AreArguments};
 ghost use Rattle.pp_front.specs.Programs.{IsShort};
 ghost use Rattle.pp_limits.specs.declared.TheConstants.{MOST_NESTED, MOST_SOURCES};
 
-use anyhow::Result;
+use pp_case_line::NoMemory;
 use pp_eval::Outcome;
 use pp_front::accept;
 use pp_limits::MOST_NESTED;
@@ -24,7 +24,7 @@ fn are_one(a: &Outcome, b: &Outcome) -> bool {
 }
 
 /// Whether both give one outcome of the function with this printed name. Where there is none to run, they do.
-fn agree_on(alloc: Global, program: &Program, name: &str, fuel: u32) -> Result<bool> {
+fn agree_on(alloc: Global, program: &Program, name: &str, fuel: u32) -> Result<bool, NoMemory> {
     let Some(f) = program.find(name) else {
         return Ok(true);
     };
@@ -42,7 +42,7 @@ fn is_machine_run(
     f: FunctionId,
     fuel: u32,
     outcome: &Outcome,
-) -> Result<bool>
+) -> Result<bool, NoMemory>
     requires function { f.0 < length program.now.functions }
     requires no_arguments { AreArguments program.now.types.ctors (slice_get program.now.functions f.0) [] }
     requires fuel { fuel ≤ MOST_NESTED }
@@ -51,7 +51,7 @@ fn is_machine_run(
 }
 
 /// Whether both evaluators give one outcome, where the task is a run that the plain one can make, of accepted sources.
-pub fn agree(alloc: Global, task: &Task, sources: &[Vec<u8>]) -> Result<bool>
+pub fn agree(alloc: Global, task: &Task, sources: &[Vec<u8>]) -> Result<bool, NoMemory>
     requires few { length sources.now ≤ MOST_SOURCES }
     requires short { All IsShort sources.now }
 {
@@ -62,7 +62,12 @@ pub fn agree(alloc: Global, task: &Task, sources: &[Vec<u8>]) -> Result<bool>
 }
 
 /// Whether both give one outcome, where the sources are accepted.
-fn agree_on_sources(alloc: Global, name: &str, fuel: u32, sources: &[Vec<u8>]) -> Result<bool>
+fn agree_on_sources(
+    alloc: Global,
+    name: &str,
+    fuel: u32,
+    sources: &[Vec<u8>],
+) -> Result<bool, NoMemory>
     requires few { length sources.now ≤ MOST_SOURCES }
     requires short { All IsShort sources.now }
 {

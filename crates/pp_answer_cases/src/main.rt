@@ -11,16 +11,29 @@
 
 mod answers;
 mod evaluators;
+mod sources;
 
-use anyhow::Result;
-use std::io::{BufRead, BufReader};
+use pp_case_line::{CaseLine, NoMemory};
+use std::alloc::Global;
+use std::io;
 
-fn main(rt: HostRuntime) -> Result<()> {
-    let alloc = rt.alloc();
-    for line in BufReader::new(alloc, rt.reader())?.lines(alloc) {
-        let line = line?;
-        let answer = answers::answer(alloc, line.as_str())?;
-        println!(rt; "{answer}")?;
+/// The answers to the cases, one a line.
+fn answers_to(alloc: Global, cases: &[&str]) -> Result<String, NoMemory> {
+    let mut out = CaseLine::new(alloc);
+    for case in cases {
+        answers::push_answer(&mut out, alloc, case)?;
+        out.put("\n");
     }
-    Ok(())
+    out.end()
+}
+
+/// The answers to the lines of a text.
+fn answers_to_lines(alloc: Global, text: &str) -> Result<String, NoMemory> {
+    let cases: Vec<&str> = text.lines().collect(alloc)?;
+    answers_to(alloc, &cases)
+}
+
+fn main(rt: HostRuntime) -> io::Result<()> {
+    let input = io::read_to_string(rt.alloc(), rt.reader())?;
+    print!(rt; "{}", answers_to_lines(rt.alloc(), input.as_str())?)
 }

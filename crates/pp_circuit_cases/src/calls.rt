@@ -10,8 +10,9 @@ mod words;
 
 ghost use Rattle.std.specs.Prelude.{◌≤◌};
 
-use crate::numbers::numbers;
-use anyhow::{Result, ensure};
+use crate::numbers::at;
+use crate::operator::Operator;
+use pp_case_line::CaseLine;
 use pp_clause::{Assignment, NoMemory};
 use pp_gate::Circuit;
 use std::alloc::Global;
@@ -21,8 +22,8 @@ const MOST_DIGITS: u32 = 32;
 
 /// A call on two numbers of so many digits.
 #[derive(Clone, Copy)]
-struct Call<'a> {
-    name: &'a str,
+struct Call {
+    operator: Operator,
     on_words: bool,
     width: u32,
     x: u32,
@@ -36,6 +37,13 @@ struct Known {
     y: bool,
 }
 
+/// The second number alone, the first alone, and both.
+const KNOWN: [Known; 3] = [
+    Known { x: false, y: true },
+    Known { x: true, y: false },
+    Known { x: true, y: true },
+];
+
 /// The gates that a call adds, that it adds a second time, and that it adds then with its operands swapped, and the
 /// value of its answer.
 #[derive(Clone, Copy)]
@@ -46,60 +54,80 @@ struct Count {
     value: i128,
 }
 
-/// The answer to a call of this name, on words or on so many digits.
-pub fn answer(alloc: Global, on_words: bool, name: &str, text: &str) -> Result<String> {
-    let [first, second, third] = numbers(text)?;
-    let (width, x, y) = if on_words {
-        (MOST_DIGITS, first, second)
-    } else {
-        (first, second, third)
-    };
-    ensure!(width <= MOST_DIGITS, "too many digits");
+/// Adds the answer to a call on so many digits: the first number, and two.
+pub fn push_on_digits(
+    line: &mut CaseLine,
+    alloc: Global,
+    operator: Operator,
+    numbers: &[u32],
+) -> Result<(), NoMemory> {
     let call = Call {
-        name,
-        on_words,
-        width,
-        x,
-        y,
+        operator,
+        on_words: false,
+        width: at(numbers, 0).min(MOST_DIGITS),
+        x: at(numbers, 1),
+        y: at(numbers, 2),
     };
-    Ok(counts(alloc, &call)?)
+    push_counts(line, alloc, &call)
 }
 
-/// What is counted of a call over fresh inputs and constants.
-fn counts(alloc: Global, call: &Call) -> Result<String, NoMemory>
+/// Adds the answer to a call on two words.
+pub fn push_on_words(
+    line: &mut CaseLine,
+    alloc: Global,
+    operator: Operator,
+    numbers: &[u32],
+) -> Result<(), NoMemory> {
+    let call = Call {
+        operator,
+        on_words: true,
+        width: MOST_DIGITS,
+        x: at(numbers, 0),
+        y: at(numbers, 1),
+    };
+    push_counts(line, alloc, &call)
+}
+
+/// Adds what is counted of a call over fresh inputs and constants.
+fn push_counts(line: &mut CaseLine, alloc: Global, call: &Call) -> Result<(), NoMemory>
     requires { call.now.width ≤ 32 }
 {
     let fresh = counted(alloc, call, Known { x: false, y: false })?;
-    let second = gates(alloc, call, Known { x: false, y: true }, fresh.value)?;
-    let first = gates(alloc, call, Known { x: true, y: false }, fresh.value)?;
-    let both = gates(alloc, call, Known { x: true, y: true }, fresh.value)?;
-    show(alloc, call.on_words, &fresh, [second, first, both])
+    push_fresh(line, &fresh);
+    for known in &KNOWN {
+        push_gates(line, &counted(alloc, call, *known)?, fresh.value);
+    }
+    if call.on_words {
+        push_repeated(line, &fresh);
+    }
+    Ok(())
 }
 
-/// What is shown of a call over fresh inputs, and of the gates where numbers are known.
-fn show(alloc: Global, on_words: bool, fresh: &Count, known: [i64; 3]) -> Result<String, NoMemory> {
-    let (value, gates) = (fresh.value, fresh.first);
-    let [second, first, both] = known;
-    if on_words {
-        let (again, swapped) = (fresh.again, fresh.swapped);
-        format!(in alloc;
-            ": {value}, {gates} gates, {second}, {first}, {both}, again {again}, swapped {swapped}"
-        )
+/// Adds the value and the gates over fresh inputs.
+fn push_fresh(line: &mut CaseLine, count: &Count) {
+    line.put(" ");
+    line.put(count.value);
+    line.put(", ");
+    line.put(count.first);
+    line.put(" gates");
+}
+
+/// Adds the gates of a call, and -1 where its answer hasn't this value.
+fn push_gates(line: &mut CaseLine, count: &Count, value: i128) {
+    line.put(", ");
+    if count.value == value {
+        line.put(count.first);
     } else {
-        format!(in alloc; ": {value}, {gates} gates, {second}, {first}, {both}")
+        line.put(-1);
     }
 }
 
-/// The gates that the call adds where these numbers are known, and -1 where its answer has another value.
-fn gates(alloc: Global, call: &Call, known: Known, value: i128) -> Result<i64, NoMemory>
-    requires { call.now.width ≤ 32 }
-{
-    let count = counted(alloc, call, known)?;
-    Ok(if count.value == value {
-        i64::from(count.first)
-    } else {
-        -1
-    })
+/// Adds the gates of a second call, and of one with its operands swapped.
+fn push_repeated(line: &mut CaseLine, count: &Count) {
+    line.put(", again ");
+    line.put(count.again);
+    line.put(", swapped ");
+    line.put(count.swapped);
 }
 
 /// What the call comes to in a circuit of its own.

@@ -12,8 +12,8 @@ ghost use Rattle.std.specs.Prelude.{◌≡◌, ◌<◌, ◌≤◌, ◌^◌, leng
 ghost use Rattle.pp_gate.specs.Circuit.{IsOf, IsWithin};
 ghost use Rattle.pp_gate.specs.Growth.{Grows};
 
-use crate::numbers::numbers;
-use anyhow::{Result, ensure};
+use crate::numbers::{at, push_all};
+use crate::operator::Operator;
 use pp_case_line::CaseLine;
 use pp_clause::{Assignment, Clauses, Lit, NoMemory};
 use pp_gate::{Circuit, Word};
@@ -30,52 +30,33 @@ struct Operands {
     b: Lit,
 }
 
-/// The answer to a case.
-pub fn answer(alloc: Global, name: &str, numbers: &str) -> Result<String> {
-    let on = operands_of(numbers)?;
-    let mut line = CaseLine::new(alloc);
-    line.put(":");
-    push_answer(&mut line, alloc, name, on)?;
-    Ok(line.end()?)
-}
-
-/// The operands of these numbers.
-fn operands_of(text: &str) -> Result<Operands>
-    ensures choice { IfOk result (λ r. IsWithin 4 r.c) }
-    ensures left { IfOk result (λ r. IsWithin 4 r.a) }
-    ensures right { IfOk result (λ r. IsWithin 4 r.b) }
-{
-    let [c, a, b] = numbers(text)?;
-    ensure!(
-        c < OPERANDS && a < OPERANDS && b < OPERANDS,
-        "no such operand"
-    );
-    Ok(Operands {
-        c: literal(c),
-        a: literal(a),
-        b: literal(b),
-    })
-}
-
-/// Adds the answer to a case.
-fn push_answer(line: &mut CaseLine, alloc: Global, name: &str, on: Operands) -> Result<(), NoMemory>
-    requires choice { IsWithin 4 on.c }
-    requires left { IsWithin 4 on.a }
-    requires right { IsWithin 4 on.b }
-{
-    if name != "word" {
-        return push_table(line, alloc, name, on);
+/// Adds the answer to a case on these operands.
+pub fn push_answer(
+    line: &mut CaseLine,
+    alloc: Global,
+    operator: Operator,
+    numbers: &[u32],
+) -> Result<(), NoMemory> {
+    let on = Operands {
+        c: literal(at(numbers, 0)),
+        a: literal(at(numbers, 1)),
+        b: literal(at(numbers, 2)),
+    };
+    match operator {
+        Operator::Word => {
+            push_word(line, on);
+            Ok(())
+        }
+        _ => push_table(line, alloc, operator, on),
     }
-    push_word(line, on);
-    Ok(())
 }
 
-/// The literal of an operand's number.
+/// The literal of an operand's number. A greater number stands for the same as its lowest digits.
 fn literal(number: u32) -> Lit
-    requires { number < 8 }
     ensures { IsWithin 4 result }
 {
-    Lit::new(number / 2 + 1, number % 2 == 0)
+    let operand = number % OPERANDS;
+    Lit::new(operand / 2 + 1, operand % 2 == 0)
 }
 
 /// Adds the literals of the word whose lowest is `a` and whose highest is `b`; the others are `c`.
@@ -89,8 +70,7 @@ fn push_word(line: &mut CaseLine, on: Operands) {
         return;
     }
     for place in 0..32u32 {
-        line.put(" ");
-        line.put(operand(word.bit(place)));
+        push_all(line, &[operand(word.bit(place))]);
     }
 }
 
@@ -99,22 +79,27 @@ fn operand(lit: Lit) -> u32 {
     2 * (lit.var() - 1) + u32::from(!lit.is_positive())
 }
 
-/// Adds the table of the call of this name.
-fn push_table(line: &mut CaseLine, alloc: Global, name: &str, on: Operands) -> Result<(), NoMemory>
+/// Adds the table of the call of this operator.
+fn push_table(
+    line: &mut CaseLine,
+    alloc: Global,
+    operator: Operator,
+    on: Operands,
+) -> Result<(), NoMemory>
     requires choice { IsWithin 4 on.c }
     requires left { IsWithin 4 on.a }
     requires right { IsWithin 4 on.b }
 {
     let mut circuit = Circuit::new(alloc)?;
     let _inputs = pp_bits::inputs(&mut circuit, 3)?;
-    push_calls(line, &mut circuit, name, on)
+    push_calls(line, &mut circuit, operator, on)
 }
 
 /// Adds what the call answers, and what it leaves when it is made with the operands turned round.
 fn push_calls(
     line: &mut CaseLine,
     circuit: &mut Circuit,
-    name: &str,
+    operator: Operator,
     on: Operands,
 ) -> Result<(), NoMemory>
     requires inputs { length circuit.old ≡ 4 }
@@ -127,9 +112,9 @@ fn push_calls(
         a: on.b,
         b: on.c,
     };
-    let answer = apply(circuit, name, on)?;
+    let answer = apply(circuit, operator, on)?;
     push_values(line, circuit, answer)?;
-    let _turned = apply(circuit, name, turned)?;
+    let _turned = apply(circuit, operator, turned)?;
     push_asked(line, circuit, answer)
 }
 
@@ -146,8 +131,8 @@ fn push_asked(line: &mut CaseLine, circuit: &Circuit, answer: Lit) -> Result<(),
     Ok(())
 }
 
-/// The literal that the call of this name answers.
-fn apply(circuit: &mut Circuit, name: &str, on: Operands) -> Result<Lit, NoMemory>
+/// The literal that the call of this operator answers.
+fn apply(circuit: &mut Circuit, operator: Operator, on: Operands) -> Result<Lit, NoMemory>
     requires room { length circuit.old < 2 ^ 30 }
     requires choice { IsOf circuit.old on.c }
     requires left { IsOf circuit.old on.a }
@@ -155,11 +140,11 @@ fn apply(circuit: &mut Circuit, name: &str, on: Operands) -> Result<Lit, NoMemor
     ensures grows { Grows circuit.old circuit.new 1 }
     ensures of { IfOk result (λ r. IsOf circuit.new r) }
 {
-    match name {
-        "and" => circuit.and(on.a, on.b),
-        "or" => circuit.or(on.a, on.b),
-        "xor" => circuit.xor(on.a, on.b),
-        "mux" => circuit.mux(on.c, on.a, on.b),
+    match operator {
+        Operator::And => circuit.and(on.a, on.b),
+        Operator::Or => circuit.or(on.a, on.b),
+        Operator::Xor => circuit.xor(on.a, on.b),
+        Operator::Mux => circuit.mux(on.c, on.a, on.b),
         _ => circuit.majority(on.c, on.a, on.b),
     }
 }
@@ -170,7 +155,8 @@ fn push_values(line: &mut CaseLine, circuit: &Circuit, answer: Lit) -> Result<()
 {
     let clauses = circuit.clauses()?;
     for inputs in 0..8u32 {
-        push_value(line, circuit, &clauses, answer, inputs)?;
+        line.put(" ");
+        line.put(value(circuit, &clauses, answer, inputs)?);
     }
     line.put(", ");
     line.put(circuit.gates());
@@ -180,24 +166,15 @@ fn push_values(line: &mut CaseLine, circuit: &Circuit, answer: Lit) -> Result<()
     Ok(())
 }
 
-/// Adds the value of a literal where the inputs have the lowest three bits as their values, and 2 where a clause is
-/// false.
-fn push_value(
-    line: &mut CaseLine,
-    circuit: &Circuit,
-    clauses: &Clauses,
-    lit: Lit,
-    inputs: u32,
-) -> Result<(), NoMemory> {
+/// The value of a literal where the inputs have the lowest three bits as their values, and 2 where a clause is false.
+fn value(circuit: &Circuit, clauses: &Clauses, lit: Lit, inputs: u32) -> Result<u32, NoMemory> {
     let all = completed(circuit, inputs)?;
-    line.put(if !clauses.holds(&all) {
-        " 2"
-    } else if all.value(lit.var()) == lit.is_positive() {
-        " 1"
+    let is_true = all.value(lit.var()) == lit.is_positive();
+    Ok(if clauses.holds(&all) {
+        u32::from(is_true)
     } else {
-        " 0"
-    });
-    Ok(())
+        2
+    })
 }
 
 /// The values of all gates where the inputs have the lowest three bits as their values.

@@ -1,11 +1,16 @@
 //! The functions that only state theorems.
 
 use pp_bits::laws as bits;
+use pp_clause::laws as clause;
 use pp_gate::laws as gate;
-use std::alloc::Global;
 
-/// Calls each of them, and answers nothing.
-pub fn state_all(alloc: Global) -> String {
+/// Calls each of them.
+pub fn state_all() {
+    clause::derived_is_true();
+    clause::refuted_is_unsatisfiable();
+    clause::new_differs();
+    clause::clauses_are_few();
+    clause::new_are_few();
     gate::inputs_complete();
     gate::inputs_determine();
     gate::growth_extends();
@@ -17,5 +22,4 @@ pub fn state_all(alloc: Global) -> String {
     gate::asked_keep();
     bits::digits_bound();
     bits::signed_by_cast();
-    String::new(alloc)
 }

@@ -9,8 +9,9 @@
 
 ghost use Rattle.std.specs.Prelude.{◌≡◌, length};
 
+use crate::Task;
 use crate::chain::{add_turns, multiply};
-use anyhow::{Context, Result};
+use pp_case_line::CaseLine;
 use pp_gate::{Circuit, NoMemory};
 use std::alloc::Global;
 
@@ -23,35 +24,42 @@ const MOST_CLAUSED: u32 = 1 << 28;
 /// The greatest number of products that is taken.
 const MOST_PRODUCTS: u32 = 1 << 16;
 
-/// How many gates or clauses the task of this name makes.
-pub fn answer(alloc: Global, task: &str, size: &str) -> Result<String> {
-    let size = size.parse::<u32>().context("a size")?;
-    Ok(built(alloc, task, size)?)
-}
-
-/// What is counted of the circuit of the task of this name.
-fn built(alloc: Global, task: &str, size: u32) -> Result<String, NoMemory> {
+/// Adds how many gates or clauses a task of this size makes.
+pub fn push_answer(
+    line: &mut CaseLine,
+    alloc: Global,
+    task: Task,
+    size: u32,
+) -> Result<(), NoMemory> {
     let mut circuit = Circuit::new(alloc)?;
     build(&mut circuit, task, size)?;
-    counted(alloc, task, &circuit)
+    push_count(line, task, &circuit)
 }
 
-/// Makes the circuit of the task of this name, in one that has no gates yet.
-fn build(circuit: &mut Circuit, task: &str, size: u32) -> Result<(), NoMemory>
+/// Makes the circuit of a task, in one that has no gates yet.
+fn build(circuit: &mut Circuit, task: Task, size: u32) -> Result<(), NoMemory>
     requires { length circuit.old ≡ 1 }
 {
     match task {
-        "products" => multiply(circuit, size.min(MOST_PRODUCTS)),
-        _ => add_turns(circuit, size.min(MOST_GATES) / 4, task == "shared"),
+        Task::Products => multiply(circuit, size.min(MOST_PRODUCTS)),
+        Task::Shared => add_turns(circuit, size.min(MOST_GATES) / 4, true),
+        _ => add_turns(circuit, size.min(MOST_GATES) / 4, false),
     }
 }
 
-/// The number of the clauses, where the task makes them, and else that of the gates.
-fn counted(alloc: Global, task: &str, circuit: &Circuit) -> Result<String, NoMemory> {
+/// Adds the number of the clauses, where the task makes them, and else that of the gates.
+fn push_count(line: &mut CaseLine, task: Task, circuit: &Circuit) -> Result<(), NoMemory> {
     let gates = circuit.gates();
-    if task == "clauses" && gates <= MOST_CLAUSED {
-        let clauses = circuit.clauses()?;
-        return format!(in alloc; "{} clauses", clauses.len());
+    match task {
+        Task::Clauses if gates <= MOST_CLAUSED => {
+            let clauses = circuit.clauses()?;
+            line.put(clauses.len());
+            line.put(" clauses");
+        }
+        _ => {
+            line.put(gates);
+            line.put(" gates");
+        }
     }
-    format!(in alloc; "{gates} gates")
+    Ok(())
 }

@@ -2,29 +2,26 @@
 //! a | b, a ^ b, a << b, a >> b, a >>> b, a / b, a % b, a < b and a <= b. A quotient and a remainder that aren't there
 //! are `none`.
 
-use crate::numbers::numbers;
-use anyhow::Result;
-use pp_case_line::{CaseLine, NoMemory};
+use crate::numbers::{halves, number, push_all};
+use pp_case_line::CaseLine;
 use pp_word::{add, and, at_most, div, less, mul, neg, not, or, rem, shl, shr, sub, ushr, xor};
-use std::alloc::Global;
 
-/// The answer to a pair.
-pub fn answer(alloc: Global, case: &str) -> Result<String> {
-    let [a, b, _] = numbers(case)?;
-    Ok(row(alloc, a.cast_signed(), b.cast_signed())?)
+/// Adds a pair, and what the calls make of it.
+pub fn push_row(line: &mut CaseLine, pair: &str) {
+    line.put(pair);
+    line.put(":");
+    let (a, b) = halves(pair, ' ');
+    push_answer(line, number(a).cast_signed(), number(b).cast_signed());
 }
 
-/// What the calls make of two numbers.
-fn row(alloc: Global, a: i32, b: i32) -> Result<String, NoMemory> {
-    let mut line = CaseLine::new(alloc);
-    line.put(":");
-    push_all(&mut line, &values(a, b));
-    push_division(&mut line, a, b);
-    line.put(" ");
-    line.put(less(a, b));
-    line.put(" ");
-    line.put(at_most(a, b));
-    line.end()
+/// Adds what the calls make of two numbers.
+fn push_answer(line: &mut CaseLine, a: i32, b: i32) {
+    push_all(line, &values(a, b));
+    match (div(a, b), rem(a, b)) {
+        (Some(quotient), Some(rest)) => push_all(line, &[quotient, rest]),
+        _ => line.put(" none none"),
+    }
+    push_all(line, &[less(a, b), at_most(a, b)]);
 }
 
 /// What the calls answer that answer a number.
@@ -42,25 +39,4 @@ fn values(a: i32, b: i32) -> [i32; 11] {
         shr(a, b),
         ushr(a, b),
     ]
-}
-
-/// Adds numbers, each behind a blank.
-fn push_all(line: &mut CaseLine, numbers: &[i32]) {
-    for number in numbers {
-        line.put(" ");
-        line.put(number);
-    }
-}
-
-/// Adds the quotient and the remainder.
-fn push_division(line: &mut CaseLine, a: i32, b: i32) {
-    match (div(a, b), rem(a, b)) {
-        (Some(quotient), Some(rest)) => {
-            line.put(" ");
-            line.put(quotient);
-            line.put(" ");
-            line.put(rest);
-        }
-        _ => line.put(" none none"),
-    }
 }

@@ -25,7 +25,8 @@ use pp_parse_items::place::{ItemMode, Parsed, Place};
 use pp_parse_state::{Current, Stack, Stop};
 use pp_text::{Name, Text};
 use pp_tokens::Token;
-use pp_tree::{Checked, Unit};
+use pp_tree::Unit;
+use pp_tree_build::Checked;
 use std::alloc::Global;
 
 /// The refusal of what has the name and stands at the offset.
@@ -55,9 +56,9 @@ fn read<'a>(
     arena: &'a Bump,
     text: &str,
     tokens: &[Token],
-) -> Result<Option<Checked<Unit<'a>>>, Stop<'a>>
+) -> Result<Option<&'a Checked<Unit<'a>>>, Stop<'a>>
     requires { All (IsSpan text.now) tokens.now }
-    ensures { Reads (λ u. unit_of u.tree) result (run text.now tokens.now start) }
+    ensures { Reads (λ u. unit_of u.now.tree) result (run text.now tokens.now start) }
 {
     let mut parsed = Parsed::none(alloc);
     let mut stack = Stack::new(alloc, arena)?;

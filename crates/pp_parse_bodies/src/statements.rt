@@ -26,7 +26,8 @@ use pp_parse_frames::opening::{behind_word, open};
 use pp_parse_state::words::Role;
 use pp_parse_state::{Current, Frame, Mode, Move, Stack, Stop};
 use pp_tokens::{Bracket, Operator, Reserved, TokenKind};
-use pp_tree::{Built, Expr};
+use pp_tree::Expr;
+use pp_tree_build::Built;
 
 /// `require` at the head of a body: it can't stand behind a `decreases` that stands behind another one.
 fn on_require_word<'a>(cx: &Current<'a, '_>, stack: &mut Stack<'a>) -> Result<Move, Stop<'a>>
@@ -250,13 +251,13 @@ fn on_tuple_within<'a>(
     cx: &Current<'a, '_>,
     stack: &mut Stack<'a>,
     at: u32,
-    outer: Vec<Built<Expr<'a>>>,
-    components: Vec<Built<Expr<'a>>>,
+    outer: Vec<&'a Built<Expr<'a>>>,
+    components: Vec<&'a Built<Expr<'a>>>,
 ) -> Result<Move, Stop<'a>>
     requires { IsSpan cx.now.text.now cx.now.token }
     ensures { Moves result stack.new (on_tuple_closed cx.now.text.now cx.now.token
-        (measuring at (stacked (λ e. tree_of e.tree) outer.entry.items []) ∷ frames stack.old)
-        (stacked (λ e. tree_of e.tree) components.entry.items [])) }
+        (measuring at (stacked (λ e. tree_of e.now.tree) outer.entry.items []) ∷ frames stack.old)
+        (stacked (λ e. tree_of e.now.tree) components.entry.items [])) }
 {
     if !outer.is_empty() {
         return Err(cx.refuse());

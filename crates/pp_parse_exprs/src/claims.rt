@@ -23,7 +23,7 @@ pub fn on_claim_round<'a>(cx: &Current<'a, '_>, stack: &mut Stack<'a>) -> Result
 {
     match stack.pop() {
         Some(Frame::PostOf(at, Around::Parentheses)) => {
-            claim(cx, stack, at)?;
+            claim(stack, at)?;
             Ok(Move::Go(Mode::AfterBody))
         }
         _ => Err(cx.refuse()),
@@ -39,7 +39,7 @@ pub fn on_claim_brace<'a>(cx: &Current<'a, '_>, stack: &mut Stack<'a>) -> Result
 {
     match stack.pop() {
         Some(Frame::PostOf(at, Around::Braces)) => {
-            claim(cx, stack, at)?;
+            claim(stack, at)?;
             Ok(Move::Go(Mode::AfterBody))
         }
         _ => Err(cx.refuse()),

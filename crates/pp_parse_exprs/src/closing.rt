@@ -104,7 +104,7 @@ fn on_match_closed<'a>(cx: &Current<'a, '_>, stack: &mut Stack<'a>) -> Result<Mo
 {
     match stack.pop() {
         Some(Frame::CasesOf(at)) => {
-            list_case(stack)?;
+            list_case(cx, stack)?;
             whole_match(cx, stack, at)?;
             Ok(Move::Go(Mode::HaveMatched))
         }
@@ -120,7 +120,7 @@ fn on_next_case<'a>(cx: &Current<'a, '_>, stack: &mut Stack<'a>) -> Result<Move,
 {
     match stack.pop() {
         Some(Frame::CasesOf(at)) => {
-            list_case(stack)?;
+            list_case(cx, stack)?;
             open(stack, Frame::CasesOf(at), Mode::WantPattern)
         }
         _ => Err(cx.refuse()),

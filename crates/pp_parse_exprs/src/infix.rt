@@ -17,7 +17,7 @@ use pp_parse_state::operators::{LOOSEST, binary_of, level};
 use pp_parse_state::words::Role;
 use pp_parse_state::{Current, Frame, Mode, Move, NoMemory, Stack, Stop, unwind};
 use pp_tokens::{Bracket, Operator, Reserved, TokenKind};
-use pp_tree::{BinaryOp, build};
+use pp_tree::BinaryOp;
 
 /// The level of any expression.
 pub(crate) const ANY: u32 = 0;
@@ -174,8 +174,8 @@ fn select<'a>(cx: &Current<'a, '_>, stack: &mut Stack<'a>) -> Result<(), NoMemor
         (word cx.now.text.now cx.now.token)) (without_expr (shown stack.old))) }
 {
     let of = stack.take_expr();
-    let field = build::field(cx.arena, cx.token.from, *of, cx.word()?)?;
-    stack.keep_expr(cx.arena, field)
+    let name = cx.word()?;
+    stack.put_expr(pp_tree_build::field(cx.arena, cx.token.from, of, name)?)
 }
 
 /// A name behind a dot: of a field, `ensuring` or `holds`.

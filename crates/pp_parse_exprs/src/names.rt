@@ -20,7 +20,7 @@ use pp_parse_frames::opening::{behind_expr, open};
 use pp_parse_state::words::bound_of;
 use pp_parse_state::{Current, Frame, Mode, Move, Stack, Stop};
 use pp_tokens::{Bracket, TokenKind};
-use pp_tree::build;
+use pp_tree_build::int;
 
 /// Behind a name.
 pub fn on_name<'a>(cx: &Current<'a, '_>, stack: &mut Stack<'a>, at: u32) -> Result<Move, Stop<'a>>
@@ -51,8 +51,8 @@ pub fn on_bare_name<'a>(
     ensures { Moves result stack.new (on_have cx.now.text.now cx.now.token (under_name (shown stack.old))
         (name at (name_on (shown stack.old))) false cx.now.token.kind) }
 {
-    let name = build::name(at, stack.take_name());
-    stack.keep_expr(cx.arena, name)?;
+    let name = stack.take_name();
+    stack.put_expr(pp_tree_build::name(cx.arena, at, name)?)?;
     on_have(cx, stack, false)
 }
 
@@ -133,7 +133,7 @@ fn on_bound<'a>(
     ensures { Moves result stack.new (on_bound cx.now.text.now cx.now.token (frames stack.old) at value) }
 {
     match value {
-        Some(n) => behind_expr(cx, stack, build::int(at, n), Mode::Have(false)),
+        Some(n) => behind_expr(stack, int(cx.arena, at, n)?, Mode::Have(false)),
         None => Err(cx.refuse()),
     }
 }

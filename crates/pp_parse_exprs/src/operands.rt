@@ -23,7 +23,7 @@ use pp_parse_state::words::Role;
 use pp_parse_state::{Current, Frame, Mode, Move, Stack, Stop};
 use pp_tokens::{Bracket, Operator, Reserved, TokenKind};
 use pp_tree::UnaryOp;
-use pp_tree::build::{bool, int, name};
+use pp_tree_build::{bool, int, name};
 
 /// A number as an operand.
 fn on_number<'a>(
@@ -35,7 +35,7 @@ fn on_number<'a>(
     ensures { Moves result stack.new (on_number cx.now.text.now cx.now.token (frames stack.old) value) }
 {
     match value {
-        Some(n) => behind_expr(cx, stack, int(cx.token.from, n), Mode::Have(false)),
+        Some(n) => behind_expr(stack, int(cx.arena, cx.token.from, n)?, Mode::Have(false)),
         None => Err(cx.refuse()),
     }
 }
@@ -61,7 +61,11 @@ pub fn on_operand_name<'a>(
 fn on_bool<'a>(cx: &Current<'a, '_>, stack: &mut Stack<'a>, value: bool) -> Result<Move, Stop<'a>>
     ensures { Moves result stack.new (go (frames stack.old) (have (plain_bool cx.now.token.from value) false)) }
 {
-    behind_expr(cx, stack, bool(cx.token.from, value), Mode::Have(false))
+    behind_expr(
+        stack,
+        bool(cx.arena, cx.token.from, value)?,
+        Mode::Have(false),
+    )
 }
 
 /// An operand is wanted, with or without a prefix.
@@ -97,7 +101,7 @@ fn on_negative<'a>(
     ensures { Moves result stack.new (on_negative cx.now.text.now cx.now.token (frames stack.old) at value) }
 {
     match value {
-        Some(n) => behind_expr(cx, stack, int(at, n), Mode::HaveNegative),
+        Some(n) => behind_expr(stack, int(cx.arena, at, n)?, Mode::HaveNegative),
         None => Err(cx.refuse()),
     }
 }
@@ -149,7 +153,7 @@ fn on_hole<'a>(cx: &Current<'a, '_>, stack: &mut Stack<'a>) -> Result<Move, Stop
     if !stack.takes_hole() {
         return Err(cx.refuse());
     }
-    behind_expr(cx, stack, name(cx.token.from, RES), Mode::Have(true))
+    behind_expr(stack, name(cx.arena, cx.token.from, RES)?, Mode::Have(true))
 }
 
 /// A minus sign before an operand.

@@ -6,7 +6,7 @@ use Rattle.pp_tree.specs.declared.expr.ExprKind.TheViews.{out-Case, roll-out-Cas
 use Rattle.pp_tree.specs.Plain.{TypeTree, no_types, PatternTree, no_patterns, Tree, no_trees, CaseTrees}
 use Rattle.pp_tree.specs.Plain.{no_cases}
 use Rattle.pp_tree.specs.Shown.{type_trees, pattern_trees, trees, case_trees, case_of, case_before, pattern_of, tree_of}
-use Rattle.pp_tree.proofs.Folded.{case_is}
+use Rattle.pp_tree_build.proofs.Folded.{case_is}
 use Rattle.pp_grammar.specs.Frames.{CaseText}
 use Rattle.pp_grammar.specs.Joining.{onto, types_onto, trees_onto, patterns_onto, cases_onto}
 use Rattle.pp_parse_state.specs.Values.{stacked, case_text}

@@ -15,9 +15,9 @@ ghost use Rattle.pp_parse_state.specs.Words.{role_of};
 ghost use Rattle.pp_parse_frames.specs.Taken.{claimed, measure_added, requirement_added, word_added};
 
 use pp_parse_state::words::Role;
-use pp_parse_state::{Current, NoMemory, Placed, Stack, Stop, keep, type_itself};
-use pp_tree::build::Claim;
-use pp_tree::{Built, Expr, build};
+use pp_parse_state::{Current, NoMemory, Placed, Stack, Stop};
+use pp_tree::Expr;
+use pp_tree_build::{Built, Claim, name};
 
 /// The name of the result in `holds` and in a claim with a hole.
 pub const RES: &str = "res";
@@ -29,14 +29,14 @@ pub fn add_requirement(stack: &mut Stack<'_>) -> Result<(), NoMemory>
 {
     let claim = stack.take_expr();
     let mut contracts = stack.take_contracts();
-    contracts.requirements.push(*claim)?;
+    contracts.requirements.push(claim)?;
     stack.put_contracts(contracts)
 }
 
 /// Where a `decreases` stands that no `require` may follow, since one stands before it.
 #[tactic(auto, using(crate::proofs::Late::behind_none, crate::proofs::Late::behind_some))]
-fn late_behind(requirements: &[Built<Expr>], at: u32) -> Option<u32>
-    ensures { result ≡ late_behind (stacked (λ e. tree_of e.tree) requirements.now []) at }
+fn late_behind(requirements: &[&Built<Expr>], at: u32) -> Option<u32>
+    ensures { result ≡ late_behind (stacked (λ e. tree_of e.now.tree) requirements.now []) at }
 {
     if requirements.is_empty() {
         return None;
@@ -74,18 +74,18 @@ pub fn add_word<'a>(cx: &Current<'a, '_>, stack: &mut Stack<'a>) -> Result<(), N
 }
 
 /// The name, the type and the expression on the stack become a postcondition.
-pub fn claim<'a>(cx: &Current<'a, '_>, stack: &mut Stack<'a>, at: u32) -> Result<(), NoMemory>
+pub fn claim(stack: &mut Stack<'_>, at: u32) -> Result<(), NoMemory>
     ensures { IfOk result (λ _. shown stack.new ≡ claimed at (shown stack.old)) }
 {
     let claim = stack.take_expr();
     let of = stack.take_given_type();
-    let post = Claim {
+    let name = stack.take_name();
+    stack.put_post(Some(Claim {
         at,
-        name: stack.take_name(),
-        of: type_itself(of),
-        claim: *claim,
-    };
-    stack.put_post(Some(keep(cx.arena, post)?))
+        name,
+        of,
+        claim,
+    }))
 }
 
 /// `holds` claims the result itself.
@@ -93,13 +93,13 @@ pub fn hold<'a>(cx: &Current<'a, '_>, stack: &mut Stack<'a>) -> Result<(), NoMem
     ensures { IfOk result (λ _. shown stack.new ≡ with_post (holding_at cx.now.token) (shown stack.old)) }
 {
     let at = cx.token.from;
-    let post = Claim {
+    let claim = name(cx.arena, at, RES)?;
+    stack.put_post(Some(Claim {
         at,
         name: RES,
         of: None,
-        claim: build::name(at, RES),
-    };
-    stack.put_post(Some(keep(cx.arena, post)?))
+        claim,
+    }))
 }
 
 /// The name that was read before is no operand.

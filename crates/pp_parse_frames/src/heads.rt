@@ -2,8 +2,8 @@
 
 ghost use Rattle.std.specs.Prelude.{◌≡◌, IfOk, option_map};
 ghost use Rattle.pp_tokens.specs.Spans.{IsSpan};
-ghost use Rattle.pp_tree.specs.Shown.{class_of, decl_of, type_of};
-ghost use Rattle.pp_tree.specs.Parts.{claim_parts};
+ghost use Rattle.pp_tree.specs.Shown.{type_of};
+ghost use Rattle.pp_tree_build.specs.Parts.{class_as, class_parts, claim_parts};
 ghost use Rattle.pp_grammar.specs.Units.{class_decl};
 ghost use Rattle.pp_grammar.specs.Frames.{ends};
 ghost use Rattle.pp_grammar.specs.Joining.{class_tree, def_tree, head_at, object_tree};
@@ -13,9 +13,9 @@ ghost use Rattle.pp_parse_state.specs.Shown.{Moves, expr_on, name_on, shown, typ
 ghost use Rattle.pp_parse_state.specs.Values.{head_of};
 ghost use Rattle.pp_parse_frames.specs.Taken.{param_added, params_ended, type_param_added};
 
-use pp_parse_state::{Current, Head, Move, NoMemory, Stack, Stop, claim_itself, keep, type_itself};
-use pp_tree::build::{Claim, ClassParts, DefParts, class, def, param};
-use pp_tree::{Built, Checked, ClassDecl, Decl, TypeText};
+use pp_parse_state::{Current, Head, Move, NoMemory, Stack, Stop};
+use pp_tree::TypeText;
+use pp_tree_build::{Built, Claim, ClassKind, ClassParts, DefParts, class, def, param};
 
 /// The head on the stack has one type parameter more: the token.
 #[tactic(auto, using(pp_parse_state::proofs::Stacked::stacked_push))]
@@ -31,13 +31,13 @@ pub fn add_type_param<'a>(cx: &Current<'a, '_>, stack: &mut Stack<'a>) -> Result
 
 /// The head on the stack has one parameter more: that of the name and the type, which are on the stack too.
 #[tactic(auto, using(pp_parse_state::proofs::Stacked::stacked_push))]
-pub fn add_param(stack: &mut Stack<'_>, at: u32) -> Result<(), NoMemory>
+pub fn add_param<'a>(cx: &Current<'a, '_>, stack: &mut Stack<'a>, at: u32) -> Result<(), NoMemory>
     ensures { IfOk result (λ _. shown stack.new ≡ param_added at (shown stack.old)) }
 {
     let of = stack.take_type();
     let name = stack.take_name();
     let mut head = stack.take_head();
-    head.params.push(param(at, name, *of))?;
+    head.params.push(param(cx.arena, at, name, of)?)?;
     stack.put_head(head)
 }
 
@@ -52,24 +52,16 @@ pub fn end_params(stack: &mut Stack<'_>) -> Result<(), NoMemory>
 
 /// Which kind of declaration a class or a trait is: with the word `case` a class is a constructor; with `sealed` and
 /// without `case` it is a root, if it has neither fields nor a parent.
-fn declared<'a>(
-    sealed: bool,
-    case: bool,
-    is_trait: bool,
-    class: Checked<ClassDecl<'a>>,
-) -> Checked<Decl<'a>>
-    ensures { decl_of result.tree ≡ class_decl sealed case is_trait (class_of class.entry.tree) }
+fn class_kind(sealed: bool, case: bool, is_trait: bool, parts: &ClassParts) -> ClassKind
+    ensures { class_as result (class_parts parts.now) ≡ class_decl sealed case is_trait (class_parts parts.now) }
 {
-    let deep = class.deep;
-    let class = class.tree;
-    let tree = if case && !is_trait {
-        Decl::Ctor(class)
-    } else if sealed && !case && class.fields.is_empty() && class.parent.is_none() {
-        Decl::Root(class)
+    if case && !is_trait {
+        ClassKind::Ctor
+    } else if sealed && !case && parts.fields.is_empty() && parts.parent.is_none() {
+        ClassKind::Root
     } else {
-        Decl::Other(class)
-    };
-    Checked { tree, deep }
+        ClassKind::Other
+    }
 }
 
 /// The class or trait, whose head is on the stack, ends.
@@ -91,12 +83,11 @@ pub fn class_ends<'a>(
         name: head.name,
         params: &head.type_params,
         fields: &head.params,
-        parent: type_itself(parent),
+        parent,
         object: false,
     };
-    let class = class(cx.arena, parts)?;
-    let decl = keep(cx.arena, declared(sealed, case, is_trait, class))?;
-    stack.put_decl(decl)?;
+    let kind = class_kind(sealed, case, is_trait, &parts);
+    stack.put_decl(class(cx.arena, kind, &parts)?)?;
     Ok(Move::Ends)
 }
 
@@ -114,16 +105,10 @@ pub fn object_ends<'a>(
         name: stack.take_name(),
         params: &[],
         fields: &[],
-        parent: Some(*of),
+        parent: Some(of),
         object: true,
     };
-    let class = class(cx.arena, parts)?;
-    let tree = Decl::Ctor(class.tree);
-    let decl = Checked {
-        tree,
-        deep: class.deep,
-    };
-    stack.put_decl(keep(cx.arena, decl)?)?;
+    stack.put_decl(class(cx.arena, ClassKind::Ctor, &parts)?)?;
     Ok(Move::Ends)
 }
 
@@ -145,15 +130,15 @@ pub fn head_at<'a>(cx: &Current<'a, '_>, at: u32, name: &'a str) -> Head<'a>
 pub fn def_ends<'a>(
     cx: &Current<'a, '_>,
     stack: &mut Stack<'a>,
-    post: Option<&'a Claim<'a>>,
+    post: Option<Claim<'a>>,
 ) -> Result<Move, Stop<'a>>
     ensures { Moves result stack.new (ends (def_tree (top_head (shown stack.old).parts) (type_on (shown stack.old))
         (top_contracts (shown stack.old).parts) (expr_on (shown stack.old))
-        (option_map (λ p. claim_parts p.now) post.entry))) }
+        (option_map claim_parts post.entry))) }
 {
     let body = stack.take_expr();
     let head = stack.take_head();
-    let result_type = stack.take_type();
+    let result = stack.take_type();
     let contracts = stack.take_contracts();
     let parts = DefParts {
         at: head.at,
@@ -161,18 +146,12 @@ pub fn def_ends<'a>(
         type_params: &head.type_params,
         params: &head.params,
         list: head.listed,
-        result: *result_type,
+        result,
         pre: &contracts.requirements,
         measure: &contracts.measure,
-        body: *body,
-        post: claim_itself(post),
+        body,
+        post,
     };
-    let def = def(cx.arena, parts)?;
-    let tree = Decl::Def(def.tree);
-    let decl = Checked {
-        tree,
-        deep: def.deep,
-    };
-    stack.put_decl(keep(cx.arena, decl)?)?;
+    stack.put_decl(def(cx.arena, &parts)?)?;
     Ok(Move::Ends)
 }

@@ -11,8 +11,9 @@ ghost use Rattle.pp_parse_state.specs.Shown.{without_case_list, without_expr, wi
 ghost use Rattle.pp_parse_frames.specs.Taken.{applied, applied_alone, case_on, expr_listed, pattern_listed};
 ghost use Rattle.pp_parse_frames.specs.Taken.{pattern_whole, type_listed, type_whole};
 
-use pp_parse_state::{Current, NoMemory, Stack, expr_itself};
-use pp_tree::{Built, Case, Expr, Pattern, build};
+use pp_parse_state::{Current, NoMemory, Stack};
+use pp_tree::{Case, Expr, Pattern};
+use pp_tree_build::{Built, case, ctor_pattern, matching, type_text};
 
 /// The expression on the stack joins the list of expressions.
 #[tactic(auto, using(pp_parse_state::proofs::Stacked::stacked_push))]
@@ -21,7 +22,7 @@ pub fn list_expr(stack: &mut Stack<'_>) -> Result<(), NoMemory>
 {
     let last = stack.take_expr();
     let mut list = stack.take_expr_list();
-    list.push(*last)?;
+    list.push(last)?;
     stack.put_expr_list(list)
 }
 
@@ -32,7 +33,7 @@ pub fn list_type(stack: &mut Stack<'_>) -> Result<(), NoMemory>
 {
     let last = stack.take_type();
     let mut list = stack.take_type_list();
-    list.push(*last)?;
+    list.push(last)?;
     stack.put_type_list(list)
 }
 
@@ -43,7 +44,7 @@ pub fn list_pattern(stack: &mut Stack<'_>) -> Result<(), NoMemory>
 {
     let last = stack.take_pattern();
     let mut list = stack.take_pattern_list();
-    list.push(*last)?;
+    list.push(last)?;
     stack.put_pattern_list(list)
 }
 
@@ -53,8 +54,8 @@ pub fn whole_type<'a>(cx: &Current<'a, '_>, stack: &mut Stack<'a>, at: u32) -> R
     ensures { IfOk result (λ _. shown stack.new ≡ type_whole at (shown stack.old)) }
 {
     let args = stack.take_type_list();
-    let of = build::type_text(cx.arena, at, stack.take_name(), &args)?;
-    stack.keep_type(cx.arena, of)
+    let name = stack.take_name();
+    stack.put_type(type_text(cx.arena, at, name, &args)?)
 }
 
 /// The name on the stack and the list of patterns become a constructor's pattern.
@@ -67,8 +68,8 @@ pub fn whole_pattern<'a>(
     ensures { IfOk result (λ _. shown stack.new ≡ pattern_whole at (shown stack.old)) }
 {
     let fields = stack.take_pattern_list();
-    let pattern = build::ctor_pattern(cx.arena, at, None, stack.take_name(), &fields)?;
-    stack.keep_pattern(cx.arena, pattern)
+    let name = stack.take_name();
+    stack.put_pattern(ctor_pattern(cx.arena, at, None, name, &fields)?)
 }
 
 /// The name on the stack, the list of types and that of expressions become a call.
@@ -78,8 +79,8 @@ pub fn apply<'a>(cx: &Current<'a, '_>, stack: &mut Stack<'a>, at: u32) -> Result
 {
     let args = stack.take_expr_list();
     let types = stack.take_type_list();
-    let call = build::apply(cx.arena, at, stack.take_name(), &types, &args)?;
-    stack.keep_expr(cx.arena, call)
+    let name = stack.take_name();
+    stack.put_expr(pp_tree_build::apply(cx.arena, at, name, &types, &args)?)
 }
 
 /// The name on the stack and the list of types become a call without arguments.
@@ -88,28 +89,29 @@ pub fn apply_alone<'a>(cx: &Current<'a, '_>, stack: &mut Stack<'a>, at: u32) -> 
     ensures { IfOk result (λ _. shown stack.new ≡ applied_alone at (shown stack.old)) }
 {
     let types = stack.take_type_list();
-    let call = build::apply(cx.arena, at, stack.take_name(), &types, &[])?;
-    stack.keep_expr(cx.arena, call)
+    let name = stack.take_name();
+    stack.put_expr(pp_tree_build::apply(cx.arena, at, name, &types, &[])?)
 }
 
 /// The case of these parts.
 fn whole_case<'a>(
-    pattern: Built<Pattern<'a>>,
-    guard: Option<Built<Expr<'a>>>,
-    body: Built<Expr<'a>>,
-) -> Built<Case<'a>>
-    ensures { case_text result.tree ≡ record {
-      pattern = pattern_of pattern.entry.tree;
-      guard = option_map (λ g. tree_of g.tree) guard.entry;
-      body = tree_of body.entry.tree;
-    } }
+    cx: &Current<'a, '_>,
+    pattern: &Built<Pattern<'a>>,
+    guard: Option<&Built<Expr<'a>>>,
+    body: &Built<Expr<'a>>,
+) -> Result<&'a Built<Case<'a>>, NoMemory>
+    ensures { IfOk result (λ c. case_text c.now.tree ≡ record {
+      pattern = pattern_of pattern.now.tree;
+      guard = option_map (λ g. tree_of g.now.tree) guard.entry;
+      body = tree_of body.now.tree;
+    }) }
 {
-    build::case(pattern, guard, body)
+    case(cx.arena, pattern, guard, body)
 }
 
 /// The pattern, the guard and the body on the stack join the list of cases.
 #[tactic(auto, using(pp_parse_state::proofs::Stacked::stacked_push))]
-pub fn list_case(stack: &mut Stack<'_>) -> Result<(), NoMemory>
+pub fn list_case<'a>(cx: &Current<'a, '_>, stack: &mut Stack<'a>) -> Result<(), NoMemory>
     ensures { IfOk result (λ _. shown stack.new ≡ with_case_list (case_on (shown stack.old)
         ∷ top_case_list (shown stack.old).parts) (without_case_list (without_pattern (without_guard (without_expr
         (shown stack.old)))))) }
@@ -118,7 +120,7 @@ pub fn list_case(stack: &mut Stack<'_>) -> Result<(), NoMemory>
     let guard = stack.take_guard();
     let pattern = stack.take_pattern();
     let mut list = stack.take_case_list();
-    list.push(whole_case(*pattern, expr_itself(guard), *body))?;
+    list.push(whole_case(cx, pattern, guard, body)?)?;
     stack.put_case_list(list)
 }
 
@@ -128,12 +130,12 @@ fn match_of<'a>(
     cx: &Current<'a, '_>,
     at: u32,
     of: &'a Built<Expr<'a>>,
-    cases: &[Built<Case<'a>>],
-) -> Result<Built<Expr<'a>>, NoMemory>
-    ensures { IfOk result (λ e. tree_of e.tree ≡ matching at (tree_of of.now.tree) (cases_onto
-        (stacked (λ c. case_text c.tree) cases.now []) no_cases)) }
+    cases: &[&Built<Case<'a>>],
+) -> Result<&'a Built<Expr<'a>>, NoMemory>
+    ensures { IfOk result (λ e. tree_of e.now.tree ≡ matching at (tree_of of.now.tree) (cases_onto
+        (stacked (λ c. case_text c.now.tree) cases.now []) no_cases)) }
 {
-    build::matching(cx.arena, at, *of, cases)
+    matching(cx.arena, at, of, cases)
 }
 
 /// The expression on the stack and the list of cases become a match.
@@ -144,5 +146,5 @@ pub fn whole_match<'a>(cx: &Current<'a, '_>, stack: &mut Stack<'a>, at: u32) -> 
 {
     let cases = stack.take_case_list();
     let of = stack.take_expr();
-    stack.keep_expr(cx.arena, match_of(cx, at, of, &cases)?)
+    stack.put_expr(match_of(cx, at, of, &cases)?)
 }

@@ -7,7 +7,8 @@ ghost use Rattle.pp_parse_state.specs.Shown.{Moves, move_of, shown, with_expr, w
 ghost use Rattle.pp_parse_state.specs.declared.mode.Move.TheVariants.{Go};
 
 use pp_parse_state::{Current, Frame, Mode, Move, Stack, Stop};
-use pp_tree::{Built, Expr, Pattern};
+use pp_tree::{Expr, Pattern};
+use pp_tree_build::Built;
 
 /// The frame is opened above its parts, and the reading goes on in the mode.
 pub fn open<'a>(stack: &mut Stack<'a>, frame: Frame, mode: Mode) -> Result<Move, Stop<'a>>
@@ -33,27 +34,25 @@ pub fn behind_word<'a>(
 
 /// The reading goes on behind the pattern.
 pub fn behind_pattern<'a>(
-    cx: &Current<'a, '_>,
     stack: &mut Stack<'a>,
-    pattern: Built<Pattern<'a>>,
+    pattern: &'a Built<Pattern<'a>>,
     mode: Mode,
 ) -> Result<Move, Stop<'a>>
-    ensures { Moves result stack.new (move_of (with_pattern (pattern_of pattern.entry.tree) (shown stack.old))
+    ensures { Moves result stack.new (move_of (with_pattern (pattern_of pattern.now.tree) (shown stack.old))
         (Go mode)) }
 {
-    stack.keep_pattern(cx.arena, pattern)?;
+    stack.put_pattern(pattern)?;
     Ok(Move::Go(mode))
 }
 
 /// The reading goes on behind the expression.
 pub fn behind_expr<'a>(
-    cx: &Current<'a, '_>,
     stack: &mut Stack<'a>,
-    tree: Built<Expr<'a>>,
+    tree: &'a Built<Expr<'a>>,
     mode: Mode,
 ) -> Result<Move, Stop<'a>>
-    ensures { Moves result stack.new (move_of (with_expr (tree_of tree.entry.tree) (shown stack.old)) (Go mode)) }
+    ensures { Moves result stack.new (move_of (with_expr (tree_of tree.now.tree) (shown stack.old)) (Go mode)) }
 {
-    stack.keep_expr(cx.arena, tree)?;
+    stack.put_expr(tree)?;
     Ok(Move::Go(mode))
 }

@@ -36,14 +36,14 @@ abbrev pub parsed_of : Parsed → plain.Parsed
 parsed_of d = record {
   imports = stacked import_of d.imports.items [];
   objects = stacked (λ o. o.now) d.objects.items [];
-  decls = stacked (λ x. decl_of x.tree) d.decls.items [];
+  decls = stacked (λ x. decl_of x.now.tree) d.decls.items [];
 }
 
 -- the state, with what is parsed and what lies on the stack
 abbrev pub state_of : plain.Parsed → Shown → Place → plain.State
 state_of d s (Between inside m) = plain.between d inside (item_mode_of m)
 state_of d s (Within inside m) = plain.within d inside (under_mode m s) (mode_of m s.parts)
-state_of d s (Done u) = plain.done (unit_of u.tree)
+state_of d s (Done u) = plain.done (unit_of u.now.tree)
 
 -- where memory lasts, the automaton fails so
 abbrev pub Fails : Stop → plain.State → Type 0

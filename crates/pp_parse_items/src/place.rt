@@ -2,7 +2,8 @@
 
 use bumpalo::Bump;
 use pp_parse_state::{Mode, NoMemory, Placed};
-use pp_tree::{Checked, Decl, Import, Unit, build};
+use pp_tree::{Decl, Import, Unit};
+use pp_tree_build::Checked;
 use std::alloc::Global;
 
 /// Where the parser stands between declarations. Each stands for the mode of `pp_grammar` that has its name.
@@ -33,15 +34,15 @@ pub enum ItemMode<'a> {
 pub struct Parsed<'a> {
     pub imports: Vec<Import<'a>>,
     pub objects: Vec<&'a str>,
-    pub decls: Vec<Checked<Decl<'a>>>,
+    pub decls: Vec<&'a Checked<Decl<'a>>>,
 }
 
 /// Where the parser stands: between declarations or within one, each with whether an object is open, or at the end.
-#[derive(Drop)]
+#[derive(Clone, Copy)]
 pub enum Place<'a> {
     Between(bool, ItemMode<'a>),
     Within(bool, Mode),
-    Done(Checked<Unit<'a>>),
+    Done(&'a Checked<Unit<'a>>),
 }
 
 impl<'a> Parsed<'a> {
@@ -86,18 +87,18 @@ impl<'a> Parsed<'a> {
 
     /// A declaration is read.
     #[tactic(auto, using(pp_parse_state::proofs::Stacked::stacked_push))]
-    pub fn declare(&mut self, decl: &Checked<Decl<'a>>) -> Result<(), NoMemory>
+    pub fn declare(&mut self, decl: &'a Checked<Decl<'a>>) -> Result<(), NoMemory>
         ensures { IfOk result (λ _. parsed_of self.new ≡ with_decl (parsed_of self.old) (decl_of decl.now.tree)) }
     {
-        self.decls.push(*decl)?;
+        self.decls.push(decl)?;
         Ok(())
     }
 
     /// The unit that is read.
     #[tactic(auto, using(pp_parse_frames::proofs::Finished::list_finished))]
-    pub fn unit(&self, arena: &'a Bump) -> Result<Checked<Unit<'a>>, NoMemory>
-        ensures { IfOk result (λ u. unit_of u.tree ≡ plain_unit (parsed_of self.now)) }
+    pub fn unit(&self, arena: &'a Bump) -> Result<&'a Checked<Unit<'a>>, NoMemory>
+        ensures { IfOk result (λ u. unit_of u.now.tree ≡ plain_unit (parsed_of self.now)) }
     {
-        build::unit(arena, &self.imports, &self.objects, &self.decls)
+        pp_tree_build::unit(arena, &self.imports, &self.objects, &self.decls)
     }
 }

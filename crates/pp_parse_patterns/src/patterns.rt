@@ -23,8 +23,8 @@ use pp_parse_state::numbers::{is_signed, negated_of, negative_of, number_of};
 use pp_parse_state::words::binds;
 use pp_parse_state::{Current, Frame, Mode, Move, NoMemory, Stack, Stop};
 use pp_tokens::{Bracket, Operator, Reserved, TokenKind};
-use pp_tree::build::{any, bool_pattern, ctor_pattern, int_pattern};
-use pp_tree::{Built, Pattern};
+use pp_tree::Pattern;
+use pp_tree_build::{Built, any, bool_pattern, ctor_pattern, int_pattern, keep};
 
 /// The offset of a pattern.
 fn place(pattern: &Pattern) -> u32
@@ -34,21 +34,25 @@ fn place(pattern: &Pattern) -> u32
 }
 
 /// The pattern under the name, which stands at the offset: a pattern has room for one name.
-fn named_at<'a>(at: u32, name: &'a str, pattern: &Built<Pattern<'a>>) -> Option<Built<Pattern<'a>>>
-    ensures { option_map (λ p. pattern_of p.tree) result ≡ named_at at name.now (pattern_of pattern.now.tree) }
+fn named_at<'a>(
+    cx: &Current<'a, '_>,
+    at: u32,
+    name: &'a str,
+    pattern: &Built<Pattern<'a>>,
+) -> Result<Option<&'a Built<Pattern<'a>>>, NoMemory>
+    ensures { IfOk result (λ p. option_map (λ b. pattern_of b.now.tree) p
+        ≡ named_at at name.now (pattern_of pattern.now.tree)) }
 {
     if pattern.tree.name.is_some() {
-        return None;
+        return Ok(None);
     }
     let tree = Pattern {
         at,
         name: Some(name),
         kind: pattern.tree.kind,
     };
-    Some(Built {
-        tree,
-        levels: pattern.levels,
-    })
+    let levels = pattern.levels;
+    Ok(Some(keep(cx.arena, Built { tree, levels })?))
 }
 
 /// A name alone: it binds, or is a constructor.
@@ -56,11 +60,11 @@ fn pattern_of_name<'a>(
     cx: &Current<'a, '_>,
     at: u32,
     name: &'a str,
-) -> Result<Built<Pattern<'a>>, NoMemory>
-    ensures { IfOk result (λ p. pattern_of p.tree ≡ pattern_of_name cx.now.text.now cx.now.token at name.now) }
+) -> Result<&'a Built<Pattern<'a>>, NoMemory>
+    ensures { IfOk result (λ p. pattern_of p.now.tree ≡ pattern_of_name cx.now.text.now cx.now.token at name.now) }
 {
     if binds(name) {
-        return Ok(any(at, Some(name)));
+        return any(cx.arena, at, Some(name));
     }
     ctor_pattern(cx.arena, at, None, name, &[])
 }
@@ -76,7 +80,10 @@ fn on_int_pattern<'a>(
     ensures { Moves result stack.new (on_int_pattern cx.now.text.now cx.now.token (frames stack.old) at value) }
 {
     match value {
-        Some(n) => behind_pattern(cx, stack, int_pattern(at, None, n), Mode::HavePattern),
+        Some(n) => {
+            let pattern = int_pattern(cx.arena, at, None, n)?;
+            behind_pattern(stack, pattern, Mode::HavePattern)
+        }
         None => Err(cx.refuse()),
     }
 }
@@ -90,15 +97,16 @@ fn on_bool_pattern<'a>(
     ensures { Moves result stack.new (go (frames stack.old) (have_pattern (plain_bool cx.now.token.from None
         value))) }
 {
-    let pattern = bool_pattern(cx.token.from, None, value);
-    behind_pattern(cx, stack, pattern, Mode::HavePattern)
+    let pattern = bool_pattern(cx.arena, cx.token.from, None, value)?;
+    behind_pattern(stack, pattern, Mode::HavePattern)
 }
 
 /// `_` as a pattern.
 fn on_any_pattern<'a>(cx: &Current<'a, '_>, stack: &mut Stack<'a>) -> Result<Move, Stop<'a>>
     ensures { Moves result stack.new (go (frames stack.old) (have_pattern (plain_any cx.now.token.from None))) }
 {
-    behind_pattern(cx, stack, any(cx.token.from, None), Mode::HavePattern)
+    let pattern = any(cx.arena, cx.token.from, None)?;
+    behind_pattern(stack, pattern, Mode::HavePattern)
 }
 
 /// A pattern is wanted.
@@ -231,9 +239,9 @@ fn on_naming<'a>(cx: &Current<'a, '_>, stack: &mut Stack<'a>, at: u32) -> Result
 {
     let name = stack.take_name();
     let pattern = stack.take_pattern();
-    match named_at(at, name, pattern) {
+    match named_at(cx, at, name, pattern)? {
         Some(named) => {
-            stack.keep_pattern(cx.arena, named)?;
+            stack.put_pattern(named)?;
             on_named_pattern(cx, stack)
         }
         None => Err(Stop::Syntax(place(&pattern.tree))),
@@ -281,8 +289,8 @@ pub fn on_pattern_name<'a>(
         TokenKind::Mark(Bracket::OpenRound) => Ok(Move::Go(Mode::PatternArgsOpen(at))),
         TokenKind::Op(Operator::At) => on_pattern_at(cx, stack, at),
         _ => {
-            let pattern = pattern_of_name(cx, at, stack.take_name())?;
-            stack.keep_pattern(cx.arena, pattern)?;
+            let name = stack.take_name();
+            stack.put_pattern(pattern_of_name(cx, at, name)?)?;
             on_have_pattern(cx, stack)
         }
     }
@@ -311,6 +319,7 @@ pub fn on_pattern_args_open<'a>(
     if !cx.closes_round() {
         return on_first_arg(cx, stack, at);
     }
-    let pattern = ctor_pattern(cx.arena, at, None, stack.take_name(), &[])?;
-    behind_pattern(cx, stack, pattern, Mode::HavePattern)
+    let name = stack.take_name();
+    let pattern = ctor_pattern(cx.arena, at, None, name, &[])?;
+    behind_pattern(stack, pattern, Mode::HavePattern)
 }

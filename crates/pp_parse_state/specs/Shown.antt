@@ -2,7 +2,7 @@
 -- their parts lie on the stack, those of the mode on top, below them those of the frames, the last frame first.
 use Rattle.std.specs.Prelude.{◌≡◌, List, [], ◌∷◌, Option, option_map, Result, MatchResult}
 use Rattle.pp_tree.specs.Plain.{Word, TypeTree, no_types, PatternTree, Tree, PostTree, DeclTree}
-use Rattle.pp_tree.specs.Parts.{claim_parts}
+use Rattle.pp_tree_build.specs.Parts.{claim_parts}
 use Rattle.pp_tree.specs.Shown.{tree_of, type_of, pattern_of, decl_of}
 use Rattle.pp_tokens.specs.declared.token.Token.{Token}
 use Rattle.pp_grammar.specs.Automaton.{on_mode}
@@ -128,13 +128,13 @@ shown s = record {
     exprs = stacked (λ e. tree_of e.now.tree) s.exprs.items [];
     given_types = stacked (option_map (λ t. type_of t.now.tree)) s.given_types.items [];
     guards = stacked (option_map (λ e. tree_of e.now.tree)) s.guards.items [];
-    type_lists = stacked (λ l. stacked (λ t. type_of t.tree) l.items []) s.type_lists.items [];
-    pattern_lists = stacked (λ l. stacked (λ p. pattern_of p.tree) l.items []) s.pattern_lists.items [];
-    expr_lists = stacked (λ l. stacked (λ e. tree_of e.tree) l.items []) s.expr_lists.items [];
-    case_lists = stacked (λ l. stacked (λ c. case_text c.tree) l.items []) s.case_lists.items [];
+    type_lists = stacked (λ l. stacked (λ t. type_of t.now.tree) l.items []) s.type_lists.items [];
+    pattern_lists = stacked (λ l. stacked (λ p. pattern_of p.now.tree) l.items []) s.pattern_lists.items [];
+    expr_lists = stacked (λ l. stacked (λ e. tree_of e.now.tree) l.items []) s.expr_lists.items [];
+    case_lists = stacked (λ l. stacked (λ c. case_text c.now.tree) l.items []) s.case_lists.items [];
     heads = stacked head_of s.heads.items [];
     contracts = stacked contracts_of s.contracts.items [];
-    posts = stacked (option_map (λ c. claim_parts c.now)) s.posts.items [];
+    posts = stacked (option_map claim_parts) s.posts.items [];
     decls = stacked (λ d. decl_of d.now.tree) s.decls.items [];
     spares = spares_of s.spares;
   };

@@ -30,13 +30,13 @@ head_of h = record {
   name = h.name.now;
   type_params = stacked (λ p. p.now) h.type_params.items [];
   listed = h.listed;
-  params = stacked (λ p. param_of p.tree) h.params.items [];
+  params = stacked (λ p. param_of p.now.tree) h.params.items [];
 }
 
 abbrev pub contracts_of : Contracts → plain.Contracts
 contracts_of c = record {
-  requirements = stacked (λ e. tree_of e.tree) c.requirements.items [];
-  measure = map (λ e. tree_of e.tree) c.measure.items;
+  requirements = stacked (λ e. tree_of e.now.tree) c.requirements.items [];
+  measure = map (λ e. tree_of e.now.tree) c.measure.items;
   first = option_map placed_of c.first;
   late = c.late;
 }

@@ -1,6 +1,7 @@
 //! The frames: what is open around what is read next. Their parts lie on the stack; lists have the last at their end.
 
-use pp_tree::{BinaryOp, Built, Expr, Param, UnaryOp};
+use pp_tree::{BinaryOp, Expr, Param, UnaryOp};
+use pp_tree_build::Built;
 use std::alloc::Global;
 
 /// A word and where it stands.
@@ -28,15 +29,15 @@ pub struct Head<'a> {
     pub name: &'a str,
     pub type_params: Vec<&'a str>,
     pub listed: bool,
-    pub params: Vec<Built<Param<'a>>>,
+    pub params: Vec<&'a Built<Param<'a>>>,
 }
 
 /// The contracts at the head of a body: the requirements, the measure, the first contract's word, and where a
 /// `decreases` stands behind a `require`.
 #[derive(Drop)]
 pub struct Contracts<'a> {
-    pub requirements: Vec<Built<Expr<'a>>>,
-    pub measure: Vec<Built<Expr<'a>>>,
+    pub requirements: Vec<&'a Built<Expr<'a>>>,
+    pub measure: Vec<&'a Built<Expr<'a>>>,
     pub first: Option<Placed<'a>>,
     pub late: Option<u32>,
 }

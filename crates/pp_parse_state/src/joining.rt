@@ -6,11 +6,10 @@ ghost use Rattle.pp_parse_state.specs.Joining.{binds, is_statement, join, join_s
 ghost use Rattle.pp_parse_state.specs.Joining.{unwound};
 ghost use Rattle.pp_parse_state.specs.Shown.{expr_on, shown, under_expr};
 
-use crate::kept::type_itself;
 use crate::operators::{TIGHTEST, level};
 use crate::{Frame, NoMemory, Stack};
 use bumpalo::Bump;
-use pp_tree::build;
+use pp_tree_build::{assert_in, binary, choice, unary, val_in};
 
 /// Whether the frame is an operator before an operand that binds at least as tight as the level.
 pub(crate) fn binds(frame: Frame, tight: u32) -> bool
@@ -38,20 +37,20 @@ fn join<'a>(
     match frame {
         Frame::Prefixing(at, op) => {
             let operand = stack.take_expr();
-            stack.keep_expr(arena, build::unary(arena, at, op, *operand)?)?;
+            stack.put_expr(unary(arena, at, op, operand)?)?;
             Ok(holed)
         }
         Frame::Left(at, op, left_holed) => {
             let right = stack.take_expr();
             let left = stack.take_expr();
-            stack.keep_expr(arena, build::binary(arena, at, op, *left, *right)?)?;
+            stack.put_expr(binary(arena, at, op, left, right)?)?;
             Ok(left_holed || holed)
         }
         Frame::IfRest(at) => {
             let no = stack.take_expr();
             let yes = stack.take_expr();
             let test = stack.take_expr();
-            stack.keep_expr(arena, build::choice(arena, at, *test, *yes, *no)?)?;
+            stack.put_expr(choice(arena, at, test, yes, no)?)?;
             Ok(holed)
         }
         _ => Ok(holed),
@@ -93,14 +92,14 @@ fn join_statement<'a>(arena: &'a Bump, stack: &mut Stack<'a>, frame: Frame) -> R
         Frame::AfterVal(at) => {
             let last = stack.take_expr();
             let value = stack.take_expr();
-            let of = type_itself(stack.take_given_type());
+            let of = stack.take_given_type();
             let name = stack.take_name();
-            stack.keep_expr(arena, build::val_in(arena, at, name, of, *value, *last)?)
+            stack.put_expr(val_in(arena, at, name, of, value, last)?)
         }
         Frame::AfterAssert(at) => {
             let last = stack.take_expr();
             let claim = stack.take_expr();
-            stack.keep_expr(arena, build::assert_in(arena, at, *claim, *last)?)
+            stack.put_expr(assert_in(arena, at, claim, last)?)
         }
         _ => Ok(()),
     }

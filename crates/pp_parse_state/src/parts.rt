@@ -5,7 +5,7 @@
 #![tactic(auto, using(crate::proofs::Stacked::stacked_push))]
 
 ghost use Rattle.std.specs.Prelude.{◌≡◌, [], IfOk, option_map};
-ghost use Rattle.pp_tree.specs.Parts.{claim_parts};
+ghost use Rattle.pp_tree_build.specs.Parts.{claim_parts};
 ghost use Rattle.pp_tree.specs.Shown.{decl_of, pattern_of, tree_of, type_of};
 ghost use Rattle.pp_parse_state.specs.Parts.{top_case_list, top_contracts, top_decl, top_expr, top_expr_list};
 ghost use Rattle.pp_parse_state.specs.Parts.{top_given_type, top_guard, top_head, top_name, top_pattern};
@@ -20,10 +20,9 @@ ghost use Rattle.pp_parse_state.specs.Shown.{without_expr_list, without_given_ty
 ghost use Rattle.pp_parse_state.specs.Shown.{without_name, without_pattern, without_pattern_list, without_post};
 ghost use Rattle.pp_parse_state.specs.Shown.{without_type, without_type_list};
 
-use crate::{Contracts, Head, NoMemory, Stack, keep};
-use bumpalo::Bump;
-use pp_tree::build::Claim;
-use pp_tree::{Built, Case, Checked, Decl, Expr, Pattern, TypeText};
+use crate::{Contracts, Head, NoMemory, Stack};
+use pp_tree::{Case, Decl, Expr, Pattern, TypeText};
+use pp_tree_build::{Built, Checked, Claim};
 
 impl<'a> Stack<'a> {
     /// Puts a name on the stack.
@@ -53,18 +52,11 @@ impl<'a> Stack<'a> {
     }
 
     /// Puts a written type on the stack.
-    pub(crate) fn put_type(&mut self, part: &'a Built<TypeText<'a>>) -> Result<(), NoMemory>
+    pub fn put_type(&mut self, part: &'a Built<TypeText<'a>>) -> Result<(), NoMemory>
         ensures { IfOk result (λ _. shown self.new ≡ with_type (type_of part.now.tree) (shown self.old)) }
     {
         self.types.push(part)?;
         Ok(())
-    }
-
-    /// Puts a written type on the stack, which is kept in the arena.
-    pub fn keep_type(&mut self, arena: &'a Bump, part: Built<TypeText<'a>>) -> Result<(), NoMemory>
-        ensures { IfOk result (λ _. shown self.new ≡ with_type (type_of part.entry.tree) (shown self.old)) }
-    {
-        self.put_type(keep(arena, part)?)
     }
 
     /// Takes a written type off the stack.
@@ -76,22 +68,11 @@ impl<'a> Stack<'a> {
     }
 
     /// Puts a pattern on the stack.
-    pub(crate) fn put_pattern(&mut self, part: &'a Built<Pattern<'a>>) -> Result<(), NoMemory>
+    pub fn put_pattern(&mut self, part: &'a Built<Pattern<'a>>) -> Result<(), NoMemory>
         ensures { IfOk result (λ _. shown self.new ≡ with_pattern (pattern_of part.now.tree) (shown self.old)) }
     {
         self.patterns.push(part)?;
         Ok(())
-    }
-
-    /// Puts a pattern on the stack, which is kept in the arena.
-    pub fn keep_pattern(
-        &mut self,
-        arena: &'a Bump,
-        part: Built<Pattern<'a>>,
-    ) -> Result<(), NoMemory>
-        ensures { IfOk result (λ _. shown self.new ≡ with_pattern (pattern_of part.entry.tree) (shown self.old)) }
-    {
-        self.put_pattern(keep(arena, part)?)
     }
 
     /// Takes a pattern off the stack.
@@ -103,18 +84,11 @@ impl<'a> Stack<'a> {
     }
 
     /// Puts an expression on the stack.
-    pub(crate) fn put_expr(&mut self, part: &'a Built<Expr<'a>>) -> Result<(), NoMemory>
+    pub fn put_expr(&mut self, part: &'a Built<Expr<'a>>) -> Result<(), NoMemory>
         ensures { IfOk result (λ _. shown self.new ≡ with_expr (tree_of part.now.tree) (shown self.old)) }
     {
         self.exprs.push(part)?;
         Ok(())
-    }
-
-    /// Puts an expression on the stack, which is kept in the arena.
-    pub fn keep_expr(&mut self, arena: &'a Bump, part: Built<Expr<'a>>) -> Result<(), NoMemory>
-        ensures { IfOk result (λ _. shown self.new ≡ with_expr (tree_of part.entry.tree) (shown self.old)) }
-    {
-        self.put_expr(keep(arena, part)?)
     }
 
     /// Takes an expression off the stack.
@@ -160,68 +134,68 @@ impl<'a> Stack<'a> {
     }
 
     /// Puts a list of types on the stack.
-    pub fn put_type_list(&mut self, part: Vec<Built<TypeText<'a>>>) -> Result<(), NoMemory>
+    pub fn put_type_list(&mut self, part: Vec<&'a Built<TypeText<'a>>>) -> Result<(), NoMemory>
         ensures { IfOk result (λ _. shown self.new
-            ≡ with_type_list (stacked (λ t. type_of t.tree) part.entry.items []) (shown self.old)) }
+            ≡ with_type_list (stacked (λ t. type_of t.now.tree) part.entry.items []) (shown self.old)) }
     {
         self.type_lists.push(part)?;
         Ok(())
     }
 
     /// Takes a list of types off the stack.
-    pub fn take_type_list(&mut self) -> Vec<Built<TypeText<'a>>>
-        ensures part { stacked (λ t. type_of t.tree) result.items [] ≡ top_type_list (shown self.old).parts }
+    pub fn take_type_list(&mut self) -> Vec<&'a Built<TypeText<'a>>>
+        ensures part { stacked (λ t. type_of t.now.tree) result.items [] ≡ top_type_list (shown self.old).parts }
         ensures others { shown self.new ≡ without_type_list (shown self.old) }
     {
         self.type_lists.pop().unwrap_or(Vec::new(self.alloc))
     }
 
     /// Puts a list of patterns on the stack.
-    pub fn put_pattern_list(&mut self, part: Vec<Built<Pattern<'a>>>) -> Result<(), NoMemory>
+    pub fn put_pattern_list(&mut self, part: Vec<&'a Built<Pattern<'a>>>) -> Result<(), NoMemory>
         ensures { IfOk result (λ _. shown self.new
-            ≡ with_pattern_list (stacked (λ p. pattern_of p.tree) part.entry.items []) (shown self.old)) }
+            ≡ with_pattern_list (stacked (λ p. pattern_of p.now.tree) part.entry.items []) (shown self.old)) }
     {
         self.pattern_lists.push(part)?;
         Ok(())
     }
 
     /// Takes a list of patterns off the stack.
-    pub fn take_pattern_list(&mut self) -> Vec<Built<Pattern<'a>>>
-        ensures part { stacked (λ p. pattern_of p.tree) result.items [] ≡ top_pattern_list (shown self.old).parts }
+    pub fn take_pattern_list(&mut self) -> Vec<&'a Built<Pattern<'a>>>
+        ensures part { stacked (λ p. pattern_of p.now.tree) result.items [] ≡ top_pattern_list (shown self.old).parts }
         ensures others { shown self.new ≡ without_pattern_list (shown self.old) }
     {
         self.pattern_lists.pop().unwrap_or(Vec::new(self.alloc))
     }
 
     /// Puts a list of expressions on the stack.
-    pub fn put_expr_list(&mut self, part: Vec<Built<Expr<'a>>>) -> Result<(), NoMemory>
+    pub fn put_expr_list(&mut self, part: Vec<&'a Built<Expr<'a>>>) -> Result<(), NoMemory>
         ensures { IfOk result (λ _. shown self.new
-            ≡ with_expr_list (stacked (λ e. tree_of e.tree) part.entry.items []) (shown self.old)) }
+            ≡ with_expr_list (stacked (λ e. tree_of e.now.tree) part.entry.items []) (shown self.old)) }
     {
         self.expr_lists.push(part)?;
         Ok(())
     }
 
     /// Takes a list of expressions off the stack.
-    pub fn take_expr_list(&mut self) -> Vec<Built<Expr<'a>>>
-        ensures part { stacked (λ e. tree_of e.tree) result.items [] ≡ top_expr_list (shown self.old).parts }
+    pub fn take_expr_list(&mut self) -> Vec<&'a Built<Expr<'a>>>
+        ensures part { stacked (λ e. tree_of e.now.tree) result.items [] ≡ top_expr_list (shown self.old).parts }
         ensures others { shown self.new ≡ without_expr_list (shown self.old) }
     {
         self.expr_lists.pop().unwrap_or(Vec::new(self.alloc))
     }
 
     /// Puts a list of cases on the stack.
-    pub fn put_case_list(&mut self, part: Vec<Built<Case<'a>>>) -> Result<(), NoMemory>
+    pub fn put_case_list(&mut self, part: Vec<&'a Built<Case<'a>>>) -> Result<(), NoMemory>
         ensures { IfOk result (λ _. shown self.new
-            ≡ with_case_list (stacked (λ c. case_text c.tree) part.entry.items []) (shown self.old)) }
+            ≡ with_case_list (stacked (λ c. case_text c.now.tree) part.entry.items []) (shown self.old)) }
     {
         self.case_lists.push(part)?;
         Ok(())
     }
 
     /// Takes a list of cases off the stack.
-    pub fn take_case_list(&mut self) -> Vec<Built<Case<'a>>>
-        ensures part { stacked (λ c. case_text c.tree) result.items [] ≡ top_case_list (shown self.old).parts }
+    pub fn take_case_list(&mut self) -> Vec<&'a Built<Case<'a>>>
+        ensures part { stacked (λ c. case_text c.now.tree) result.items [] ≡ top_case_list (shown self.old).parts }
         ensures others { shown self.new ≡ without_case_list (shown self.old) }
     {
         self.case_lists.pop().unwrap_or(Vec::new(self.alloc))
@@ -260,17 +234,17 @@ impl<'a> Stack<'a> {
     }
 
     /// Puts a postcondition of a body, if it has one on the stack.
-    pub fn put_post(&mut self, part: Option<&'a Claim<'a>>) -> Result<(), NoMemory>
+    pub fn put_post(&mut self, part: Option<Claim<'a>>) -> Result<(), NoMemory>
         ensures { IfOk result (λ _. shown self.new
-            ≡ with_post (option_map (λ c. claim_parts c.now) part.entry) (shown self.old)) }
+            ≡ with_post (option_map claim_parts part.entry) (shown self.old)) }
     {
         self.posts.push(part)?;
         Ok(())
     }
 
     /// Takes a postcondition of a body, if it has one off the stack.
-    pub fn take_post(&mut self) -> Option<&'a Claim<'a>>
-        ensures part { option_map (λ c. claim_parts c.now) result ≡ top_post (shown self.old).parts }
+    pub fn take_post(&mut self) -> Option<Claim<'a>>
+        ensures part { option_map claim_parts result ≡ top_post (shown self.old).parts }
         ensures others { shown self.new ≡ without_post (shown self.old) }
     {
         self.posts.pop().unwrap_or(None)

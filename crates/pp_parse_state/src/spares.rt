@@ -1,10 +1,9 @@
 //! The trees that stand for parts that aren't there.
 
 use crate::NoMemory;
-use crate::kept::keep;
 use bumpalo::Bump;
-use pp_tree::build::{ClassParts, any, class, int, type_text};
-use pp_tree::{Built, Checked, Decl, Expr, Pattern, TypeText};
+use pp_tree::{Decl, Expr, Pattern, TypeText};
+use pp_tree_build::{Built, Checked, ClassKind, ClassParts, any, class, int, type_text};
 
 /// A tree of each kind, which is taken where none lies on the stack. Each frame and each mode has its parts, so none of
 /// these is ever taken, and any would do.
@@ -19,28 +18,19 @@ pub(crate) struct Spares<'a> {
 impl<'a> Spares<'a> {
     /// The smallest trees.
     pub(crate) fn new(arena: &'a Bump) -> Result<Spares<'a>, NoMemory> {
-        let class = class(
-            arena,
-            ClassParts {
-                at: 0,
-                name: "",
-                params: &[],
-                fields: &[],
-                parent: None,
-                object: true,
-            },
-        )?;
+        let parts = ClassParts {
+            at: 0,
+            name: "",
+            params: &[],
+            fields: &[],
+            parent: None,
+            object: true,
+        };
         Ok(Spares {
-            of: keep(arena, type_text(arena, 0, "", &[])?)?,
-            pattern: keep(arena, any(0, None))?,
-            expr: keep(arena, int(0, 0))?,
-            decl: keep(
-                arena,
-                Checked {
-                    tree: Decl::Other(class.tree),
-                    deep: class.deep,
-                },
-            )?,
+            of: type_text(arena, 0, "", &[])?,
+            pattern: any(arena, 0, None)?,
+            expr: int(arena, 0, 0)?,
+            decl: class(arena, ClassKind::Other, &parts)?,
         })
     }
 }

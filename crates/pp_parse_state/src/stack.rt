@@ -12,8 +12,8 @@ use crate::operators::{LOOSEST, TIGHTEST, level};
 use crate::spares::Spares;
 use crate::{Contracts, Frame, Head, NoMemory};
 use bumpalo::Bump;
-use pp_tree::build::Claim;
-use pp_tree::{Built, Case, Checked, Decl, Expr, Pattern, TypeText};
+use pp_tree::{Case, Decl, Expr, Pattern, TypeText};
+use pp_tree_build::{Built, Checked, Claim};
 use std::alloc::Global;
 
 /// What is open, and the parts of it and of what was read last, of each kind the last on top.
@@ -27,13 +27,13 @@ pub struct Stack<'a> {
     pub(crate) exprs: Vec<&'a Built<Expr<'a>>>,
     pub(crate) given_types: Vec<Option<&'a Built<TypeText<'a>>>>,
     pub(crate) guards: Vec<Option<&'a Built<Expr<'a>>>>,
-    pub(crate) type_lists: Vec<Vec<Built<TypeText<'a>>>>,
-    pub(crate) pattern_lists: Vec<Vec<Built<Pattern<'a>>>>,
-    pub(crate) expr_lists: Vec<Vec<Built<Expr<'a>>>>,
-    pub(crate) case_lists: Vec<Vec<Built<Case<'a>>>>,
+    pub(crate) type_lists: Vec<Vec<&'a Built<TypeText<'a>>>>,
+    pub(crate) pattern_lists: Vec<Vec<&'a Built<Pattern<'a>>>>,
+    pub(crate) expr_lists: Vec<Vec<&'a Built<Expr<'a>>>>,
+    pub(crate) case_lists: Vec<Vec<&'a Built<Case<'a>>>>,
     pub(crate) heads: Vec<Head<'a>>,
     pub(crate) contracts: Vec<Contracts<'a>>,
-    pub(crate) posts: Vec<Option<&'a Claim<'a>>>,
+    pub(crate) posts: Vec<Option<Claim<'a>>>,
     pub(crate) decls: Vec<&'a Checked<Decl<'a>>>,
     pub(crate) spares: Spares<'a>,
 }

@@ -14,7 +14,7 @@ use pp_parse_frames::lists::{list_type, whole_type};
 use pp_parse_frames::opening::{behind_word, open};
 use pp_parse_state::{Contracts, Current, Frame, Kind, Mode, Move, Stack, Stop};
 use pp_tokens::{Bracket, Operator, TokenKind};
-use pp_tree::build::type_text;
+use pp_tree_build::type_text;
 
 /// Behind the type of a parameter.
 fn on_param_type<'a>(cx: &Current<'a, '_>, stack: &mut Stack<'a>, at: u32) -> Result<Move, Stop<'a>>
@@ -40,7 +40,7 @@ fn on_typed_param<'a>(
         (under_type (with_frame (ParamType at) (with_frame (Header kind) (shown stack.old))))
         (type_on (shown stack.old)) cx.now.token.kind) }
 {
-    add_param(stack, at)?;
+    add_param(cx, stack, at)?;
     match cx.token.kind {
         TokenKind::Mark(Bracket::Comma) => open(stack, Frame::Header(kind), Mode::WantParam),
         TokenKind::Mark(Bracket::CloseRound) => {
@@ -229,8 +229,8 @@ pub fn on_type_name<'a>(
             open(stack, Frame::TypeArgs(at), Mode::WantType)
         }
         _ => {
-            let of = type_text(cx.arena, at, stack.take_name(), &[])?;
-            stack.keep_type(cx.arena, of)?;
+            let name = stack.take_name();
+            stack.put_type(type_text(cx.arena, at, name, &[])?)?;
             on_have_type(cx, stack)
         }
     }

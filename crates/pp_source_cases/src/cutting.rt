@@ -1,87 +1,55 @@
 //! How sources are cut into tokens, and how these print: behind its offset a name as it stands, `'case` for a reserved
 //! word, `#7` and `$7` for a decimal and a hexadecimal number, an operator or a mark as it stands, HOLE, and NL and END
-//! with their line and column.
-//!
-//! A line `\*COUNT PIECE` stands for the piece so many times over, and then only the number of tokens is told.
+//! with their line and column. Where a token stands at other characters than its own, these are told too.
 
-use crate::escapes::{repeated, source};
+use crate::adding::{push_at, push_number, push_size, push_word};
 use pp_case_line::CaseLine;
-use pp_text::{MOST_BYTES, NoMemory, Text, TextFault};
+use pp_text::{MOST_BYTES, Text, TextFault};
 use pp_tokens::{LexFault, Token, TokenKind, tokens};
 use std::alloc::Global;
 
-/// The tokens of the source of a line.
-pub fn answer(alloc: Global, line: &str) -> Result<String, NoMemory> {
-    match line.strip_prefix("\\*") {
-        Some(many) => cut(alloc, &repeated(alloc, many)?, true),
-        None => cut(alloc, &source(alloc, line)?, false),
-    }
-}
-
-/// What a source is cut into; tokens may be counted alone.
-pub fn cut(alloc: Global, source: &[u8], counted: bool) -> Result<String, NoMemory> {
+/// Adds what a source is cut into; tokens may be counted alone.
+pub fn push_cut(out: &mut CaseLine, alloc: Global, source: &[u8], counted: bool) {
     if source.len() > MOST_BYTES {
-        return String::from_str(alloc, "too long");
+        return out.put("too long");
     }
     match Text::read(alloc, source) {
-        Ok(text) => cut_text(alloc, &text, counted),
-        Err(TextFault::NotUtf8(at)) => format!(in alloc; "not utf-8 at {at}"),
-        Err(TextFault::Memory) => String::from_str(alloc, "out of memory"),
+        Ok(text) => push_cut_text(out, alloc, &text, counted),
+        Err(TextFault::NotUtf8(at)) => push_number(out, "not utf-8 at ", at),
+        Err(TextFault::Memory) => out.put("out of memory"),
     }
 }
 
-/// What a text is cut into.
-fn cut_text(alloc: Global, text: &Text, counted: bool) -> Result<String, NoMemory> {
+/// Adds what a text is cut into.
+fn push_cut_text(out: &mut CaseLine, alloc: Global, text: &Text, counted: bool) {
     match tokens(alloc, text) {
-        Ok(found) if counted => format!(in alloc; "{} tokens", found.len()),
-        Ok(found) => spelled(alloc, text, &found),
-        Err(fault) => refused(alloc, fault),
+        Ok(tokens) if counted => push_size(out, "", tokens.len()),
+        Ok(tokens) => return push_tokens(out, text, &tokens),
+        Err(fault) => return push_fault(out, fault),
     }
+    out.put(" tokens");
 }
 
-fn refused(alloc: Global, fault: LexFault) -> Result<String, NoMemory> {
+fn push_fault(out: &mut CaseLine, fault: LexFault) {
     match fault {
-        LexFault::BadChar(at) => format!(in alloc; "bad character at {at}"),
-        LexFault::BadNumber(at) => format!(in alloc; "bad number at {at}"),
-        LexFault::OpenComment(at) => format!(in alloc; "open comment at {at}"),
-        LexFault::Memory => String::from_str(alloc, "out of memory"),
+        LexFault::BadChar(at) => push_number(out, "bad character at ", at),
+        LexFault::BadNumber(at) => push_number(out, "bad number at ", at),
+        LexFault::OpenComment(at) => push_number(out, "open comment at ", at),
+        LexFault::Memory => out.put("out of memory"),
     }
 }
 
-fn spelled(alloc: Global, text: &Text, tokens: &[Token]) -> Result<String, NoMemory> {
-    let mut out = CaseLine::new(alloc);
+/// Adds tokens of the text.
+fn push_tokens(out: &mut CaseLine, text: &Text, tokens: &[Token]) {
     out.put("tokens");
     for token in tokens {
-        push_token(&mut out, text, *token);
+        push_at(out, token.from);
+        push_token(out, text, token);
     }
-    out.end()
-}
-
-/// Adds a token, and the characters where it stands if they are others.
-fn push_token(out: &mut CaseLine, text: &Text, token: Token) {
-    let piece = piece(text.as_str(), token);
-    let characters = characters(token.kind, piece);
-    out.put(" ");
-    out.put(token.from);
-    out.put(":");
-    push_kind(out, token.kind, characters);
-    if matches!(token.kind, TokenKind::Newline | TokenKind::End) {
-        push_place(out, text, token.from);
-    }
-    push_other(out, piece, characters);
-}
-
-/// Adds the characters where a token stands, if they are others than it has.
-fn push_other(out: &mut CaseLine, piece: &str, characters: &str) {
-    if piece == characters {
-        return;
-    }
-    out.put(" stands at ");
-    out.put(piece);
 }
 
 /// The characters where a token stands.
-fn piece(source: &str, token: Token) -> &str {
+fn piece<'a>(source: &'a str, token: &Token) -> &'a str {
     match source
         .as_bytes()
         .get(token.from as usize..token.to as usize)
@@ -91,47 +59,50 @@ fn piece(source: &str, token: Token) -> &str {
     }
 }
 
-/// The characters that a token of this kind has, where the kind tells them.
-fn characters(kind: TokenKind, piece: &str) -> &str {
-    match kind {
-        TokenKind::Word(word) => word.text(),
-        TokenKind::Op(operator) => operator.text(),
-        TokenKind::Mark(mark) => mark.text(),
-        TokenKind::Hole => "_",
-        TokenKind::Newline => "\n",
-        TokenKind::End => "",
-        _ => piece,
+/// Adds a token.
+fn push_token(out: &mut CaseLine, text: &Text, token: &Token) {
+    let piece = piece(text.as_str(), token);
+    match token.kind {
+        TokenKind::Name => out.put(piece),
+        TokenKind::Number(value) => push_number(out, "#", value),
+        TokenKind::Hex(value) => push_number(out, "$", value),
+        TokenKind::Word(word) => push_spelled(out, "'", word.text(), piece),
+        TokenKind::Op(operator) => push_spelled(out, "", operator.text(), piece),
+        TokenKind::Mark(mark) => push_spelled(out, "", mark.text(), piece),
+        TokenKind::Hole => {
+            out.put("HOLE");
+            push_other(out, "_", piece)
+        }
+        TokenKind::Newline => {
+            push_place(out, "NL", text, token.from);
+            push_other(out, "\n", piece)
+        }
+        TokenKind::End => {
+            push_place(out, "END", text, token.from);
+            push_other(out, "", piece)
+        }
     }
 }
 
-fn push_kind(out: &mut CaseLine, kind: TokenKind, characters: &str) {
-    match kind {
-        TokenKind::Word(_) => {
-            out.put("'");
-            out.put(characters);
-        }
-        TokenKind::Number(value) => {
-            out.put("#");
-            out.put(value);
-        }
-        TokenKind::Hex(value) => {
-            out.put("$");
-            out.put(value);
-        }
-        TokenKind::Hole => out.put("HOLE"),
-        TokenKind::Newline => out.put("NL"),
-        TokenKind::End => out.put("END"),
-        _ => out.put(characters),
+/// Adds the characters of a token behind a sign.
+fn push_spelled(out: &mut CaseLine, sign: &str, characters: &str, piece: &str) {
+    push_word(out, sign, characters);
+    push_other(out, characters, piece);
+}
+
+/// Adds the characters where a token stands, if they are others than it has.
+fn push_other(out: &mut CaseLine, characters: &str, piece: &str) {
+    if piece != characters {
+        push_word(out, " stands at ", piece);
     }
 }
 
-/// The line and the column of an offset.
-fn push_place(out: &mut CaseLine, text: &Text, at: u32) {
+/// Adds a word, and the line and the column of an offset.
+fn push_place(out: &mut CaseLine, word: &str, text: &Text, at: u32) {
+    out.put(word);
     if text.as_str().is_char_boundary(at as usize) {
         let (line, column) = text.place(at);
-        out.put(" at ");
-        out.put(line);
-        out.put(":");
-        out.put(column);
+        push_number(out, " at ", line);
+        push_number(out, ":", column);
     }
 }

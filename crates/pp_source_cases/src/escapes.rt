@@ -1,8 +1,10 @@
 //! The bytes that a line stands for.
 //!
 //! In a line `\n`, `\r`, `\t` and `\\` stand for what they stand for in Rust, and `\x` with two digits for a byte. A
-//! line of `typing` may have several sources, with `\s` between.
+//! line of `typing` may have several sources, with `\s` between. A source `\*COUNT PIECE` stands for the piece so many
+//! times over.
 
+use crate::case::{parts, size};
 use pp_text::NoMemory;
 use std::alloc::Global;
 
@@ -46,37 +48,53 @@ fn next(begun: Begun, byte: u8) -> (Begun, Option<u8>) {
     }
 }
 
-/// The bytes of a source, with its escapes taken.
-pub fn source(alloc: Global, line: &str) -> Result<Vec<u8>, NoMemory> {
-    let mut source = Vec::new(alloc);
+/// The bytes of a text, with its escapes taken.
+fn bytes(alloc: Global, text: &str) -> Result<Vec<u8>, NoMemory> {
+    let mut bytes = Vec::new(alloc);
     let mut begun = Begun::Nothing;
-    for byte in line.as_bytes() {
+    for byte in text.as_bytes() {
         let (after, ended) = next(begun, *byte);
         begun = after;
         if let Some(byte) = ended {
-            source.push(byte)?;
+            bytes.push(byte)?;
         }
     }
-    Ok(source)
+    Ok(bytes)
 }
 
-/// The sources of a line.
-pub fn sources(alloc: Global, line: &str) -> Result<Vec<Vec<u8>>, NoMemory> {
-    let parts: Vec<&str> = line.split("\\s").collect(alloc)?;
+/// A piece so many times over.
+fn times(alloc: Global, count: usize, piece: &[u8]) -> Result<Vec<u8>, NoMemory> {
+    let mut all = Vec::new(alloc);
+    for _ in 0..count {
+        all.extend_from_slice(piece)?;
+    }
+    Ok(all)
+}
+
+/// The piece so many times over that `COUNT PIECE` asks for; without a number, nothing.
+fn repeated(alloc: Global, many: &str) -> Result<Vec<u8>, NoMemory> {
+    let (count, piece) = many.split_once(' ').unwrap_or(("", ""));
+    times(alloc, size(count), &bytes(alloc, piece)?)
+}
+
+/// The bytes of a source.
+fn source(alloc: Global, text: &str) -> Result<Vec<u8>, NoMemory> {
+    match text.strip_prefix("\\*") {
+        Some(many) => repeated(alloc, many),
+        None => bytes(alloc, text),
+    }
+}
+
+/// The sources of a line's parts.
+fn sources_of(alloc: Global, parts: &[&str]) -> Result<Vec<Vec<u8>>, NoMemory> {
     let mut sources = Vec::new(alloc);
-    for part in &parts {
+    for part in parts {
         sources.push(source(alloc, part)?)?;
     }
     Ok(sources)
 }
 
-/// A piece so many times over, which `COUNT PIECE` asks for; without a number, nothing.
-pub fn repeated(alloc: Global, many: &str) -> Result<Vec<u8>, NoMemory> {
-    let (count, piece) = many.split_once(' ').unwrap_or(("0", ""));
-    let piece = source(alloc, piece)?;
-    let mut repeated = Vec::new(alloc);
-    for _ in 0..count.parse::<u32>().unwrap_or(0) {
-        repeated.extend_from_slice(&piece)?;
-    }
-    Ok(repeated)
+/// The sources of a line.
+pub fn sources(alloc: Global, line: &str) -> Result<Vec<Vec<u8>>, NoMemory> {
+    sources_of(alloc, &parts(alloc, line)?)
 }

@@ -1,20 +1,32 @@
 //! How types, patterns and expressions print: each node in round brackets, behind its offset.
 
+use crate::adding::{push_at, push_name, push_word};
 use pp_case_line::CaseLine;
 use pp_tree::{BinaryOp, Case, Expr, ExprKind, Pattern, PatternKind, TypeText, UnaryOp};
 
+/// The signs of the prefixes and of the operators with two operands, in the order of their enums.
+const PREFIXES: [&str; 3] = ["-", "!", "~"];
+
+const OPERATORS: [&str; 19] = [
+    "+", "-", "*", "/", "%", "==", "!=", "<", "<=", ">", ">=", "&&", "||", "&", "|", "^", "<<",
+    ">>", ">>>",
+];
+
 /// A type.
+#[cycle(types)]
 pub fn push_type(out: &mut CaseLine, of: &TypeText) {
-    out.put(" ");
-    out.put(of.at);
-    out.put(":");
-    out.put(of.name);
-    if of.args.is_empty() {
-        return;
+    push_name(out, of.at, of.name);
+    if !of.args.is_empty() {
+        push_types(out, of.args);
     }
+}
+
+/// Types in square brackets.
+#[cycle(types)]
+fn push_types(out: &mut CaseLine, types: &[TypeText]) {
     out.put("[");
-    for arg in of.args {
-        push_type(out, arg);
+    for of in types {
+        push_type(out, of);
     }
     out.put("]");
 }
@@ -27,6 +39,24 @@ pub fn push_written(out: &mut CaseLine, word: &str, of: &Option<TypeText>) {
     }
 }
 
+/// A pattern.
+#[cycle(pattern)]
+fn push_pattern(out: &mut CaseLine, pattern: &Pattern) {
+    push_at(out, pattern.at);
+    if let Some(name) = pattern.name {
+        push_word(out, name, "@");
+    }
+    match pattern.kind {
+        PatternKind::Any => out.put("_"),
+        PatternKind::Int(n) => out.put(n),
+        PatternKind::Bool(b) => out.put(b),
+        PatternKind::Ctor(ctor, fields) => {
+            push_word(out, "(", ctor);
+            push_fields(out, fields)
+        }
+    }
+}
+
 /// The patterns of fields.
 #[cycle(pattern)]
 fn push_fields(out: &mut CaseLine, fields: &[Pattern]) {
@@ -36,81 +66,26 @@ fn push_fields(out: &mut CaseLine, fields: &[Pattern]) {
     out.put(")");
 }
 
-/// A pattern.
-#[cycle(pattern)]
-fn push_pattern(out: &mut CaseLine, pattern: &Pattern) {
-    out.put(" ");
-    out.put(pattern.at);
-    out.put(":");
-    if let Some(name) = pattern.name {
-        out.put(name);
-        out.put("@");
-    }
-    match pattern.kind {
-        PatternKind::Any => out.put("_"),
-        PatternKind::Int(n) => out.put(n),
-        PatternKind::Bool(b) => out.put(b),
-        PatternKind::Ctor(ctor, fields) => {
-            out.put("(");
-            out.put(ctor);
-            push_fields(out, fields)
-        }
-    }
-}
-
 /// The sign of a prefix.
-fn unary_text(op: UnaryOp) -> &'static str {
-    match op {
-        UnaryOp::Neg => "-",
-        UnaryOp::Not => "!",
-        UnaryOp::Flip => "~",
-    }
+fn prefix(op: UnaryOp) -> &'static str {
+    PREFIXES[op as usize]
 }
 
 /// The sign of an operator.
-fn binary_text(op: BinaryOp) -> &'static str {
-    match op {
-        BinaryOp::Add => "+",
-        BinaryOp::Sub => "-",
-        BinaryOp::Mul => "*",
-        BinaryOp::Div => "/",
-        BinaryOp::Rem => "%",
-        BinaryOp::Equal => "==",
-        BinaryOp::Differ => "!=",
-        BinaryOp::Less => "<",
-        BinaryOp::AtMost => "<=",
-        BinaryOp::More => ">",
-        BinaryOp::AtLeast => ">=",
-        BinaryOp::AndAlso => "&&",
-        BinaryOp::OrElse => "||",
-        BinaryOp::And => "&",
-        BinaryOp::Or => "|",
-        BinaryOp::Xor => "^",
-        BinaryOp::Shl => "<<",
-        BinaryOp::Shr => ">>",
-        BinaryOp::Ushr => ">>>",
-    }
+fn operator(op: BinaryOp) -> &'static str {
+    OPERATORS[op as usize]
 }
 
 /// What stands before the parts of an expression.
 fn push_head(out: &mut CaseLine, kind: &ExprKind) {
     match kind {
-        ExprKind::Int(n) => out.put(n),
-        ExprKind::Bool(b) => out.put(b),
-        ExprKind::Name(name) => out.put(name),
+        ExprKind::Int(n) => out.put(*n),
+        ExprKind::Bool(b) => out.put(*b),
+        ExprKind::Name(name) => out.put(*name),
         ExprKind::Apply(name, types, _) => push_applied(out, name, types),
-        ExprKind::Field(_, name) => {
-            out.put("(.");
-            out.put(name);
-        }
-        ExprKind::Unary(op, _) => {
-            out.put("(");
-            out.put(unary_text(*op));
-        }
-        ExprKind::Binary(op, _, _) => {
-            out.put("(");
-            out.put(binary_text(*op));
-        }
+        ExprKind::Field(_, name) => push_word(out, "(.", name),
+        ExprKind::Unary(op, _) => push_word(out, "(", prefix(*op)),
+        ExprKind::Binary(op, _, _) => push_word(out, "(", operator(*op)),
         ExprKind::If(..) => out.put("(if"),
         ExprKind::Match(..) => out.put("(match"),
         ExprKind::Val(name, of, _, _) => push_declared(out, name, of),
@@ -120,16 +95,12 @@ fn push_head(out: &mut CaseLine, kind: &ExprKind) {
 
 fn push_applied(out: &mut CaseLine, name: &str, types: &[TypeText]) {
     out.put(name);
-    out.put("[");
-    for of in types {
-        push_type(out, of);
-    }
-    out.put("](");
+    push_types(out, types);
+    out.put("(");
 }
 
 fn push_declared(out: &mut CaseLine, name: &str, of: &Option<TypeText>) {
-    out.put("(val ");
-    out.put(name);
+    push_word(out, "(val ", name);
     push_written(out, " of", of);
 }
 
@@ -137,8 +108,8 @@ fn push_declared(out: &mut CaseLine, name: &str, of: &Option<TypeText>) {
 #[cycle(push)]
 fn push_parts(out: &mut CaseLine, kind: &ExprKind) {
     match kind {
-        ExprKind::Int(_) | ExprKind::Bool(_) | ExprKind::Name(_) => {}
-        ExprKind::Apply(_, _, args) => push_exprs(out, args),
+        ExprKind::Int(_) | ExprKind::Bool(_) | ExprKind::Name(_) => return,
+        ExprKind::Apply(_, _, args) => push_exprs(out, "", args),
         ExprKind::Field(a, _) | ExprKind::Unary(_, a) => push_expr(out, a),
         ExprKind::Binary(_, a, b) | ExprKind::Val(_, _, a, b) | ExprKind::Assert(a, b) => {
             push_expr(out, a);
@@ -154,29 +125,22 @@ fn push_parts(out: &mut CaseLine, kind: &ExprKind) {
             push_cases(out, cases)
         }
     }
+    out.put(")");
 }
 
 /// An expression.
 #[cycle(push)]
 pub fn push_expr(out: &mut CaseLine, expr: &Expr) {
-    out.put(" ");
-    out.put(expr.at);
-    out.put(":");
+    push_at(out, expr.at);
     push_head(out, &expr.kind);
     push_parts(out, &expr.kind);
-    if matches!(
-        expr.kind,
-        ExprKind::Int(_) | ExprKind::Bool(_) | ExprKind::Name(_)
-    ) {
-        return;
-    }
-    out.put(")");
 }
 
-/// Expressions in order.
+/// Expressions in order, each behind the word.
 #[cycle(push)]
-fn push_exprs(out: &mut CaseLine, exprs: &[Expr]) {
+pub fn push_exprs(out: &mut CaseLine, word: &str, exprs: &[Expr]) {
     for expr in exprs {
+        out.put(word);
         push_expr(out, expr);
     }
 }
@@ -185,20 +149,14 @@ fn push_exprs(out: &mut CaseLine, exprs: &[Expr]) {
 #[cycle(push)]
 fn push_cases(out: &mut CaseLine, cases: &[Case]) {
     for case in cases {
-        push_case(out, case);
+        out.put(" (case");
+        push_pattern(out, &case.pattern);
+        if let Some(guard) = &case.guard {
+            out.put(" if");
+            push_expr(out, guard);
+        }
+        out.put(" =>");
+        push_expr(out, &case.body);
+        out.put(")");
     }
-}
-
-/// A case of a match.
-#[cycle(push)]
-fn push_case(out: &mut CaseLine, case: &Case) {
-    out.put(" (case");
-    push_pattern(out, &case.pattern);
-    if let Some(guard) = &case.guard {
-        out.put(" if");
-        push_expr(out, guard);
-    }
-    out.put(" =>");
-    push_expr(out, &case.body);
-    out.put(")");
 }

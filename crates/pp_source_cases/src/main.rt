@@ -1,10 +1,11 @@
-//! Tries how sources are cut into tokens, parsed and typed, and measures how fast. What the answers must be was worked
-//! out apart from the program: `stdout` has it.
+//! Tries what is read from outside: sources, which are cut into tokens, parsed and typed, shelves and sinks, the words
+//! of the command line, and lines that no program of a source has; and measures how fast sources are read. What the
+//! answers must be was worked out apart from the program: `stdout` has it.
 //!
-//! Each word of the command line is a task and, behind a blank, what it takes: a file of cases, one a line, a source,
-//! or a size. It is printed as a heading, and below it what the task answers. `args` has the tasks that are tried on
-//! the files in `data`; the scripts under `benches/` give those that measure larger sources. What a line stands for is
-//! told in `escapes`.
+//! Each word of the command line is a task and, behind a blank, what it takes: a file of cases, one a line, sources, or
+//! a size. It is printed as a heading, and below it what the task answers. `args` has the tasks that are tried on the
+//! files in `data`; the scripts under `benches/` give those that measure larger sources. What a line of a source stands
+//! for is told in `escapes`.
 //!
 //! | Task | What is done | Module |
 //! |---|---|---|
@@ -16,91 +17,133 @@
 //! | `count_declarations SOURCE` | how many declarations the unit has | `parsing` |
 //! | `typing FILE` | what the typing of the sources of each line answers | `typing` |
 //! | `parse SOURCE ..`, `type SOURCE ..` | how many units, or functions that are typed | `typing` |
+//! | `seam FILE` | shelves and sinks, in memory, on files, and over readers and writers that falter | `seam` |
+//! | `words FILE` | the words of the command line | `words` |
+//! | `print` | lines on words, files and memory, and sinks where a put fails | `print` |
 #![tactic(auto)]
 
+mod adding;
+mod case;
 mod cutting;
 mod escapes;
 mod exprs;
+mod failing;
+mod falter;
 mod parsing;
 mod pieces;
+mod print;
 mod reading;
+mod seam;
 mod typing;
 mod units;
+mod words;
 
-use anyhow::{Context, Result, bail};
-use pp_parse::NoMemory;
+use adding::push_word;
+use case::{lines, words};
+use escapes::sources;
+use pp_case_line::CaseLine;
+use pp_seam::{Sink, StdSink};
 use std::alloc::Global;
-use std::{env, fs};
+use std::io::ErrorKind;
+use std::{env, fs, io};
 
-/// Does a task.
-fn run(rt: &HostRuntime, task: &str) -> Result<()> {
-    println!(rt; "# {task}")?;
-    let (name, given) = task.split_once(' ').context("a task and what it takes")?;
-    match name {
-        "tokens" | "units" | "typing" => print_lines(rt, name, given),
-        "count_tokens" | "count_declarations" | "cuts" => print_source(rt, name, given),
-        "brackets" => print_brackets(rt, rt.alloc(), given),
-        "parse" | "type" => print_count(rt, name, given),
-        other => bail!("no task {other}"),
+/// How many bytes a source of `tokens` has at most whose tokens are spelled out.
+const MOST_SPELLED: usize = 1000;
+
+/// The first source.
+fn first(sources: &[Vec<u8>]) -> &[u8] {
+    match sources {
+        [source, ..] => source,
+        [] => &[],
     }
 }
 
-/// Prints the answer to each line of the file.
-fn print_lines(rt: &HostRuntime, task: &str, path: &str) -> Result<()> {
+/// Adds what a task on sources answers. Of a long source of `tokens` only their number is told.
+fn push_answer(out: &mut CaseLine, alloc: Global, task: &str, sources: &[Vec<u8>]) {
+    let source = first(sources);
+    match task {
+        "tokens" => cutting::push_cut(out, alloc, source, source.len() > MOST_SPELLED),
+        "count_tokens" => cutting::push_cut(out, alloc, source, true),
+        "units" => parsing::push_parsed(out, alloc, source, false),
+        "count_declarations" => parsing::push_parsed(out, alloc, source, true),
+        "cuts" => pieces::push_count(out, alloc, source),
+        _ => typing::push_answer(out, alloc, task, sources),
+    }
+    out.put("\n");
+}
+
+/// Adds what a task answers to the sources of each line.
+fn push_lines(out: &mut CaseLine, alloc: Global, task: &str, lines: &[&str]) -> io::Result<()> {
+    for line in lines {
+        push_answer(out, alloc, task, &sources(alloc, line)?);
+    }
+    Ok(())
+}
+
+/// Adds what a task answers to each case.
+fn push_cases(out: &mut CaseLine, rt: &HostRuntime, task: &str, cases: &[&str]) -> io::Result<()> {
+    match task {
+        "seam" => seam::push_answers(out, rt, cases),
+        "words" => words::push_answers(out, rt.alloc(), cases),
+        _ => push_lines(out, rt.alloc(), task, cases),
+    }
+}
+
+/// Adds what a task answers to the lines of a file.
+fn push_file(out: &mut CaseLine, rt: &HostRuntime, task: &str, path: &str) -> io::Result<()> {
     let file = fs::read_to_string(rt, path)?;
-    let lines: Vec<&str> = file.as_str().lines().collect(rt.alloc())?;
-    for line in &lines {
-        println!(rt; "{}", line_answer(rt.alloc(), task, line)?)?;
+    let cases = lines(rt.alloc(), file.as_str())?;
+    push_cases(out, rt, task, &cases)
+}
+
+/// The files at these paths.
+fn files(rt: &HostRuntime, paths: &[&str]) -> io::Result<Vec<Vec<u8>>> {
+    let mut files = Vec::new(rt.alloc());
+    for path in paths {
+        files.push(fs::read(rt, path)?)?;
     }
+    Ok(files)
+}
+
+/// Adds what a task answers to the files at these paths, which are its sources.
+fn push_files(out: &mut CaseLine, rt: &HostRuntime, task: &str, paths: &str) -> io::Result<()> {
+    let paths = words(rt.alloc(), paths)?;
+    push_answer(out, rt.alloc(), task, &files(rt, &paths)?);
     Ok(())
 }
 
-fn line_answer(alloc: Global, task: &str, line: &str) -> Result<String, NoMemory> {
-    match task {
-        "tokens" => cutting::answer(alloc, line),
-        "units" => parsing::answer(alloc, line),
-        _ => typing::answer(alloc, line),
+/// Adds a task, and what it answers.
+fn push_task(out: &mut CaseLine, rt: &HostRuntime, task: &str) -> io::Result<()> {
+    push_word(out, "# ", task);
+    out.put("\n");
+    let (name, given) = task.split_once(' ').unwrap_or((task, ""));
+    match name {
+        "brackets" => parsing::push_brackets(out, rt.alloc(), given),
+        "print" => print::push_answers(out, rt.alloc()),
+        "tokens" | "units" | "typing" | "seam" | "words" => push_file(out, rt, name, given),
+        "count_tokens" | "count_declarations" | "cuts" => push_files(out, rt, name, given),
+        "parse" | "type" => push_files(out, rt, name, given),
+        _ => Err(io::Error::from(ErrorKind::InvalidInput)),
     }
 }
 
-/// Prints the answer to the source.
-fn print_source(rt: &HostRuntime, task: &str, path: &str) -> Result<()> {
-    let source = fs::read(rt, path)?;
-    println!(rt; "{}", source_answer(rt.alloc(), task, &source)?)?;
-    Ok(())
+/// Does a task, and puts what it answers on standard output.
+fn run(rt: &HostRuntime, task: &str) -> io::Result<()> {
+    let mut out = CaseLine::new(rt.alloc());
+    push_task(&mut out, rt, task)?;
+    put(rt, out.end()?.as_str())
 }
 
-fn source_answer(alloc: Global, task: &str, source: &[u8]) -> Result<String, NoMemory> {
-    match task {
-        "count_tokens" => cutting::cut(alloc, source, true),
-        "cuts" => pieces::count(alloc, source),
-        _ => parsing::parsed(alloc, source, true),
+/// Puts a text on standard output, behind a put of nothing.
+fn put(rt: &impl Print, text: &str) -> io::Result<()> {
+    let mut out = StdSink::new(io::writer(rt));
+    if out.put("".as_bytes()).is_ok() && out.put(text.as_bytes()).is_ok() {
+        return Ok(());
     }
+    Err(io::Error::from(ErrorKind::BrokenPipe))
 }
 
-/// Prints the answers to a name in so many brackets, and to so many brackets that nothing closes.
-fn print_brackets(rt: &impl Print, alloc: Global, count: &str) -> Result<()> {
-    let count = count.parse::<u32>().context("how many brackets")?;
-    println!(rt; "{}", parsing::in_brackets(alloc, count, true)?)?;
-    println!(rt; "{}", parsing::in_brackets(alloc, count, false)?)?;
-    Ok(())
-}
-
-/// Prints how many units the sources spell, or how many functions these have where they are to be typed.
-fn print_count(rt: &HostRuntime, task: &str, paths: &str) -> Result<()> {
-    let paths: Vec<&str> = paths.split_whitespace().collect(rt.alloc())?;
-    let mut sources = Vec::new(rt.alloc());
-    for path in &paths {
-        sources.push(fs::read(rt, path)?)?;
-    }
-    println!(rt;
-        "{}",
-        typing::counted(rt.alloc(), &sources, task == "type")?
-    )?;
-    Ok(())
-}
-
-fn main(rt: HostRuntime) -> Result<()> {
+fn main(rt: HostRuntime) -> io::Result<()> {
     for task in env::args(&rt)?.skip(1) {
         run(&rt, task.as_str())?;
     }

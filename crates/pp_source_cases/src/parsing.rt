@@ -1,64 +1,59 @@
 //! Sources, and the units that they spell, or why they are refused.
 
-use crate::escapes::source;
+use crate::adding::{push_number, push_size};
+use crate::case::size;
 use crate::reading::{Refused, unit};
 use crate::units::push_unit;
 use bumpalo::Bump;
-use pp_case_line::CaseLine;
-use pp_parse::{NoMemory, ParseFault};
-use pp_tree::Unit;
+use pp_case_line::{CaseLine, NoMemory};
+use pp_parse::ParseFault;
 use std::alloc::Global;
+use std::io;
 
-/// The unit of the source of a line.
-pub fn answer(alloc: Global, line: &str) -> Result<String, NoMemory> {
-    parsed(alloc, &source(alloc, line)?, false)
+/// Adds the answer to a function whose body is a name in so many brackets, and to the brackets that open alone.
+pub fn push_brackets(out: &mut CaseLine, alloc: Global, count: &str) -> io::Result<()> {
+    let opened = brackets(alloc, size(count), "", "", "")?;
+    let closed = brackets(alloc, size(count), "a", ")", " }")?;
+    push_parsed(out, alloc, closed.as_bytes(), false);
+    out.put("\n");
+    push_parsed(out, alloc, opened.as_bytes(), false);
+    out.put("\n");
+    Ok(())
 }
 
-/// The answer to a function whose body is a name in so many brackets, or only the brackets that open.
-pub fn in_brackets(alloc: Global, count: u32, closed: bool) -> Result<String, NoMemory> {
-    parsed(alloc, brackets(alloc, count, closed)?.as_bytes(), false)
-}
-
-/// The source of such a function.
-fn brackets(alloc: Global, count: u32, closed: bool) -> Result<String, NoMemory> {
+/// The source of such a function: what stands in the brackets, what closes each, and what is behind them.
+fn brackets(
+    alloc: Global,
+    count: usize,
+    within: &str,
+    closes: &str,
+    behind: &str,
+) -> Result<String, NoMemory> {
     let mut source = CaseLine::new(alloc);
     source.put("object A { def f(a: Int): Int = ");
-    for _ in 0..count {
-        source.put("(");
-    }
-    if closed {
-        push_closed(&mut source, count);
-    }
+    push_times(&mut source, "(", count);
+    source.put(within);
+    push_times(&mut source, closes, count);
+    source.put(behind);
     source.end()
 }
 
-/// Adds the name, and so many brackets that close.
-fn push_closed(source: &mut CaseLine, count: u32) {
-    source.put("a");
+/// Adds a piece so many times.
+fn push_times(source: &mut CaseLine, piece: &str, count: usize) {
     for _ in 0..count {
-        source.put(")");
+        source.put(piece);
     }
-    source.put(" }");
 }
 
-/// What a source is answered; the declarations of a unit may be counted alone.
-pub fn parsed(alloc: Global, source: &[u8], counted: bool) -> Result<String, NoMemory> {
+/// Adds what a source is answered; the declarations of a unit may be counted alone.
+pub fn push_parsed(out: &mut CaseLine, alloc: Global, source: &[u8], counted: bool) {
     let arena = Bump::new(alloc);
-    let mut out = CaseLine::new(alloc);
     match unit(alloc, &arena, source) {
-        Ok(unit) => push_parsed(&mut out, &unit, counted),
-        Err(refused) => push_refused(&mut out, refused),
+        Ok(unit) if counted => push_size(out, "", unit.decls.len()),
+        Ok(unit) => return push_unit(out, &unit),
+        Err(refused) => return push_refused(out, refused),
     }
-    out.end()
-}
-
-fn push_parsed(out: &mut CaseLine, unit: &Unit, counted: bool) {
-    if counted {
-        out.put(unit.decls.len());
-        out.put(" declarations");
-    } else {
-        push_unit(out, unit)
-    }
+    out.put(" declarations");
 }
 
 /// Adds why a source is refused.
@@ -73,19 +68,12 @@ fn push_refused(out: &mut CaseLine, refused: Refused) {
 
 fn push_fault(out: &mut CaseLine, fault: &ParseFault) {
     match fault {
-        ParseFault::Syntax(at) => {
-            out.put("syntax at ");
-            out.put(at);
-        }
-        ParseFault::TooDeep(at) => {
-            out.put("too deep at ");
-            out.put(at);
-        }
+        ParseFault::Syntax(at) => push_number(out, "syntax at ", *at),
+        ParseFault::TooDeep(at) => push_number(out, "too deep at ", *at),
         ParseFault::Unsupported(name, at) => {
             out.put("unsupported ");
             out.put(name.as_str());
-            out.put(" at ");
-            out.put(at);
+            push_number(out, " at ", *at)
         }
         ParseFault::Memory => out.put("out of memory"),
     }

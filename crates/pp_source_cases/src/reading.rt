@@ -16,21 +16,23 @@ pub enum Refused {
     Unspelled(ParseFault),
 }
 
-/// The text of a source.
-fn text(alloc: Global, source: &[u8]) -> Result<Text, Refused> {
+/// The unit of a source.
+pub fn unit<'a>(alloc: Global, arena: &'a Bump, source: &[u8]) -> Result<Unit<'a>, Refused> {
     if source.len() > MOST_BYTES {
         return Err(Refused::TooLong);
     }
-    Text::read(alloc, source).map_err(|_| Refused::NoText)
+    match Text::read(alloc, source) {
+        Ok(text) => unit_of_text(alloc, arena, &text),
+        Err(_) => Err(Refused::NoText),
+    }
 }
 
-/// The unit of a source.
-pub fn unit<'a>(alloc: Global, arena: &'a Bump, source: &[u8]) -> Result<Unit<'a>, Refused> {
-    let text = text(alloc, source)?;
-    let Ok(tokens) = tokens(alloc, &text) else {
+/// The unit of a text.
+fn unit_of_text<'a>(alloc: Global, arena: &'a Bump, text: &Text) -> Result<Unit<'a>, Refused> {
+    let Ok(tokens) = tokens(alloc, text) else {
         return Err(Refused::NoTokens);
     };
-    match parse(alloc, arena, &text, &tokens) {
+    match parse(alloc, arena, text, &tokens) {
         Ok(unit) => Ok(unit),
         Err(fault) => Err(Refused::Unspelled(fault)),
     }

@@ -1,51 +1,56 @@
 //! The typing of sources. The answer to a line is `typed`, or the fault with its name, the number of its source and its
 //! offset; `no unit` where a source spells none.
 
-use crate::escapes::sources;
+use crate::adding::{push_number, push_size, push_word};
 use crate::reading::units;
 use bumpalo::Bump;
-use pp_parse::NoMemory;
+use pp_case_line::CaseLine;
 use pp_tree::Unit;
 use pp_types::{TypeFault, check};
 use std::alloc::Global;
 
-/// What the typing of the sources of a line answers.
-pub fn answer(alloc: Global, line: &str) -> Result<String, NoMemory> {
-    let arena = Bump::new(alloc);
-    match units(alloc, &arena, &sources(alloc, line)?) {
-        Some(units) => typed(alloc, &units, false),
-        None => String::from_str(alloc, "no unit"),
-    }
-}
-
-/// How many units the sources spell, or how many functions these have where they are to be typed.
-pub fn counted(alloc: Global, sources: &[Vec<u8>], with_types: bool) -> Result<String, NoMemory> {
+/// Adds what a task on units answers to sources.
+pub fn push_answer(out: &mut CaseLine, alloc: Global, task: &str, sources: &[Vec<u8>]) {
     let arena = Bump::new(alloc);
     match units(alloc, &arena, sources) {
-        Some(units) if with_types => typed(alloc, &units, true),
-        Some(units) => format!(in alloc; "{} units", units.len()),
-        None => String::from_str(alloc, "no unit"),
+        Some(units) => push_asked(out, alloc, task, &units),
+        None => out.put("no unit"),
     }
 }
 
-/// Whether the units are typed, or how many functions they have where these are to be counted.
-fn typed(alloc: Global, units: &[Unit], counted: bool) -> Result<String, NoMemory> {
+/// Adds how many units there are, where they are only to be parsed, and else whether they are typed.
+fn push_asked(out: &mut CaseLine, alloc: Global, task: &str, units: &[Unit]) {
+    match task {
+        "parse" => {
+            push_size(out, "", units.len());
+            out.put(" units")
+        }
+        "type" => push_typed(out, alloc, units, true),
+        _ => push_typed(out, alloc, units, false),
+    }
+}
+
+/// Adds whether the units are typed, or how many functions they have where these are to be counted.
+fn push_typed(out: &mut CaseLine, alloc: Global, units: &[Unit], counted: bool) {
     if units.len() > 16 {
-        return String::from_str(alloc, "too many sources");
+        return out.put("too many sources");
     }
     match check(alloc, units) {
-        Ok(typed) if counted => format!(in alloc; "{} functions", typed.defs.len()),
-        Ok(_) => String::from_str(alloc, "typed"),
-        Err(fault) => refused(alloc, fault),
+        Ok(typed) if counted => {
+            out.put(typed.defs.len());
+            out.put(" functions")
+        }
+        Ok(_) => out.put("typed"),
+        Err(fault) => push_refused(out, fault),
     }
 }
 
-/// A fault, with its name, the number of its source and its offset.
-fn refused(alloc: Global, fault: TypeFault) -> Result<String, NoMemory> {
-    let mut out = format!(in alloc; "{fault}")?;
+/// Adds a fault, with its name, the number of its source and its offset.
+fn push_refused(out: &mut CaseLine, fault: TypeFault) {
+    out.put(&fault);
     if let Some(fault) = fault.into_fault() {
-        let name = fault.name.as_str();
-        write!(out, " {name} at {}:{}", fault.source, fault.at)?;
+        push_word(out, " ", fault.name.as_str());
+        push_number(out, " at ", fault.source);
+        push_number(out, ":", fault.at);
     }
-    Ok(out)
 }

@@ -1,10 +1,11 @@
-//! The calls of `pp_bits`, `pp_products` and `pp_shifts` by their names.
+//! The calls of `pp_bits`, `pp_products` and `pp_shifts` by their operators.
 
 ghost use Rattle.std.specs.Prelude.{◌≡◌, ◌+◌, ◌*◌, ◌≤◌, ◌^◌, All, length, IfOk};
 ghost use Rattle.pp_gate.specs.Circuit.{IsOf};
 ghost use Rattle.pp_gate.specs.Growth.{Grows};
 
 use crate::calls::{Call, Count, Known, completed};
+use crate::operator::Operator;
 use pp_bits::{
     add, add_carry, and, choose, constant, equal, inputs, invert, less, less_signed, neg, number,
     or, sub, sub_borrow, xor,
@@ -59,7 +60,7 @@ fn counted_on(
     requires room { length circuit.old + 8192 ≤ 2 ^ 30 }
 {
     let start = circuit.gates();
-    let answer = apply(circuit, call.name, a, b)?;
+    let answer = apply(circuit, call.operator, a, b)?;
     let first = circuit.gates().saturating_sub(start);
     let all = completed(circuit, call, known)?;
     Ok(Count {
@@ -78,44 +79,56 @@ fn value_of(all: &Assignment, answer: &[Lit]) -> i128 {
     i128::from(number(all, answer))
 }
 
-/// The literals that the call of this name answers; of two answers the second stands above the first.
+/// The literals that the call of this operator answers; of two answers the second stands above the first.
 #[tactic(auto, using(crate::proofs::Budgets::product_fits))]
-fn apply(circuit: &mut Circuit, name: &str, a: &[Lit], b: &[Lit]) -> Result<Vec<Lit>, NoMemory>
+fn apply(
+    circuit: &mut Circuit,
+    operator: Operator,
+    a: &[Lit],
+    b: &[Lit],
+) -> Result<Vec<Lit>, NoMemory>
     requires digits { length a.now ≤ 32 }
     requires same { length a.now ≡ length b.now }
     requires left { All (IsOf circuit.old) a.now }
     requires right { All (IsOf circuit.old) b.now }
     requires room { length circuit.old + 8192 ≤ 2 ^ 30 }
 {
-    match name {
-        "add" => add(circuit, a, b),
-        "sub" => sub(circuit, a, b),
-        "neg" => neg(circuit, a),
-        "mul" => mul(circuit, a, b),
-        "divide" => quotient_and_remainder(circuit, a, b),
-        "add_carry" | "sub_borrow" => with_carry(circuit, name, a, b),
-        "equal" | "less" | "less_signed" => comparison(circuit, name, a, b),
-        _ => by_places(circuit, name, a, b),
+    match operator {
+        Operator::Add => add(circuit, a, b),
+        Operator::Sub => sub(circuit, a, b),
+        Operator::Neg => neg(circuit, a),
+        Operator::Mul => mul(circuit, a, b),
+        Operator::Divide => quotient_and_remainder(circuit, a, b),
+        Operator::AddCarry | Operator::SubBorrow => with_carry(circuit, operator, a, b),
+        Operator::Equal | Operator::Less | Operator::LessSigned => comparison(
+            circuit, operator, a, b,
+        ),
+        _ => by_places(circuit, operator, a, b),
     }
 }
 
-/// What the call of this name makes of the digits by their places.
+/// What the call of this operator makes of the digits by their places.
 #[tactic(auto, using(crate::proofs::Budgets::shift_fits))]
-fn by_places(circuit: &mut Circuit, name: &str, a: &[Lit], b: &[Lit]) -> Result<Vec<Lit>, NoMemory>
+fn by_places(
+    circuit: &mut Circuit,
+    operator: Operator,
+    a: &[Lit],
+    b: &[Lit],
+) -> Result<Vec<Lit>, NoMemory>
     requires digits { length a.now ≤ 32 }
     requires same { length a.now ≡ length b.now }
     requires left { All (IsOf circuit.old) a.now }
     requires right { All (IsOf circuit.old) b.now }
     requires room { length circuit.old + 8192 ≤ 2 ^ 30 }
 {
-    match name {
-        "and" => and(circuit, a, b),
-        "or" => or(circuit, a, b),
-        "xor" => xor(circuit, a, b),
-        "invert" => invert(circuit, a),
-        "choose" => chosen(circuit, a, b),
-        "shl" => shl(circuit, a, b),
-        "shr" => shr(circuit, a, b),
+    match operator {
+        Operator::And => and(circuit, a, b),
+        Operator::Or => or(circuit, a, b),
+        Operator::Xor => xor(circuit, a, b),
+        Operator::Not => invert(circuit, a),
+        Operator::Choose => chosen(circuit, a, b),
+        Operator::Shl => shl(circuit, a, b),
+        Operator::Shr => shr(circuit, a, b),
         _ => ushr(circuit, a, b),
     }
 }
@@ -132,18 +145,29 @@ fn chosen(circuit: &mut Circuit, a: &[Lit], b: &[Lit]) -> Result<Vec<Lit>, NoMem
 }
 
 /// The sum with its carry as one digit more, or the difference with what it borrows.
-fn with_carry(circuit: &mut Circuit, name: &str, a: &[Lit], b: &[Lit]) -> Result<Vec<Lit>, NoMemory>
+fn with_carry(
+    circuit: &mut Circuit,
+    operator: Operator,
+    a: &[Lit],
+    b: &[Lit],
+) -> Result<Vec<Lit>, NoMemory>
     requires same { length a.now ≡ length b.now }
     requires left { All (IsOf circuit.old) a.now }
     requires right { All (IsOf circuit.old) b.now }
     requires room { length circuit.old + 3 * length a.now ≤ 2 ^ 30 }
 {
-    let (mut digits, more) = if name == "add_carry" {
-        let none = circuit.truth().negated();
-        add_carry(circuit, a, b, none)?
-    } else {
-        sub_borrow(circuit, a, b)?
-    };
+    match operator {
+        Operator::AddCarry => {
+            let none = circuit.truth().negated();
+            joined(add_carry(circuit, a, b, none)?)
+        }
+        _ => joined(sub_borrow(circuit, a, b)?),
+    }
+}
+
+/// Digits, and one more above them.
+fn joined(parts: (Vec<Lit>, Lit)) -> Result<Vec<Lit>, NoMemory> {
+    let (mut digits, more) = parts;
     digits.push(more)?;
     Ok(digits)
 }
@@ -163,29 +187,34 @@ fn quotient_and_remainder(circuit: &mut Circuit, a: &[Lit], d: &[Lit]) -> Result
 }
 
 /// Whether the numbers compare so, as one digit.
-fn comparison(circuit: &mut Circuit, name: &str, a: &[Lit], b: &[Lit]) -> Result<Vec<Lit>, NoMemory>
+fn comparison(
+    circuit: &mut Circuit,
+    operator: Operator,
+    a: &[Lit],
+    b: &[Lit],
+) -> Result<Vec<Lit>, NoMemory>
     requires digits { length a.now ≤ 32 }
     requires same { length a.now ≡ length b.now }
     requires left { All (IsOf circuit.old) a.now }
     requires right { All (IsOf circuit.old) b.now }
     requires room { length circuit.old + 8192 ≤ 2 ^ 30 }
 {
-    let holds = compare(circuit, name, a, b)?;
+    let holds = compare(circuit, operator, a, b)?;
     Vec::from_slice(circuit.allocator(), &[holds])
 }
 
 /// Whether the numbers are equal, the first is below the second, or that of them as integers in two's complement, of
 /// which those of no digits are equal.
-fn compare(circuit: &mut Circuit, name: &str, a: &[Lit], b: &[Lit]) -> Result<Lit, NoMemory>
+fn compare(circuit: &mut Circuit, operator: Operator, a: &[Lit], b: &[Lit]) -> Result<Lit, NoMemory>
     requires digits { length a.now ≤ 32 }
     requires same { length a.now ≡ length b.now }
     requires left { All (IsOf circuit.old) a.now }
     requires right { All (IsOf circuit.old) b.now }
     requires room { length circuit.old + 8192 ≤ 2 ^ 30 }
 {
-    match name {
-        "equal" => equal(circuit, a, b),
-        "less" => less(circuit, a, b),
+    match operator {
+        Operator::Equal => equal(circuit, a, b),
+        Operator::Less => less(circuit, a, b),
         _ if a.is_empty() => Ok(circuit.truth().negated()),
         _ => less_signed(circuit, a, b),
     }

@@ -1,10 +1,11 @@
-//! The calls of `pp_wordgate` and `pp_wordscale` by their names.
+//! The calls of `pp_wordgate` and `pp_wordscale` by their operators.
 
 ghost use Rattle.std.specs.Prelude.{◌+◌, ◌≤◌, ◌^◌, All, length, IfOk};
 ghost use Rattle.pp_gate.specs.Circuit.{IsOf};
 ghost use Rattle.pp_gate.specs.Growth.{Grows};
 
 use crate::calls::{Call, Count, Known, completed};
+use crate::operator::Operator;
 use pp_clause::Lit;
 use pp_gate::{Circuit, NoMemory, Word};
 use pp_wordgate::{
@@ -49,11 +50,11 @@ fn counted_on(
     requires right { All (IsOf circuit.old) b }
 {
     let start = circuit.gates();
-    let answer = apply(circuit, call.name, a, b)?;
+    let answer = apply(circuit, call.operator, a, b)?;
     let once = circuit.gates();
-    let _again = apply(circuit, call.name, a, b)?;
+    let _again = apply(circuit, call.operator, a, b)?;
     let twice = circuit.gates();
-    let _swapped = apply(circuit, call.name, b, a)?;
+    let _swapped = apply(circuit, call.operator, b, a)?;
     let all = completed(circuit, call, known)?;
     Ok(Count {
         first: once.saturating_sub(start),
@@ -63,67 +64,67 @@ fn counted_on(
     })
 }
 
-/// What the call of this name answers.
-fn apply(circuit: &mut Circuit, name: &str, a: Word, b: Word) -> Result<Word, NoMemory>
+/// What the call of this operator answers.
+fn apply(circuit: &mut Circuit, operator: Operator, a: Word, b: Word) -> Result<Word, NoMemory>
     requires room { length circuit.old + 16384 ≤ 2 ^ 30 }
     requires left { All (IsOf circuit.old) a }
     requires right { All (IsOf circuit.old) b }
     ensures { Grows circuit.old circuit.new 16384 }
 {
-    match name {
-        "add" => add(circuit, a, b),
-        "sub" => sub(circuit, a, b),
-        "neg" => neg(circuit, a),
-        "mul" => mul(circuit, a, b),
-        "div" => div(circuit, a, b),
-        "rem" => rem(circuit, a, b),
-        "less" | "equal" | "lesser" => comparison(circuit, name, a, b),
-        _ => by_places(circuit, name, a, b),
+    match operator {
+        Operator::Add => add(circuit, a, b),
+        Operator::Sub => sub(circuit, a, b),
+        Operator::Neg => neg(circuit, a),
+        Operator::Mul => mul(circuit, a, b),
+        Operator::Divide => div(circuit, a, b),
+        Operator::Rem => rem(circuit, a, b),
+        Operator::Less | Operator::Equal | Operator::Lesser => comparison(circuit, operator, a, b),
+        _ => by_places(circuit, operator, a, b),
     }
 }
 
-/// What the call of this name makes of the digits by their places.
-fn by_places(circuit: &mut Circuit, name: &str, a: Word, b: Word) -> Result<Word, NoMemory>
+/// What the call of this operator makes of the digits by their places.
+fn by_places(circuit: &mut Circuit, operator: Operator, a: Word, b: Word) -> Result<Word, NoMemory>
     requires room { length circuit.old + 512 ≤ 2 ^ 30 }
     requires left { All (IsOf circuit.old) a }
     requires right { All (IsOf circuit.old) b }
     ensures { Grows circuit.old circuit.new 512 }
 {
-    match name {
-        "and" => and(circuit, a, b),
-        "or" => or(circuit, a, b),
-        "xor" => xor(circuit, a, b),
-        "not" => not(circuit, a),
-        "shl" => shl(circuit, a, b),
-        "shr" => shr(circuit, a, b),
+    match operator {
+        Operator::And => and(circuit, a, b),
+        Operator::Or => or(circuit, a, b),
+        Operator::Xor => xor(circuit, a, b),
+        Operator::Not => not(circuit, a),
+        Operator::Shl => shl(circuit, a, b),
+        Operator::Shr => shr(circuit, a, b),
         _ => ushr(circuit, a, b),
     }
 }
 
 /// The lesser of the words, or 1 where they compare so, and else 0.
-fn comparison(circuit: &mut Circuit, name: &str, a: Word, b: Word) -> Result<Word, NoMemory>
+fn comparison(circuit: &mut Circuit, operator: Operator, a: Word, b: Word) -> Result<Word, NoMemory>
     requires room { length circuit.old + 288 ≤ 2 ^ 30 }
     requires left { All (IsOf circuit.old) a }
     requires right { All (IsOf circuit.old) b }
     ensures { Grows circuit.old circuit.new 288 }
 {
-    let holds = compare(circuit, name, a, b)?;
-    match name {
-        "lesser" => choose(circuit, holds, a, b),
+    let holds = compare(circuit, operator, a, b)?;
+    match operator {
+        Operator::Lesser => choose(circuit, holds, a, b),
         _ => number(circuit, holds),
     }
 }
 
 /// Whether the words are equal, or the first is below the second.
-fn compare(circuit: &mut Circuit, name: &str, a: Word, b: Word) -> Result<Lit, NoMemory>
+fn compare(circuit: &mut Circuit, operator: Operator, a: Word, b: Word) -> Result<Lit, NoMemory>
     requires room { length circuit.old + 256 ≤ 2 ^ 30 }
     requires left { All (IsOf circuit.old) a }
     requires right { All (IsOf circuit.old) b }
     ensures grows { Grows circuit.old circuit.new 256 }
     ensures of { IfOk result (λ r. IsOf circuit.new r) }
 {
-    match name {
-        "equal" => equal(circuit, a, b),
+    match operator {
+        Operator::Equal => equal(circuit, a, b),
         _ => less(circuit, a, b),
     }
 }

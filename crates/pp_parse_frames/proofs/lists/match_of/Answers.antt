@@ -8,5 +8,5 @@ use Rattle.pp_parse_frames.proofs.lists.match_of.Goals as goal
 pub returns : goal.returns
 returns c =
     let P : CaseTrees → Type 0 = λ cs. IfOk c.matching.result
-    (λ e. tree_of e.tree ≡ matching c.args.at (tree_of c.args.of.now.tree) cs) in
-    subst P (sym (cases_finished (λ x. x.tree) c.args.cases.now)) c.matching.ensures
+    (λ e. tree_of e.now.tree ≡ matching c.args.at (tree_of c.args.of.now.tree) cs) in
+    subst P (sym (cases_finished (λ x. x.now.tree) c.args.cases.now)) c.matching.ensures

@@ -1,0 +1,4 @@
+pub mod Folded
+mod Highest
+mod Heights
+mod Deep
