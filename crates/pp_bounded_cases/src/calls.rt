@@ -94,7 +94,7 @@ fn add_constant(
 {
     let _table = table;
     let _trees = &trees.ok;
-    let value = u64::from(number(words.pop())?);
+    let value = u64::from(number(words)?);
     let digits = pp_bits::constant(circuit, value, 32)?;
     symbols.push(Symbol::Word(Word::from_lits(&digits)))?;
     Ok(())
@@ -112,7 +112,7 @@ fn add_unknown(
     requires room { HasRoom trees.old circuit.old }
     ensures { OnOk result (AreHeld table.now trees.new circuit.new symbols.new) }
 {
-    let of = DataId(number(words.pop())?);
+    let of = DataId(number(words)?);
     let tree = trees.unknown(circuit, table, of, 0)?;
     symbols.push(Symbol::Tree(tree))?;
     Ok(())
@@ -131,7 +131,7 @@ fn add_construct(
     requires room { HasRoom trees.old circuit.old }
     ensures { OnOk result (AreHeld table.now trees.new circuit.new symbols.new) }
 {
-    let ctor = CtorId(number(words.pop())?);
+    let ctor = CtorId(number(words)?);
     let fields = fields_for(trees, circuit, table, symbols.as_slice(), ctor, words)?;
     let tree = construct(trees, circuit, table, ctor, &fields)?;
     symbols.push(Symbol::Tree(tree))?;
@@ -308,7 +308,7 @@ fn field_at(
 fn ctor_at(table: &TypeTable, tree: &NamedTree, words: &mut Vec<&str>) -> Result<CtorId>
     ensures { IfOk result (λ c. IsCtorOf table.now c tree.now.of) }
 {
-    let ctor = CtorId(number(words.pop())?);
+    let ctor = CtorId(number(words)?);
     ensure!(is_ctor_of(table, ctor, tree.of), "no such constructor");
     Ok(ctor)
 }
@@ -317,7 +317,7 @@ fn ctor_at(table: &TypeTable, tree: &NamedTree, words: &mut Vec<&str>) -> Result
 fn place_at(table: &TypeTable, ctor: CtorId, words: &mut Vec<&str>) -> Result<u32>
     ensures { IfOk result (λ p. IsPlaceIn table.now ctor p) }
 {
-    let place = number(words.pop())?;
+    let place = number(words)?;
     ensure!(place < field_count(table, ctor), "no such field");
     Ok(place)
 }

@@ -18,50 +18,42 @@ pub struct Case {
 impl Case {
     /// The case of a line.
     pub fn read(alloc: Global, line: &str) -> Result<Case> {
-        let mut words = line.split_whitespace();
-        let of = number(words.next())?;
-        let height = number(words.next())?;
-        let left_chosen = number(words.next())? == 1;
         let mut numbers = Vec::new(alloc);
-        for word in words {
+        for word in line.split_whitespace() {
             numbers.push(word.parse::<i32>().context("a number")?)?;
         }
         numbers.reverse();
+        let (of, height) = (next(&mut numbers)?, next(&mut numbers)?);
         Ok(Case {
             of: DataId(of),
             height,
-            left_chosen,
+            left_chosen: next(&mut numbers)? == 1,
             numbers,
         })
     }
 }
 
-/// The number that the word spells.
-pub fn number(word: Option<&str>) -> Result<u32> {
-    let number = word
-        .context("a number")?
-        .parse::<u32>()
-        .context("a number")?;
-    Ok(number)
+/// The last of the numbers, which is taken off.
+fn next(numbers: &mut Vec<i32>) -> Result<u32> {
+    u32::try_from(numbers.pop().unwrap_or(-1)).context("a number")
+}
+
+/// The number that the last word spells, which is taken off.
+pub fn number(words: &mut Vec<&str>) -> Result<u32> {
+    words.pop().unwrap_or("").parse::<u32>().context("a number")
 }
 
 /// Adds the numbers that spell the value, each behind a blank.
 pub fn spell(line: &mut CaseLine, value: &Value) {
+    line.put(" ");
     match value {
-        Value::Int(n) => push_number(line, *n),
-        Value::Bool(b) => push_number(line, i32::from(*b)),
+        Value::Int(n) => line.put(n),
+        Value::Bool(b) => line.put(u8::from(*b)),
         Value::Tree(c, fields) => {
-            line.put(" ");
             line.put(c.0);
             for field in fields.as_slice() {
                 spell(line, field);
             }
         }
     }
-}
-
-/// Adds a number behind a blank.
-fn push_number(line: &mut CaseLine, number: i32) {
-    line.put(" ");
-    line.put(number);
 }

@@ -40,11 +40,8 @@ impl Found {
         spell(line, &self.left);
         line.put(" |");
         spell(line, &self.right);
-        line.put(" | ");
-        line.put(u8::from(self.same));
-        line.put(" ");
-        line.put(u8::from(self.below));
-        line.put(" |");
+        let (same, below) = (u8::from(self.same), u8::from(self.below));
+        line.put(format_args!(" | {same} {below} |"));
         spell(line, &self.merged);
     }
 }

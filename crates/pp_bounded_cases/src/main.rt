@@ -30,7 +30,6 @@
 //! counted by a script that makes the same circuits.
 #![tactic(auto)]
 
-mod asking;
 mod calls;
 mod case;
 mod found;
@@ -38,13 +37,13 @@ mod measuring;
 mod named;
 mod registers;
 mod showing;
-mod solving;
 mod trying;
 
 ghost use Rattle.pp_bounded_samples.specs.Sample.{IsSample};
 
 use anyhow::Result;
 use pp_bounded_samples::table::sample_types;
+use pp_bounded_samples::words::word;
 use pp_prog::TypeTable;
 use std::alloc::Global;
 use std::io::{BufRead, BufReader};
@@ -53,12 +52,10 @@ use std::io::{BufRead, BufReader};
 fn answer(alloc: Global, table: &TypeTable, line: &str) -> Result<String>
     requires { IsSample table.now }
 {
-    if line.starts_with("named ") {
-        named::answer(alloc, table, line)
-    } else if line.starts_with("lists ") || line.starts_with("wide ") {
-        measuring::measure(alloc, table, line)
-    } else {
-        trying::answer(alloc, table, line)
+    match word(line, 0) {
+        "named" => named::answer(alloc, table, line),
+        "lists" | "wide" => measuring::measure(alloc, table, line),
+        _ => trying::answer(alloc, table, line),
     }
 }
 

@@ -5,12 +5,13 @@ ghost use Rattle.pp_gate.specs.Circuit.{IsOf};
 ghost use Rattle.pp_bounded_samples.specs.Kept.{KeepsPair};
 ghost use Rattle.pp_bounded_samples.specs.Sample.{IsLow, IsSample};
 
-use anyhow::{Context, Result, bail, ensure};
+use anyhow::{Result, bail, ensure};
 use pp_bounded::Bounded;
 use pp_bounded_samples::pair::TreePair;
 use pp_bounded_samples::reading::read;
 use pp_bounded_samples::table::{LIST, WIDE, is_low};
 use pp_bounded_samples::trees::{below, equal, fresh, merge, unknown_pair};
+use pp_bounded_samples::words::{number, word};
 use pp_clause::{Assignment, Lit};
 use pp_gate::Circuit;
 use pp_prog::{DataId, TypeTable};
@@ -20,14 +21,9 @@ use std::alloc::Global;
 pub fn measure(alloc: Global, table: &TypeTable, line: &str) -> Result<String>
     requires { IsSample table.now }
 {
-    let mut words = line.split_whitespace();
-    let case = words.next().context("a case")?;
-    let call = words.next().context("a call")?;
-    let times = words.next().context("a number")?;
-    let times = times.parse::<u32>().context("a number")?;
     let mut gates = (0, 0);
-    for _ in 0..times {
-        gates = measured(alloc, table, case, call)?;
+    for _ in 0..number(line, 2, 0, u32::MAX)? {
+        gates = measured(alloc, table, word(line, 0), word(line, 1))?;
     }
     Ok(format!(in alloc; "{} gates, and {} more", gates.0, gates.1)?)
 }

@@ -8,8 +8,8 @@ ghost use Rattle.pp_bounded_cases.specs.Registers.{AreHeld};
 use crate::calls::call;
 use crate::case::number;
 use crate::registers::literal_at;
-use crate::solving::assignment;
 use anyhow::Result;
+use pp_bounded_samples::solving::assignment;
 use pp_case_line::CaseLine;
 use pp_clause::Lit;
 use pp_domain::{Symbol, Symbols};
@@ -24,7 +24,9 @@ use std::alloc::Global;
 pub fn answer(alloc: Global, table: &TypeTable, line: &str) -> Result<String>
     requires { IsSample table.now }
 {
-    let mut words = words_of(alloc, line)?;
+    let mut words: Vec<&str> = line.split_whitespace().collect(alloc)?;
+    words.reverse();
+    let _name = words.pop();
     let mut circuit = Circuit::new(alloc)?;
     let mut trees = NamedTrees::over(&circuit);
     answer_in(alloc, &mut trees, &mut circuit, table, &mut words)
@@ -61,17 +63,6 @@ fn answer_in(
     Ok(answer.end()?)
 }
 
-/// The words of the line but the first, the last one first.
-fn words_of(alloc: Global, line: &str) -> Result<Vec<&str>> {
-    let mut words = Vec::new(alloc);
-    for word in line.split_whitespace() {
-        words.push(word)?;
-    }
-    words.reverse();
-    let _name = words.pop();
-    Ok(words)
-}
-
 /// Makes the call of the last word, or asks for what it asks, if there is one.
 fn next_call(
     trees: &mut NamedTrees,
@@ -96,7 +87,7 @@ fn next_call(
 /// `ask L B`: asks that the literal L be true where B is 1, and false where it is another number.
 fn ask(symbols: &[Symbol<NamedTree>], asked: &mut Vec<Lit>, words: &mut Vec<&str>) -> Result<()> {
     let lit = literal_at(symbols, words)?;
-    let truth = number(words.pop())? == 1;
+    let truth = number(words)? == 1;
     asked.push(if truth { lit } else { lit.negated() })?;
     Ok(())
 }
@@ -120,9 +111,6 @@ fn counted(
     call(trees, circuit, table, symbols, word, words)?;
     let more = circuit.gates().saturating_sub(gates);
     let seen = trees.expansions.len().saturating_sub(looks);
-    answer.put(more);
-    answer.put(" ");
-    answer.put(seen);
-    answer.put(", ");
+    answer.put(format_args!("{more} {seen}, "));
     Ok(())
 }

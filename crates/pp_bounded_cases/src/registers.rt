@@ -15,7 +15,7 @@ use pp_named_trees::NamedTree;
 pub fn symbol_at(symbols: &[Symbol<NamedTree>], words: &mut Vec<&str>) -> Result<Symbol<NamedTree>>
     ensures { IfOk result (λ x. IsRegister symbols.now x) }
 {
-    let place = number(words.pop())? as usize;
+    let place = number(words)? as usize;
     if place >= symbols.len() {
         bail!("no such symbol");
     }

@@ -8,15 +8,15 @@ ghost use Rattle.pp_bounded_samples.specs.Kept.{KeepsPair};
 ghost use Rattle.pp_bounded_samples.specs.Sample.{IsSample};
 ghost use Rattle.pp_bounded_cases.specs.Pair.{AreKept};
 
-use crate::asking::ask;
 use crate::case::Case;
 use crate::found::Found;
 use crate::showing::{show_parts, value_of};
-use crate::solving::assignment;
 use anyhow::{Result, ensure};
 use pp_bounded::{Bounded, BoundedTree};
+use pp_bounded_samples::asking::ask_all;
 use pp_bounded_samples::pair::TreePair;
 use pp_bounded_samples::reading::is_true;
+use pp_bounded_samples::solving::assignment;
 use pp_bounded_samples::table::is_low;
 use pp_bounded_samples::trees::{below, equal, fresh, merge, unknown_pair};
 use pp_case_line::CaseLine;
@@ -143,12 +143,13 @@ fn ask_both(
     requires { AreKept table.now domain.old circuit.old compared.now }
     ensures { OnOk result (AreKept table.now domain.new circuit.new compared.now) }
 {
+    let pair = [
+        Symbol::Tree(compared.pair.left),
+        Symbol::Tree(compared.pair.right),
+    ];
     let height = case.height.saturating_add(1);
-    let left = Symbol::Tree(compared.pair.left);
-    let right = Symbol::Tree(compared.pair.right);
     let numbers = &mut case.numbers;
-    ask(domain, circuit, table, &left, height, numbers, asked)?;
-    ask(domain, circuit, table, &right, height, numbers, asked)?;
+    ask_all(domain, circuit, table, &pair, height, numbers, asked)?;
     ensure!(numbers.is_empty(), "too many numbers");
     Ok(())
 }

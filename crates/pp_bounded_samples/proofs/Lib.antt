@@ -3,3 +3,4 @@ pub mod Sizes
 pub mod Keeping
 pub mod Going
 pub mod FieldReading
+pub mod Symbols

@@ -1,6 +1,6 @@
 //! The table of the samples.
 
-ghost use Rattle.std.specs.Prelude.{◌≡◌, ◌++◌, ◌∷◌, [], IfOk, IsTrue, OnOk, ◌^◌, ◌≤◌, ◌<◌, length};
+ghost use Rattle.std.specs.Prelude.{◌≡◌, ◌++◌, ◌∷◌, [], IfOk, IsTrue, OnOk, ◌^◌, ◌≤◌, ◌<◌, length, map};
 ghost use Rattle.pp_prog.specs.Table.{IsTable};
 ghost use Rattle.pp_bounded_samples.specs.Sample.{IsLow, IsSample, IsSmall, bare_ctors, ctor_of, datatype_of};
 ghost use Rattle.pp_bounded_samples.specs.Sample.{sample_ctors, sample_datatypes};
@@ -56,33 +56,37 @@ pub fn sample_types(alloc: Global) -> Result<TypeTable, NoMemory>
 fn datatypes(alloc: Global, name: &str) -> Result<Datatypes, NoMemory>
     ensures { IfOk result (λ r. r ≡ sample_datatypes name.now) }
 {
+    let blocks = [
+        (0, 2),
+        (2, 2),
+        (4, 3),
+        (7, 4),
+        (11, 2),
+        (13, 2),
+        (15, 2),
+        (17, BARE + 1),
+    ];
     let mut datatypes = Items::new(alloc);
-    add_datatype(alloc, &mut datatypes, name, 0, 2)?;
-    add_datatype(alloc, &mut datatypes, name, 2, 2)?;
-    add_datatype(alloc, &mut datatypes, name, 4, 3)?;
-    add_datatype(alloc, &mut datatypes, name, 7, 4)?;
-    add_datatype(alloc, &mut datatypes, name, 11, 2)?;
-    add_datatype(alloc, &mut datatypes, name, 13, 2)?;
-    add_datatype(alloc, &mut datatypes, name, 15, 2)?;
-    add_datatype(alloc, &mut datatypes, name, 17, BARE + 1)?;
+    add_datatypes(alloc, &mut datatypes, name, &blocks)?;
     Ok(datatypes)
 }
 
-/// Adds a datatype of so many constructors.
-fn add_datatype(
+/// Adds a datatype for each first constructor and how many there are.
+fn add_datatypes(
     alloc: Global,
     datatypes: &mut Datatypes,
     name: &str,
-    first: u32,
-    count: u32,
+    blocks: &[(u32, u32)],
 ) -> Result<(), NoMemory>
-    ensures { OnOk result (datatypes.new ≡ datatypes.old ++ datatype_of name.now first count ∷ []) }
+    ensures { OnOk result (datatypes.new ≡ datatypes.old ++ map (λ b. datatype_of name.now b.0 b.1) blocks.now) }
 {
-    datatypes.push(Datatype {
-        name: Name::of(alloc, name)?,
-        first: CtorId(first),
-        count,
-    })?;
+    for (first, count) in blocks {
+        datatypes.push(Datatype {
+            name: Name::of(alloc, name)?,
+            first: CtorId(*first),
+            count: *count,
+        })?;
+    }
     Ok(())
 }
 

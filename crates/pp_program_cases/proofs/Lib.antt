@@ -1,2 +1,1 @@
 mod Frames
-mod Symbols

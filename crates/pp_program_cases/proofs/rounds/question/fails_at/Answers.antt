@@ -1,4 +1,4 @@
-use Rattle.pp_program_cases.proofs.Symbols.{all_of_sort_later}
+use Rattle.pp_bounded_samples.proofs.Symbols.{all_of_sort_later}
 use Rattle.pp_program_cases.proofs.rounds.question.fails_at.Goals as goal
 
 pub ask_all-requires-clause-symbols : goal.ask_all-requires-clause-symbols

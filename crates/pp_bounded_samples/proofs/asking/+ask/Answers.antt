@@ -1,5 +1,5 @@
 use Rattle.pp_bounded_samples.proofs.Going.{goes_more}
-use Rattle.pp_bounded_cases.proofs.asking.+ask.Goals as goal
+use Rattle.pp_bounded_samples.proofs.asking.+ask.Goals as goal
 
 pub ask_tree-loop-place-preserved : goal.ask_tree-loop-place-preserved
 ask_tree-loop-place-preserved t c =

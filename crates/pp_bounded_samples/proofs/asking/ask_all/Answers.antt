@@ -1,7 +1,7 @@
 use Rattle.std.proofs.Common.{arith}
 use Rattle.pp_bounded_samples.proofs.Going.{goes_more}
-use Rattle.pp_program_cases.proofs.Symbols.{symbol_at}
-use Rattle.pp_program_cases.proofs.rounds.asking.ask_all.Goals as goal
+use Rattle.pp_bounded_samples.proofs.Symbols.{symbol_at}
+use Rattle.pp_bounded_samples.proofs.asking.ask_all.Goals as goal
 
 pub ask-requires-clause-symbol : goal.ask-requires-clause-symbol
 ask-requires-clause-symbol c =

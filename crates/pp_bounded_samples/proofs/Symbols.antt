@@ -1,6 +1,6 @@
 -- What keeps the trees and literals of a domain keeps its symbols.
-use Rattle.std.proofs.Common.{◌≡◌, ◌<◌, ℕ, List, All, length, slice_index_or, subst, sym}
-use Rattle.std.proofs.lemmas.List.Elements.{All-weaker}
+use Rattle.std.proofs.Common.{◌≡◌, ◌<◌, ℕ, List, [], ◌∷◌, All, length, refl, slice_index_or, subst, sym}
+use Rattle.std.proofs.lemmas.List.Elements.{All-cons, All-nil, All-weaker}
 use Rattle.pp_prog.specs.declared.sort.Sort.{Sort}
 use Rattle.pp_prog.specs.declared.sort.Sort.TheVariants as sort
 use Rattle.pp_prog.specs.declared.types.TypeTable.{TypeTable}
@@ -11,6 +11,7 @@ use Rattle.pp_domain.specs.declared.symbol.Symbol.{Symbol}
 use Rattle.pp_domain.specs.declared.symbol.Symbol.TheVariants as symbol
 use Rattle.pp_bounded_trees.specs.declared.arena.BoundedTree.{BoundedTree}
 use Rattle.pp_bounded_trees.specs.declared.arena.Trees.{Trees}
+use Rattle.pp_bounded_trees.specs.Arena.{TreeFits}
 use Rattle.pp_bounded_trees.specs.Meaning.{bounded_sense}
 use Rattle.pp_bounded_samples.specs.Kept.{Goes, IsOfSort}
 
@@ -37,3 +38,15 @@ module _ (types : TypeTable) (d e : Trees) (gs hs : List Gate) (goes : Goes type
   pub symbol_at : (xs : List (Symbol BoundedTree)) (k : ℕ) (x : Symbol BoundedTree) → All (IsOfSort d gs) xs
       → k < length xs → x ≡ slice_index_or xs k x → IsOfSort e hs x
   symbol_at xs k x all within is = of_sort_later x (subst (IsOfSort d gs) (sym is) (all k x within))
+
+module _ (d : Trees) (gs : List Gate) where
+  -- a kept tree is a symbol of the domain
+  tree_of_sort : (t : BoundedTree) → TreeFits d.nodes (length d.nodes) t → IsOfSort d gs (symbol.Tree t)
+  tree_of_sort t node = record { sort = sort.Tree t.of; is = (node, refl) }
+
+  -- so are two
+  pub trees_of_sort : (t u : BoundedTree) → TreeFits d.nodes (length d.nodes) t → TreeFits d.nodes (length d.nodes) u
+      → All (IsOfSort d gs) (symbol.Tree t ∷ symbol.Tree u ∷ [])
+  trees_of_sort t u left right =
+      All-cons (IsOfSort d gs) (symbol.Tree t) (symbol.Tree u ∷ []) (tree_of_sort t left)
+      (All-cons (IsOfSort d gs) (symbol.Tree u) [] (tree_of_sort u right) (All-nil (IsOfSort d gs)))

@@ -1,5 +1,5 @@
 use Rattle.std.proofs.Common.{arith, refl}
-use Rattle.pp_program_cases.proofs.asked.formula_of_round.Goals as goal
+use Rattle.pp_program_cases.proofs.formula.formula_of_round.Goals as goal
 
 pub formula_of-requires-clause-size : goal.formula_of-requires-clause-size
 formula_of-requires-clause-size c = omega (arith, c.in_ok-question.ensures.question.small, c.requires.size)

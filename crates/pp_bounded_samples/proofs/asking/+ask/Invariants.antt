@@ -1,6 +1,6 @@
 use Rattle.std.proofs.Common.{◌+◌, ◌*◌}
 use Rattle.pp_bounded_samples.specs.Kept.{Goes}
-use Rattle.pp_bounded_cases.proofs.asking.+ask.Given as goal
+use Rattle.pp_bounded_samples.proofs.asking.+ask.Given as goal
 
 abbrev pub decreases-ask : goal.decreases-ask
 decreases-ask l = 2 * l.height

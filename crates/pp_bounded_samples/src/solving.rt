@@ -22,12 +22,12 @@ pub fn assignment(alloc: Global, circuit: &Circuit, asked: &[Lit]) -> Result<Opt
 {
     ensure!(circuit.gates() <= MOST, "too many gates");
     let clauses = circuit.clauses()?;
-    match Clause::of(alloc, asked)? {
-        Some(_) => match solve(alloc, &clauses, asked, &[], LEMMAS)? {
-            Answer::Sat(a) => Ok(Some(a)),
-            Answer::Unsat(_) => Ok(None),
-            Answer::Spent(_) => bail!("the lemmas are spent"),
-        },
-        None => Ok(None),
+    if Clause::of(alloc, asked)?.is_none() {
+        return Ok(None);
+    }
+    match solve(alloc, &clauses, asked, &[], LEMMAS)? {
+        Answer::Sat(a) => Ok(Some(a)),
+        Answer::Unsat(_) => Ok(None),
+        Answer::Spent(_) => bail!("the lemmas are spent"),
     }
 }
