@@ -10,8 +10,8 @@
 # Ten crates are tried at once, so that each processor has an edit, or the proof that a crate's edits begin with.
 #
 # edits/TRIED has a line for each crate: its name, the sum of its sources, its edits and the toolchain's logic when they
-# were last tried, and the edits that were refused then. Toolchains of one logic refuse alike: what is false is proved by
-# none. A crate stays untried where a try came to no verdict. The lines of
+# were last tried, and the edits that were refused then. Toolchains of one logic may differ in what their tactics find,
+# but what is false is proved by none. A crate stays untried where a try came to no verdict. The lines of
 # ten crates are written as soon as they are done, so a run that was stopped is taken up by the next. Libraries that
 # were built in this checkout aren't built again.
 set -u
