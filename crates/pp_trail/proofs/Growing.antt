@@ -18,7 +18,7 @@ use Rattle.pp_trail.specs.declared.step.Step.{Step}
 use Rattle.pp_trail.specs.declared.marks.Mark.{Mark}
 use Rattle.pp_clause.specs.Bound.{IsUpTo}
 use Rattle.pp_trail.specs.Trail.{lits, StandsAt, IsReason, IsTrail, Extends}
-use Rattle.pp_trail.specs.Marks.{mark_from, sign_of, ArePlaces, AreSigns}
+use Rattle.pp_trail.specs.Marks.{mark_from, ArePlaces}
 use Rattle.pp_trail.proofs.Places.{AreDistinct, IsAbsent, distinct_tail, distinct_head}
 use Rattle.pp_trail.proofs.Marking.{mark_absent}
 
@@ -175,21 +175,6 @@ shows_push marks ss s place h lt a p = record {
   ];
 }
 
-pub signs_push : (signs : List (Option Bool)) (ss : List Step) (s : Step) → AreSigns signs ss
-    → s.lit.var < length signs → IsAbsent s.lit.var ss
-    → AreSigns (set signs s.lit.var (Some s.lit.positive)) (ss ++ s ∷ [])
-signs_push signs ss s h lt a = record {
-  shown = λ x in'. elim (cases_eq x s.lit.var) [
-    | inr ne ↦ get_or-set_other signs s.lit.var x (Some s.lit.positive) None ne
-        ∙ h.shown x (let e = length-set signs s.lit.var (Some s.lit.positive) in omega arith)
-        ∙ ap sign_of (sym (mark_push_other 0 ss s x (λ e. ne (sym e))))
-    | inl e ↦ ap (λ (n : ℕ). get_or (set signs s.lit.var (Some s.lit.positive)) n None) e
-        ∙ get_or-set_same signs s.lit.var (Some s.lit.positive) None lt
-        ∙ ap sign_of (sym (mark_push_same 0 ss s a))
-        ∙ ap (λ (n : ℕ). sign_of (mark_from 0 (ss ++ s ∷ []) n)) (sym e)
-  ];
-}
-
 -- fewer steps
 pub lits_take : (n : ℕ) (ss : List Step) → lits (take n ss) ≡ take n (lits ss)
 lits_take n ss = sym (take-map (λ t. t.lit) n ss)
@@ -224,20 +209,6 @@ shows_pop marks front s h lt a = record {
         ∙ get_or-set_same marks s.lit.var None None lt
         ∙ sym (mark_absent 0 front s.lit.var a)
         ∙ ap (mark_from 0 front) (sym e)
-  ];
-}
-
-pub signs_pop : (signs : List (Option Bool)) (front : List Step) (s : Step) → AreSigns signs (front ++ s ∷ [])
-    → s.lit.var < length signs → IsAbsent s.lit.var front → AreSigns (set signs s.lit.var None) front
-signs_pop signs front s h lt a = record {
-  shown = λ x in'. elim (cases_eq x s.lit.var) [
-    | inr ne ↦ get_or-set_other signs s.lit.var x None None ne
-        ∙ h.shown x (let e = length-set signs s.lit.var None in omega arith)
-        ∙ ap sign_of (mark_push_other 0 front s x (λ e. ne (sym e)))
-    | inl e ↦ ap (λ (n : ℕ). get_or (set signs s.lit.var None) n None) e
-        ∙ get_or-set_same signs s.lit.var None None lt
-        ∙ ap sign_of (sym (mark_absent 0 front s.lit.var a))
-        ∙ ap (λ (n : ℕ). sign_of (mark_from 0 front n)) (sym e)
   ];
 }
 

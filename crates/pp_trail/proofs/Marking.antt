@@ -1,20 +1,16 @@
 -- What the marks of a trail say of its literals.
-use Rattle.std.proofs.Common.{ℕ, suc, ◌+◌, ◌≡◌, ◌≢◌, ◌<◌, ◌≤◌, Bool, true, false, cond, List, [], ◌∷◌, Option, Some}
-use Rattle.std.proofs.Common.{None, sym, refl, ap, ◌∙◌, subst, inl, inr, arith, eqb, not}
-use Rattle.std.specs.Bool.{beq}
-use Rattle.std.specs.Option.{option_map}
+use Rattle.std.proofs.Common.{ℕ, suc, ◌+◌, ◌≡◌, ◌≢◌, ◌<◌, ◌≤◌, List, [], ◌∷◌, Some}
+use Rattle.std.proofs.Common.{None, sym, refl, ◌∙◌, subst, inl, inr, arith, eqb}
 use Rattle.std.proofs.lemmas.Bool.{cond-true, cond-false, ne_eqb}
 use Rattle.std.proofs.lemmas.Bool.Decides.{eqb_tells}
 use Rattle.std.proofs.lemmas.List.Elements.{All-nil, All-cons, All-head, All-tail}
-use Rattle.pp_clause.specs.Literal.{Literal, opposite}
-use Rattle.pp_clause.specs.Clause.{has}
-use Rattle.pp_clause.proofs.Has.{has-All, beq-same, has-cases, has-there, has-at_head, same_bool, same_var_cases}
-use Rattle.pp_clause.proofs.Has.{false_not_true}
+use Rattle.pp_clause.specs.Literal.{Literal}
+use Rattle.pp_clause.proofs.Has.{has-All}
 use Rattle.pp_trail.specs.declared.step.Step.{Step}
 use Rattle.pp_trail.specs.declared.marks.Mark.{Mark}
-use Rattle.pp_trail.specs.Trail.{lits, StandsAt, IsPlaceOf, IsTrail, value_in}
-use Rattle.pp_trail.specs.Marks.{mark_from, mark_value, sign_of}
-use Rattle.pp_trail.proofs.Places.{AreDistinct, IsAbsent, distinct_tail, distinct_head, absent_lits, absent_from_lits}
+use Rattle.pp_trail.specs.Trail.{lits, StandsAt, IsPlaceOf, IsTrail}
+use Rattle.pp_trail.specs.Marks.{mark_from}
+use Rattle.pp_trail.proofs.Places.{IsAbsent, absent_from_lits}
 
 pub mark_absent : (from : ℕ) (ss : List Step) (x : ℕ) → IsAbsent x ss → mark_from from ss x ≡ None
 mark_absent from [] x a = refl
@@ -74,68 +70,6 @@ mark_found from (s ∷ ss) x m h =
           })
     ]
 
--- a literal of another variable says nothing
-has_skip : (x : Literal) (xs : List Literal) (m : Literal) → (x.var ≡ m.var → ⊥) → has (x ∷ xs) m ≡ has xs m
-has_skip x xs m n = same_bool (has (x ∷ xs) m) (has xs m)
-    (λ h. elim (has-cases x xs m h) [ inl e ↦ absurd (n (ap (λ (z : Literal). z.var) (sym e))) | inr k ↦ k ])
-    (λ h. has-there x xs m h)
-
-not_there : (b : Bool) → (b ≡ true → ⊥) → b ≡ false
-not_there true n = absurd (n refl)
-not_there false n = refl
-
-beq_opposite : (b : Bool) → beq (not b) b ≡ false
-beq_opposite true = refl
-beq_opposite false = refl
-
--- the value of a literal that stands there, and of one whose negation does
-pub value_true : (set : List Literal) (l : Literal) → has set l ≡ true → value_in set l ≡ Some true
-value_true set l h = cond-true (has set l) (Some true) _ h
-
-pub value_false : (set : List Literal) (l : Literal) → has set l ≡ false → has set (opposite l) ≡ true
-    → value_in set l ≡ Some false
-value_false set l h k = cond-false (has set l) (Some true) _ h ∙ cond-true (has set (opposite l)) (Some false) None k
-
--- values by the marks
-pub value_shown : (from : ℕ) (ss : List Step) (l : Literal) → AreDistinct ss
-    → value_in (lits ss) l ≡ mark_value (mark_from from ss l.var) l.positive
-value_shown from [] l d = refl
-value_shown from (s ∷ ss) l d =
-    elim (eqb_tells s.lit.var l.var) [
-      | inr p ↦ (
-          let mark : mark_from from (s ∷ ss) l.var ≡ mark_from (suc from) ss l.var =
-          cond-false (eqb s.lit.var l.var) _ (mark_from (suc from) ss l.var) p.0 in
-          ap (λ (b : Bool). cond b (Some true) (cond (has (lits (s ∷ ss)) (opposite l)) (Some false) None))
-          (has_skip s.lit (lits ss) l p.1)
-          ∙ ap (λ (b : Bool). cond (has (lits ss) l) (Some true) (cond b (Some false) None))
-          (has_skip s.lit (lits ss) (opposite l) p.1)
-          ∙ value_shown (suc from) ss l (distinct_tail s ss d)
-          ∙ ap (λ (o : Option Mark). mark_value o l.positive) (sym mark))
-      | inl p ↦ (
-          let mark : mark_from from (s ∷ ss) l.var ≡ Some (record { positive = s.lit.positive; place = from }) =
-          cond-true (eqb s.lit.var l.var) _ (mark_from (suc from) ss l.var) p.0 in
-          let by_mark : Some (beq s.lit.positive l.positive) ≡ mark_value (mark_from from (s ∷ ss) l.var) l.positive =
-          ap (λ (o : Option Mark). mark_value o l.positive) (sym mark) in
-          elim (same_var_cases s.lit l p.1) [
-            | inl e ↦ (
-                let sign : true ≡ beq s.lit.positive l.positive =
-                sym (ap (λ (z : Literal). beq z.positive l.positive) e ∙ beq-same l.positive) in
-                value_true (lits (s ∷ ss)) l (has-at_head s.lit (lits ss) l (sym e)) ∙ ap (λ (b : Bool). Some b) sign
-                ∙ by_mark)
-            | inr e ↦ (
-                let sign : false ≡ beq s.lit.positive l.positive =
-                sym (ap (λ (z : Literal). beq z.positive l.positive) e ∙ beq_opposite l.positive) in
-                let free : has (lits (s ∷ ss)) l ≡ false =
-                not_there (has (lits (s ∷ ss)) l) (λ h. elim (has-cases s.lit (lits ss) l h) [
-                  | inl f ↦ false_not_true (sign ∙ ap (λ (z : Literal). beq z.positive l.positive) (sym f)
-                      ∙ beq-same l.positive)
-                  | inr k ↦ absent_lits s.lit.var ss l (distinct_head s ss d) k (sym p.1)
-                ]) in
-                value_false (lits (s ∷ ss)) l free (has-at_head s.lit (lits ss) (opposite l) (sym e))
-                ∙ ap (λ (b : Bool). Some b) sign ∙ by_mark)
-          ])
-    ]
-
 -- the place by the mark
 pub place_shown : (ss : List Step) (x : ℕ) (m : Mark) → Some m ≡ mark_from 0 ss x → IsPlaceOf ss x m.place
 place_shown ss x m e =
@@ -152,8 +86,3 @@ pub mark_past : (cs : List (List Literal)) (vars : ℕ) (ss : List Step) (x : �
 mark_past cs vars ss x t lt = mark_absent 0 ss x (absent_from_lits x ss (λ m h e.
     let le : m.var ≤ vars = has-All (λ l. l.var ≤ vars) (lits ss) m t.up_to h in
     absurd (omega arith)))
-
--- a mark's sign says as much of a literal as the mark
-pub value_by_sign : (o : Option Mark) (p : Bool) → mark_value o p ≡ option_map (λ s. beq s p) (sign_of o)
-value_by_sign None p = refl
-value_by_sign (Some m) p = refl

@@ -10,6 +10,7 @@
 pub mod marks;
 pub mod step;
 pub mod trail;
+mod truth;
 
 pub use marks::Mark;
 pub use std::alloc::AllocError as NoMemory;

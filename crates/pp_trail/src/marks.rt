@@ -1,7 +1,4 @@
 //! A trail by variable, for look-ups.
-ghost use Rattle.std.specs.Prelude.{◌≡◌, ◌<◌, length, slice_index_or, None};
-ghost use Rattle.pp_trail.specs.Marks.{mark_value};
-
 use pp_clause::Lit;
 
 /// How a variable stands in a trail.

@@ -1,13 +1,16 @@
 //! A trail over clauses.
 ghost use Rattle.std.specs.Prelude.{ℕ, ◌≡◌, ◌≢◌, ◌+◌, ◌-◌, ◌^◌, ◌<◌, ◌≤◌, [], ◌∷◌, ◌++◌, None};
 ghost use Rattle.std.specs.Prelude.{length, take, All, IfSome, IfNone, IfOk, OnOk, OnErr};
-ghost use Rattle.pp_trail.specs.Marks.{mark_from, sign_of, ArePlaces};
+ghost use Rattle.pp_clause.specs.Literal.{opposite};
+ghost use Rattle.pp_clause.specs.Clause.{has};
 ghost use Rattle.pp_clause.specs.Bound.{IsUpTo};
+ghost use Rattle.pp_trail.specs.Marks.{mark_from, truth_of, ArePlaces};
 ghost use Rattle.pp_trail.specs.Trail.{lits, IsReason, IsTrail, value_in, IsPlaceOf};
 
 use crate::NoMemory;
 use crate::marks::Mark;
 use crate::step::Step;
+use crate::truth::Truth;
 use pp_clause::{Clause, Clauses, Lit};
 use std::alloc::Global;
 use std::marker::Model;
@@ -20,8 +23,8 @@ pub struct Trail {
     steps: Vec<Step>,
     // by variable; there are one more than the greatest variable
     marks: Vec<Option<Mark>>,
-    // by variable, the signs of the marks alone: propagation reads these, and they take a sixth of the memory
-    signs: Vec<Option<bool>>,
+    // by literal: propagation reads these, and they take a sixth of the memory of the marks
+    truths: Vec<Truth>,
     vars: u32,
 }
 
@@ -35,7 +38,7 @@ impl Model for Trail {
     ghost use Rattle.std.specs.Prelude.{◌≡◌, ◌+◌, ◌≤◌, All, vec_len, vec_capacity};
     ghost use Rattle.pp_trail.specs.Marks.{IsSound};
 
-    ghost invariant = { λ s. IsSound s.clauses s.steps.items s.marks.items s.signs.items s.vars
+    ghost invariant = { λ s. IsSound s.clauses s.steps.items s.marks.items s.truths.items s.vars
         (vec_capacity s.steps) };
 }
 
@@ -48,12 +51,12 @@ impl Trail {
         let clauses = copy_of(alloc, clauses)?;
         let steps = Vec::with_capacity(alloc, vars as usize)?;
         let marks = vec![in alloc; None; vars as usize + 1]?;
-        let signs = vec![in alloc; None; vars as usize + 1]?;
+        let truths = vec![in alloc; Truth::Open; 2 * vars as usize + 2]?;
         Ok(Trail {
             clauses,
             steps,
             marks,
-            signs,
+            truths,
             vars,
         })
     }
@@ -118,10 +121,25 @@ impl Trail {
     pub fn value(&self, lit: Lit) -> Option<bool>
         ensures { result ≡ value_in (lits self.now.steps) lit }
     {
-        match self.sign(lit.var()) {
-            Some(positive) => Some(positive == lit.is_positive()),
-            None => None,
+        match self.truth(lit) {
+            Truth::Open => None,
+            Truth::True => Some(true),
+            Truth::False => Some(false),
         }
+    }
+
+    /// Whether the trail makes the literal true.
+    pub fn is_true(&self, lit: Lit) -> bool
+        ensures { result ≡ has (lits self.now.steps) lit }
+    {
+        matches!(self.truth(lit), Truth::True)
+    }
+
+    /// Whether the trail makes the literal false.
+    pub fn is_false(&self, lit: Lit) -> bool
+        ensures { result ≡ has (lits self.now.steps) (opposite lit) }
+    {
+        matches!(self.truth(lit), Truth::False)
     }
 
     /// The place of the variable's step in the trail, from 0. `None` where the variable isn't in the trail.
@@ -156,15 +174,16 @@ impl Trail {
         }
     }
 
-    /// Which sign the variable has in the trail.
-    fn sign(&self, var: u32) -> Option<bool>
-        ensures value { result ≡ sign_of (mark_from 0 self.now.steps var) }
+    /// What the trail says of the literal.
+    fn truth(&self, lit: Lit) -> Truth
+        ensures value { truth_of result ≡ value_in (lits self.now.steps) lit }
         ensures trail { IsTrail self.now.clauses self.now.vars self.now.steps }
     {
-        if (var as usize) < self.signs.len() {
-            self.signs[var as usize]
+        let index = lit.index();
+        if index < self.truths.len() {
+            self.truths[index]
         } else {
-            None
+            Truth::Open
         }
     }
 
@@ -177,16 +196,20 @@ impl Trail {
         ensures value { self.new ≡ record self.old { steps = self.old.steps ++ step ∷ [] } }
         ensures room { length self.old.steps < self.old.vars }
     {
-        let var = step.lit.var();
+        let lit = step.lit;
+        let var = lit.var();
+        let itself = lit.index();
+        let opposite = lit.negated().index();
         let mark = Mark {
-            positive: step.lit.is_positive(),
+            positive: lit.is_positive(),
             place: self.steps.len() as u32,
         };
         let pushed = self.steps.push(step);
         prove!(pushed.is_ok());
         let _ = pushed;
         self.marks[var as usize] = Some(mark);
-        self.signs[var as usize] = Some(mark.positive);
+        self.truths[itself] = Truth::True;
+        self.truths[opposite] = Truth::False;
     }
 
     /// Takes the last step away.
@@ -195,9 +218,13 @@ impl Trail {
         ensures { self.new ≡ record self.old { steps = take (length self.old.steps - 1) self.old.steps } }
     {
         if let Some(step) = self.steps.pop() {
-            let var = step.lit.var();
+            let lit = step.lit;
+            let var = lit.var();
+            let itself = lit.index();
+            let opposite = lit.negated().index();
             self.marks[var as usize] = None;
-            self.signs[var as usize] = None;
+            self.truths[itself] = Truth::Open;
+            self.truths[opposite] = Truth::Open;
         }
     }
 }

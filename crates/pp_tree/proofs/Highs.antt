@@ -1,12 +1,11 @@
 -- The height of a unit is that of its highest root.
-use Rattle.std.proofs.Common.{◌≡◌, ℕ, ◌+◌, ◌<◌, ◌≤◌, max, map, arith, List, [], ◌∷◌, ◌++◌, refl, ap, sym, ◌∙◌, subst}
-use Rattle.std.proofs.Common.{Bool, true, false, cond, Option, Some, None, MatchOption, inl, inr}
+use Rattle.std.proofs.Common.{◌≡◌, ℕ, ◌<◌, ◌≤◌, max, map, arith, List, [], ◌∷◌, ◌++◌, refl, ap, ◌∙◌, subst}
+use Rattle.std.proofs.Common.{Bool, true, false, cond, Option, Some, None, MatchOption}
 use Rattle.std.specs.Prelude.{nat_lt, flat_map}
-use Rattle.std.proofs.lemmas.Bool.{cases_lt}
 use Rattle.std.proofs.lemmas.Bool.Decides.{nat_tests}
-use Rattle.pp_tree.specs.Height.{highest, height, type_height, written_height, param_height, class_height, post_height}
+use Rattle.pp_tree.specs.Height.{highest, written_height, class_height, post_height}
 use Rattle.pp_tree.specs.Height.{def_height, decl_height, unit_height}
-use Rattle.pp_tree.specs.Plain.{TypeTree, Tree, ParamTree, ClassTree, PostTree, DefTree, DeclTree, root, ctor, other}
+use Rattle.pp_tree.specs.Plain.{TypeTree, ClassTree, PostTree, DefTree, DeclTree, root, ctor, other}
 use Rattle.pp_tree.specs.Plain.{def, UnitTree}
 use Rattle.pp_tree.specs.Roots.{Root, expr_root, type_root, param_root, written_roots, class_roots, post_roots}
 use Rattle.pp_tree.specs.Roots.{def_roots, decl_roots, unit_roots, too_high}

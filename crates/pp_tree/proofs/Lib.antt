@@ -1,5 +1,1 @@
-pub mod Folded
-mod Highest
-mod Heights
 mod Highs
-mod Deep

@@ -1,8 +1,8 @@
 -- How many nodes of expression a tree has, and how many cases a match. Source: own.
-use Rattle.std.specs.Prelude.{ℕ, zero, suc, ◌+◌, ◌*◌, ◌<◌, List, [], ◌∷◌, Option, Some, None}
+use Rattle.std.specs.Prelude.{ℕ, ◌+◌, ◌*◌, ◌<◌, List, [], ◌∷◌, Option, Some, None}
 use Rattle.pp_tree.specs.Plain.{Tree, int, bool, name, apply, field, unary, binary, choice, matching, val_in, assert_in}
 use Rattle.pp_tree.specs.Plain.{Trees, no_trees, more_trees, CaseTrees, no_cases, plain_case, guarded_case, PostTree}
-use Rattle.pp_tree.specs.Plain.{DeclTree, root, ctor, other, def, UnitTree}
+use Rattle.pp_tree.specs.Plain.{DeclTree, def, UnitTree}
 
 abbrev mutual
   pub nodes : Tree → ℕ

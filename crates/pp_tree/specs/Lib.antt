@@ -1,7 +1,6 @@
 pub mod Count
 pub mod Height
 pub mod Offsets
-pub mod Parts
 pub mod Plain
 pub mod Roots
 pub mod Shown

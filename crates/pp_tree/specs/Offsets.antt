@@ -4,7 +4,7 @@ use Rattle.pp_tree.specs.Plain.{TypeTree, type_text, TypeTrees, no_types, more_t
 use Rattle.pp_tree.specs.Plain.{bool_pattern, ctor_pattern, PatternTrees, no_patterns, more_patterns, Tree, int, bool}
 use Rattle.pp_tree.specs.Plain.{name, apply, field, unary, binary, choice, matching, val_in, assert_in, Trees, no_trees}
 use Rattle.pp_tree.specs.Plain.{more_trees, CaseTrees, no_cases, plain_case, guarded_case, ParamTree, ClassTree}
-use Rattle.pp_tree.specs.Plain.{PostTree, DefTree, DeclTree, root, ctor, other, def, ImportTree, UnitTree}
+use Rattle.pp_tree.specs.Plain.{PostTree, DeclTree, root, ctor, other, def, ImportTree, UnitTree}
 
 module _ (P : ℕ → Type 0) where
   abbrev mutual

@@ -2,12 +2,10 @@
 //!
 //! Children are slices and texts of the arena, so a unit can't outlive the arena's reset. Values that lie in an arena
 //! hold pointers, so contracts speak of the plain tree that each stands for: `specs/Plain.antt` has the plain trees,
-//! `specs/Shown.antt` says which one a value of the arena stands for, and `specs/Height.antt` how high it is.
+//! `specs/Shown.antt` says which one a value of the arena stands for, and `specs/Height.antt` how high it is. How trees
+//! are built stands in `pp_tree_build`.
 #![tactic(auto)]
 
-pub mod build;
-mod built;
-mod checked;
 mod class;
 mod expr;
 pub mod laws;
@@ -16,8 +14,6 @@ mod pattern;
 mod type_text;
 mod unit;
 
-pub use built::{Built, Node, TOO_HIGH};
-pub use checked::{Checked, Rooted};
 pub use class::{ClassDecl, Param};
 pub use expr::{Case, Expr, ExprKind};
 pub use operator::{BinaryOp, UnaryOp};

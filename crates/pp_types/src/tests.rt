@@ -2,31 +2,28 @@
 
 use super::*;
 use bumpalo::Bump;
-use pp_tree::build::{DefParts, def, int, type_text};
-use pp_tree::{Built, Decl, Expr, Unit};
+use pp_tree::Unit;
+use pp_tree_build::{DefParts, def, int, type_text};
 use std::alloc::{AllocError, Global};
 use std::test::Fail;
 
 /// A unit with the function `def NAME(): SORT = 1`.
 fn one<'a>(arena: &'a Bump, name: &'a str, sort: &'a str) -> Result<Unit<'a>, AllocError> {
     let result = type_text(arena, 11, sort, &[])?;
-    let body: Built<Expr<'a>> = int(21, 1);
-    let function = def(
-        arena,
-        DefParts {
-            at: 4,
-            name,
-            type_params: &[],
-            params: &[],
-            list: true,
-            result,
-            pre: &[],
-            measure: &[],
-            body,
-            post: None,
-        },
-    )?;
-    let decls = arena.try_alloc_slice_copy(&[Decl::Def(function.tree)])?;
+    let body = int(arena, 21, 1)?;
+    let parts = DefParts {
+        at: 4,
+        name,
+        type_params: &[],
+        params: &[],
+        list: true,
+        result,
+        pre: &[],
+        measure: &[],
+        body,
+        post: None,
+    };
+    let decls = arena.try_alloc_slice_copy(&[def(arena, &parts)?.tree])?;
     Ok(Unit {
         imports: &[],
         objects: &[],

@@ -9,7 +9,8 @@ use Rattle.pp_clause.proofs.Has.{false_not_true, has-push_last}
 use Rattle.pp_trail.specs.declared.step.Step.{Step}
 use Rattle.pp_trail.specs.Trail.{lits}
 use Rattle.pp_trail.proofs.Growing.{lits_push}
-use Rattle.pp_watch.specs.Lists.{code, watchers_of, with_watchers}
+use Rattle.pp_trail.specs.Marks.{code}
+use Rattle.pp_watch.specs.Lists.{watchers_of, with_watchers}
 use Rattle.pp_watch.specs.Watching.{clause_at, HasTrue, IsShort, IsGuarded, IsLevel, IsSound}
 use Rattle.pp_watch.specs.Looking.{IsChoice, IsBound, IsFree, IsCut}
 use Rattle.pp_watch.specs.Attaching.{Attaches, CanWatch, Settles}

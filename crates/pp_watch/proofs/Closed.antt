@@ -12,7 +12,7 @@ use Rattle.pp_trail.specs.declared.step.Step.{Step}
 use Rattle.pp_trail.specs.Trail.{lits, IsTrail}
 use Rattle.pp_trail.proofs.Places.{distinct_apart}
 use Rattle.pp_trail.proofs.Negated.{negated_at}
-use Rattle.pp_watch.specs.Lists.{code}
+use Rattle.pp_trail.specs.Marks.{code}
 use Rattle.pp_watch.specs.Watching.{clause_at, head_at, HasTrue, IsGuarded, IsWatching, IsVisited}
 use Rattle.pp_watch.specs.declared.head.Head.{Head}
 use Rattle.pp_watch.specs.declared.watcher.Watcher.{Watcher}

@@ -15,7 +15,7 @@ use Rattle.pp_clause.proofs.Has.{opposite_twice, false_not_true}
 use Rattle.pp_trail.specs.declared.step.Step.{Step}
 use Rattle.pp_trail.specs.Trail.{lits}
 use Rattle.pp_trail.proofs.Growing.{lits_push}
-use Rattle.pp_watch.specs.Lists.{code}
+use Rattle.pp_trail.specs.Marks.{code}
 use Rattle.pp_watch.specs.Watching.{clause_at, head_at, HasTrue, IsGuarded, AreGuarded, IsLevel, IsVisited}
 use Rattle.pp_watch.specs.Looking.{Watches, IsCut}
 use Rattle.pp_watch.specs.declared.head.Head.{Head}

@@ -1,8 +1,8 @@
--- Codes of literals, and which clauses stand in the lists of literals.
-use Rattle.std.proofs.Common.{ℕ, zero, suc, ◌+◌, ◌*◌, ◌-◌, ◌≡◌, ◌≢◌, ◌<◌, ◌≤◌, Bool, true, false, List, [], ◌∷◌, ◌++◌}
+-- Which clauses stand in the lists of literals.
+use Rattle.std.proofs.Common.{ℕ, zero, suc, ◌+◌, ◌-◌, ◌≡◌, ◌≢◌, ◌<◌, Bool, true, false, List, [], ◌∷◌, ◌++◌}
 use Rattle.std.proofs.Common.{sym}
 use Rattle.std.proofs.Common.{refl, ap, ◌∙◌, inl, inr, ◌⊎◌, arith, length, get_or, set, take, eqb, All}
-use Rattle.std.specs.Prelude.{◌||◌, if◌then◌else◌}
+use Rattle.std.specs.Prelude.{◌||◌}
 use Rattle.std.specs.List.{swap_remove}
 use Rattle.std.proofs.lemmas.Bool.{or_cases, or_left, or_right, eqb-true, eq-eqb}
 use Rattle.std.proofs.lemmas.List.{get_or-set_same, get_or-set_other, take-take, take-set-le, take_more}
@@ -10,27 +10,10 @@ use Rattle.std.proofs.lemmas.List.Elements.{All-set, All-take}
 use Rattle.std.proofs.lemmas.List.Folds.{list_any-append}
 use Rattle.std.proofs.lemmas.List.Sorted.{IsPermutation-swap_remove, list_any-IsPermutation}
 use Rattle.pp_clause.specs.Literal.{Literal}
-use Rattle.pp_clause.proofs.Has.{literal_of, false_not_true}
-use Rattle.pp_watch.specs.Lists.{code, watchers_of, with_watchers, is_among}
+use Rattle.pp_clause.proofs.Has.{false_not_true}
+use Rattle.pp_trail.specs.Marks.{code}
+use Rattle.pp_watch.specs.Lists.{watchers_of, with_watchers, is_among}
 use Rattle.pp_watch.specs.declared.watcher.Watcher.{Watcher}
-
-codes : (x y : ℕ) (s t : Bool) → 2 * x + (if s then 0 else 1) ≡ 2 * y + (if t then 0 else 1) → (x ≡ y) × (s ≡ t)
-codes x y true true e = (omega arith, refl)
-codes x y false false e = (omega arith, refl)
-codes x y true false e = absurd (omega arith)
-codes x y false true e = absurd (omega arith)
-
-pub same_code : (l m : Literal) → code l ≡ code m → l ≡ m
-same_code l m e =
-    let p = codes l.var m.var l.positive m.positive e in
-    literal_of l.var m.var l.positive m.positive p.0 p.1
-
-small : (x vars : ℕ) (s : Bool) → x ≤ vars → 2 * x + (if s then 0 else 1) < 2 * vars + 2
-small x vars true h = omega arith
-small x vars false h = omega arith
-
-pub code_within : (l : Literal) (vars : ℕ) → l.var ≤ vars → code l < 2 * vars + 2
-code_within l vars h = small l.var vars l.positive h
 
 -- a list that is written, and the others
 pub watchers_same : (lists : List (List Watcher)) (l m : Literal) (ws : List Watcher) → code m ≡ code l →

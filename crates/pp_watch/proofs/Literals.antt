@@ -17,7 +17,7 @@ use Rattle.pp_trail.proofs.Places.{AreDistinct, literal_at}
 use Rattle.pp_trail.proofs.Negated.{all_negated_from, negated_at}
 use Rattle.pp_watch.specs.declared.finding.Found.{Found}
 use Rattle.pp_watch.specs.declared.head.Head.{Head}
-use Rattle.pp_watch.specs.Lists.{code}
+use Rattle.pp_trail.specs.Marks.{code}
 use Rattle.pp_watch.specs.Looking.{IsBound, IsOther}
 
 take_next : (ls : List Literal) (i : ℕ) (l : Literal) → i < length ls → l ≡ get_or ls i l → take (i + 1) ls

@@ -13,14 +13,16 @@ use Rattle.pp_clause.proofs.Has.{false_not_true, has-push_last, has-All}
 use Rattle.pp_trail.specs.declared.step.Step.{Step}
 use Rattle.pp_trail.specs.Trail.{Trail, IsTrail, lits}
 use Rattle.pp_trail.proofs.Growing.{lits_push}
-use Rattle.pp_watch.specs.Lists.{code, watchers_of, with_watchers, is_among}
+use Rattle.pp_trail.specs.Marks.{code}
+use Rattle.pp_watch.specs.Lists.{watchers_of, with_watchers, is_among}
 use Rattle.pp_watch.specs.Watching.{clause_at, head_at, HasTrue, IsEntry, IsShort, IsGuarded, IsWatched, IsWatching}
 use Rattle.pp_watch.specs.Watching.{IsVisited, IsSound}
 use Rattle.pp_watch.specs.Looking.{Watches, AreLookedAt, Advances, IsBeside, IsNear, IsNumbered, IsOther}
 use Rattle.pp_watch.specs.declared.head.Head.{Head}
 use Rattle.pp_watch.specs.declared.watcher.Watcher.{Watcher}
 use Rattle.pp_watch.specs.declared.state.State.{State}
-use Rattle.pp_watch.proofs.Listed.{same_code, code_within, watchers_same, watchers_other, among_more_cases}
+use Rattle.pp_trail.proofs.Truths.{same_code, code_within}
+use Rattle.pp_watch.proofs.Listed.{watchers_same, watchers_other, among_more_cases}
 use Rattle.pp_watch.proofs.Listed.{take_removed}
 use Rattle.pp_watch.proofs.Watched.{same_or_not, no_head, watching_push, watching_set, watching_remove}
 use Rattle.pp_watch.proofs.Watched.{watching_write, listed_push}

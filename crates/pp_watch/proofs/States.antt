@@ -17,14 +17,14 @@ use Rattle.pp_trail.specs.Trail.{Trail, Extends, IsFalse, IsReason, lits}
 use Rattle.pp_trail.proofs.Places.{IsAbsent, absent_from_lits}
 use Rattle.pp_trail.proofs.Negated.{all_negated_from}
 use Rattle.pp_trail.proofs.Growing.{extends_push}
-use Rattle.pp_watch.specs.Lists.{code}
+use Rattle.pp_trail.specs.Marks.{code}
 use Rattle.pp_watch.specs.Watching.{clause_at, IsWatching}
 use Rattle.pp_watch.specs.Watching.{IsSound, Grows}
 use Rattle.pp_watch.specs.Looking.{IsClauseOf, IsCut}
 use Rattle.pp_watch.specs.declared.head.Head.{Head}
 use Rattle.pp_watch.specs.declared.watcher.Watcher.{Watcher}
 use Rattle.pp_watch.specs.declared.state.State.{State}
-use Rattle.pp_watch.proofs.Listed.{code_within}
+use Rattle.pp_trail.proofs.Truths.{code_within}
 use Rattle.pp_watch.proofs.Guarded.{has_after, visited_push, visited_cut}
 use Rattle.pp_watch.proofs.Closed.{same_literal}
 

@@ -8,13 +8,15 @@ use Rattle.std.proofs.lemmas.List.{get_or-set_same, get_or-set_other, get_or_app
 use Rattle.std.proofs.lemmas.List.Elements.{All-push, All-set, All-weaker, All-nil}
 use Rattle.pp_clause.specs.Literal.{Literal}
 use Rattle.pp_clause.specs.Clause.{has}
-use Rattle.pp_watch.specs.Lists.{code, watchers_of, with_watchers, is_among}
+use Rattle.pp_trail.specs.Marks.{code}
+use Rattle.pp_watch.specs.Lists.{watchers_of, with_watchers, is_among}
 use Rattle.pp_watch.specs.Watching.{clause_at, head_at, IsEntry, IsShort, IsWatched, IsWatching}
 use Rattle.pp_watch.specs.Looking.{Watches}
 use Rattle.pp_watch.specs.declared.watcher.Watcher.{Watcher}
 use Rattle.pp_watch.specs.declared.head.Head.{Head}
 use Rattle.pp_watch.proofs.Listed.{watchers_same, watchers_other, among_push, among_last, among_removed, among_set}
-use Rattle.pp_watch.proofs.Listed.{same_code, All_removed}
+use Rattle.pp_trail.proofs.Truths.{same_code}
+use Rattle.pp_watch.proofs.Listed.{All_removed}
 
 abbrev pub no_head : Head
 no_head = record {

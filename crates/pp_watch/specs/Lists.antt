@@ -1,14 +1,11 @@
 -- Lists of watchers by literal. (own)
-use Rattle.std.specs.Prelude.{ℕ, ◌+◌, ◌*◌, ◌==◌, Bool, List, [], slice_index_or, slice_set, if◌then◌else◌}
+use Rattle.std.specs.Prelude.{ℕ, ◌==◌, Bool, List, [], slice_index_or, slice_set}
 use Rattle.std.specs.List.{list_any}
 use Rattle.pp_clause.specs.Literal.{Literal}
+use Rattle.pp_trail.specs.Marks.{code}
 use Rattle.pp_watch.specs.declared.watcher.Watcher.{Watcher}
 
--- a number of its own for each literal, the place of its list
-abbrev pub code : Literal → ℕ
-code l = 2 * l.var + (if l.positive then 0 else 1)
-
--- the watchers of a literal
+-- the watchers of a literal, whose list stands at its code
 abbrev pub watchers_of : List (List Watcher) → Literal → List Watcher
 watchers_of lists l = slice_index_or lists (code l) []
 

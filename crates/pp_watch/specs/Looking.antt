@@ -8,7 +8,8 @@ use Rattle.pp_clause.specs.New.{OthersNegated}
 use Rattle.pp_clause.specs.Bound.{IsUpTo}
 use Rattle.pp_trail.specs.Trail.{lits}
 use Rattle.pp_trail.specs.declared.step.Step.{Step}
-use Rattle.pp_watch.specs.Lists.{code, watchers_of, is_among}
+use Rattle.pp_trail.specs.Marks.{code}
+use Rattle.pp_watch.specs.Lists.{watchers_of, is_among}
 use Rattle.pp_watch.specs.Watching.{HasTrue, clause_at, head_at, IsSound, Grows}
 use Rattle.pp_watch.specs.declared.watcher.Watcher.{Watcher}
 use Rattle.pp_watch.specs.declared.head.Head.{Head}

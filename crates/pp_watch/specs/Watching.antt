@@ -5,7 +5,8 @@ use Rattle.pp_clause.specs.Literal.{Literal, opposite}
 use Rattle.pp_clause.specs.Clause.{has}
 use Rattle.pp_trail.specs.Trail.{Trail, lits, Extends}
 use Rattle.pp_trail.specs.declared.step.Step.{Step}
-use Rattle.pp_watch.specs.Lists.{code, watchers_of, is_among}
+use Rattle.pp_trail.specs.Marks.{code}
+use Rattle.pp_watch.specs.Lists.{watchers_of, is_among}
 use Rattle.pp_watch.specs.declared.watcher.Watcher.{Watcher}
 use Rattle.pp_watch.specs.declared.head.Head.{Head}
 use Rattle.pp_watch.specs.declared.state.State.{State}

@@ -6,7 +6,7 @@ ghost use Rattle.pp_watch.specs.Looking.{IsChoice, IsNumbered};
 ghost use Rattle.pp_watch.specs.Attaching.{Attaches, CanWatch, Settles, waiting};
 
 use crate::NoMemory;
-use crate::finding::{bound, choose, is_true, lits_of, third};
+use crate::finding::{bound, choose, lits_of, third};
 use crate::head::Head;
 use crate::levels::cut;
 use crate::state::State;
@@ -64,7 +64,7 @@ impl State {
     {
         if let Some(bound) = bound(&self.trail, head) {
             cut(&mut self.levels, bound);
-            if !is_true(&self.trail, head.first) {
+            if !self.trail.is_true(head.first) {
                 self.trail.push(Step {
                     lit: head.first,
                     reason: Some(number),

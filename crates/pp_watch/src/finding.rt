@@ -5,7 +5,7 @@ ghost use Rattle.pp_clause.specs.Clause.{has};
 ghost use Rattle.pp_clause.specs.Log.{all_negated};
 ghost use Rattle.pp_clause.specs.New.{OthersNegated};
 ghost use Rattle.pp_trail.specs.Trail.{lits, IsFalse};
-ghost use Rattle.pp_watch.specs.Lists.{code};
+ghost use Rattle.pp_trail.specs.Marks.{code};
 ghost use Rattle.pp_watch.specs.Looking.{IsClauseOf, IsNotFalse, IsOther, IsChoice, IsBound, IsFree};
 ghost use Rattle.pp_watch.specs.Watching.{IsShort};
 
@@ -20,23 +20,6 @@ pub struct Found {
     pub lit: Lit,
     /// Its place.
     pub place: usize,
-}
-
-/// Whether the literal is true.
-pub fn is_true(trail: &Trail, lit: Lit) -> bool
-    ensures { result ≡ has (lits trail.now.steps) lit }
-{
-    match trail.value(lit) {
-        Some(value) => value,
-        None => false,
-    }
-}
-
-/// Whether the literal is false.
-pub fn is_false(trail: &Trail, lit: Lit) -> bool
-    ensures { result ≡ has (lits trail.now.steps) (opposite lit) }
-{
-    is_true(trail, lit.negated())
 }
 
 /// The literals of the clause with this number.
@@ -54,7 +37,7 @@ pub fn not_false(trail: &Trail, clause: &[Lit]) -> Option<Lit>
     ensures none { IfNone result (all_negated (lits trail.now.steps) clause.now ≡ true) }
 {
     for lit in clause {
-        if !is_false(trail, *lit) {
+        if !trail.is_false(*lit) {
             return Some(*lit);
         }
     }
@@ -84,7 +67,7 @@ fn first_other(trail: &Trail, part: &[Lit], lit: Lit) -> Option<Found>
 {
     let index = lit.index();
     for (place, other) in part.iter().enumerate() {
-        if other.index() != index && !is_false(trail, *other) {
+        if other.index() != index && !trail.is_false(*other) {
             return Some(Found { lit: *other, place });
         }
     }
@@ -163,7 +146,7 @@ pub fn bound(trail: &Trail, head: &Head) -> Option<usize>
     if head.first.index() == head.second.index() {
         return Some(0);
     }
-    if !is_false(trail, head.second) {
+    if !trail.is_false(head.second) {
         return None;
     }
     match trail.place(head.second.var()) {

@@ -3,7 +3,8 @@ ghost use Rattle.std.specs.Prelude.{◌≡◌, ◌+◌, ◌*◌, ◌<◌, [], �
 ghost use Rattle.std.specs.Prelude.{IfOk, OnOk};
 ghost use Rattle.std.specs.List.{swap_remove};
 ghost use Rattle.pp_clause.specs.Literal.{Literal};
-ghost use Rattle.pp_watch.specs.Lists.{code, watchers_of, with_watchers};
+ghost use Rattle.pp_trail.specs.Marks.{code};
+ghost use Rattle.pp_watch.specs.Lists.{watchers_of, with_watchers};
 
 use crate::NoMemory;
 use crate::watcher::Watcher;

@@ -5,12 +5,13 @@ ghost use Rattle.pp_clause.specs.Literal.{opposite};
 ghost use Rattle.pp_clause.specs.Clause.{has};
 ghost use Rattle.pp_trail.specs.Trail.{lits, IsFalse};
 ghost use Rattle.pp_watch.specs.Watching.{IsSound, IsSized, Grows, clause_at};
-ghost use Rattle.pp_watch.specs.Lists.{code, watchers_of};
+ghost use Rattle.pp_trail.specs.Marks.{code};
+ghost use Rattle.pp_watch.specs.Lists.{watchers_of};
 ghost use Rattle.pp_watch.specs.Looking.{AreLookedAt, AreOthersFalse, Advances, HasOther, IsBeside, IsNear};
 ghost use Rattle.pp_watch.specs.Looking.{IsNumbered};
 
 use crate::NoMemory;
-use crate::finding::{Found, is_false, is_true, lits_of, other_not_false, third};
+use crate::finding::{Found, lits_of, other_not_false, third};
 use crate::head::Head;
 use crate::state::State;
 use crate::watcher::Watcher;
@@ -72,7 +73,7 @@ impl State {
         ensures sized { OnErr result (IsSized self.new) }
     {
         let watcher = self.lists.get(lit, place);
-        if is_true(&self.trail, watcher.blocker) {
+        if self.trail.is_true(watcher.blocker) {
             return Ok(None);
         }
         if watcher.third.index() == lit.index() {
@@ -101,15 +102,15 @@ impl State {
         ensures conflict { IfOk result (λ o. IfSome o (IsFalse self.new.trail.clauses (lits self.new.trail.steps))) }
         ensures sized { OnErr result (IsSized self.new) }
     {
-        if is_true(&self.trail, watcher.third) {
+        if self.trail.is_true(watcher.third) {
             return Ok(None);
         }
         // tells that the clauses are in range
         let _clauses = self.trail.clauses();
-        if is_false(&self.trail, watcher.third) {
+        if self.trail.is_false(watcher.third) {
             return Ok(self.force(lit, place, watcher.number, watcher.blocker));
         }
-        if is_false(&self.trail, watcher.blocker) {
+        if self.trail.is_false(watcher.blocker) {
             return Ok(self.force(lit, place, watcher.number, watcher.third));
         }
         self.look_at_head(lit, place, watcher)
@@ -166,13 +167,13 @@ impl State {
         if other.index() == lit.index() {
             return Ok(None);
         }
-        if is_true(&self.trail, other) {
+        if self.trail.is_true(other) {
             self.block(lit, place, number, other, other);
             return Ok(None);
         }
         match other_not_false(&self.trail, lits_of(&self.trail, number), other, from) {
             Some(new) => {
-                if is_true(&self.trail, new.lit) {
+                if self.trail.is_true(new.lit) {
                     self.block(lit, place, number, other, new.lit);
                     return Ok(None);
                 }
@@ -254,7 +255,7 @@ impl State {
         ensures within { IfNone result (place ≤ length (watchers_of self.new.lists lit)) }
         ensures conflict { IfSome result (IsFalse self.new.trail.clauses (lits self.new.trail.steps)) }
     {
-        if is_false(&self.trail, other) {
+        if self.trail.is_false(other) {
             return Some(number);
         }
         self.trail.push(Step {

@@ -1,6 +1,6 @@
 use Rattle.std.proofs.Common.{sym, ◌∙◌}
 use Rattle.pp_trail.specs.Trail.{lits}
-use Rattle.pp_watch.proofs.Listed.{same_code}
+use Rattle.pp_trail.proofs.Truths.{same_code}
 use Rattle.pp_watch.proofs.Literals.{others_none, others_more, others_all}
 use Rattle.pp_watch.proofs.finding.first_other.Goals as goal
 use Rattle.pp_watch.proofs.finding.first_other.Goals.{else-index-via-then-index+else-not-is_false}

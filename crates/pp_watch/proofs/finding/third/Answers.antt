@@ -1,7 +1,7 @@
 use Rattle.std.proofs.Common.{◌+◌, refl, sym, ap, ◌∙◌, subst, inr, take}
 use Rattle.pp_clause.specs.Literal.{Literal}
 use Rattle.pp_clause.specs.Clause.{has}
-use Rattle.pp_watch.proofs.Listed.{same_code}
+use Rattle.pp_trail.proofs.Truths.{same_code}
 use Rattle.pp_watch.proofs.Literals.{AreThese, has_item, these_none, these_more, these_two, these_all}
 use Rattle.pp_watch.proofs.finding.third.Goals as goal
 use Rattle.pp_watch.proofs.finding.third.Goals.{then-not-is_among+else-index, else-not-is_among}

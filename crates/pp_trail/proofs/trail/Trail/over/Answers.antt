@@ -7,8 +7,8 @@ invariant_of-result c = record {
   clauses = search rules;
   trail = search rules;
   shows = record { shown = λ x in'. grind (arith, common_steps) };
-  signed = record { shown = λ x in'. grind (arith, common_steps) };
+  told = record { shown = λ l in'. grind (arith, common_steps) };
   every = search rules;
-  every_sign = search rules;
+  every_truth = search rules;
   room = search rules;
 }

@@ -35,7 +35,14 @@ invariant_of-self c =
     let vars = ap (λ (t : Trail). t.vars) c.self.view_is in
     let absent : IsAbsent step.lit.var old = rw same c.requires.absent in
     let high : step.lit.var ≤ c.self.inside.vars = rw vars c.requires.up_to in
-    rw (pushed, c.is_positive.ensures, c.var-var.ensures.value)
+    rw (
+      pushed,
+      c.is_positive.ensures,
+      c.var-var.ensures.value,
+      c.index-itself.ensures,
+      c.index-opposite.ensures,
+      c.negated.ensures,
+    )
     (sound_push _ _ _ _ _ _ _ step c.len.result c.self.invariant c.push-pushed.ensures.capacity
     (omega (arith, c.var-var.ensures.low, c.var-var.ensures.value)) high absent
     (rw (clauses, same) c.requires.reason) (omega (arith, c.self.inside.steps.ok.0)))

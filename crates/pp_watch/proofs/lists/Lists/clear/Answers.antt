@@ -1,6 +1,6 @@
 use Rattle.std.proofs.Common.{arith, ◌∙◌, ap, length, sym, get_or, []}
 use Rattle.std.proofs.lemmas.List.{with_items_is}
-use Rattle.pp_watch.specs.Lists.{code}
+use Rattle.pp_trail.specs.Marks.{code}
 use Rattle.pp_watch.proofs.Rows.{rows, cleared_none, cleared_more, cleared_all}
 use Rattle.pp_watch.proofs.lists.Lists.clear.Goals as goal
 

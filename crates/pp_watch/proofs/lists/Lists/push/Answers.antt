@@ -1,4 +1,4 @@
-use Rattle.pp_watch.specs.Lists.{code}
+use Rattle.pp_trail.specs.Marks.{code}
 use Rattle.pp_watch.proofs.Rows.{pushed_row}
 use Rattle.pp_watch.proofs.lists.Lists.push.Goals as goal
 

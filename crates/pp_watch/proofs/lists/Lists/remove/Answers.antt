@@ -1,6 +1,6 @@
 use Rattle.std.proofs.Common.{ap, ◌∙◌, get_or, List}
 use Rattle.pp_watch.specs.declared.watcher.Watcher.{Watcher}
-use Rattle.pp_watch.specs.Lists.{code}
+use Rattle.pp_trail.specs.Marks.{code}
 use Rattle.pp_watch.proofs.Rows.{removed_row, old_row}
 use Rattle.pp_watch.proofs.lists.Lists.remove.Goals as goal
 

@@ -1,6 +1,6 @@
 use Rattle.std.proofs.Common.{refl}
 use Rattle.std.specs.Vec.{with_item}
-use Rattle.pp_watch.specs.Lists.{code}
+use Rattle.pp_trail.specs.Marks.{code}
 use Rattle.pp_watch.proofs.Rows.{written_row}
 use Rattle.pp_watch.proofs.lists.Lists.set.Goals as goal
 

@@ -1,5 +1,0 @@
-use Rattle.std.proofs.Common.{◌≡◌, map, take}
-use Rattle.pp_tree.proofs.build.decls.decl_row.Given as goal
-
-abbrev pub invariant-loop-item : goal.invariant-loop-item
-invariant-loop-item g l = l.trees.items ≡ map (λ c. c.tree) (take l.item-index l.items)
