@@ -175,6 +175,10 @@ check 'a tree of height 64' 0 "$(printf 'n: valid, 0 checks\n%s' "$one")" ''
 put "object A { def n(): Boolean = $(repeat '!(' 64)true$(repeat ')' 64) }"
 run a.scala
 check 'a tree of height 65' 3 '' 'refused: too deep at 1:1:31'
+deep="$(repeat '!(' 64)true$(repeat ')' 64)"
+put "object A { def n(): Boolean = { decreases($deep); require($deep); true } }"
+run a.scala
+check 'two contracts of height 65, of which the first is told' 3 '' 'refused: too deep at 1:1:43'
 hold 1000000 2 1024
 put "object A { def n(): Boolean = $(repeat '(' 100000)true$(repeat ')' 100000) }"
 run a.scala

@@ -11,6 +11,7 @@ pub mod ReachHeads
 pub mod Complete
 pub mod ExprSteps
 pub mod ExprParts
+pub mod ClaimEnds
 pub mod ReachHoles
 pub mod StatSteps
 pub mod ReachItems

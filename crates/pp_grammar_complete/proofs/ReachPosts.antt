@@ -15,7 +15,8 @@ use Rattle.pp_grammar.specs.Types.{IsAscription, IsGap, ascribed, no_semi, no_ty
 use Rattle.pp_grammar.specs.Words.{Role, is_semi, loosest, res, role, word}
 use Rattle.pp_grammar_complete.proofs.ExprSteps.{Ended, next_ended}
 use Rattle.pp_grammar_complete.proofs.ReachExprs.{reaches_expr}
-use Rattle.pp_grammar_complete.proofs.ReachHoles.{ClaimEnds, claim_closes, ends_claim, lambda_hole, reaches_hole}
+use Rattle.pp_grammar_complete.proofs.ClaimEnds.{ClaimEnds, claim_closes, ends_claim}
+use Rattle.pp_grammar_complete.proofs.ReachHoles.{lambda_hole, reaches_hole}
 use Rattle.pp_grammar_complete.proofs.ReachTypes.{reaches_type}
 use Rattle.pp_grammar_complete.proofs.Starts.{Starts, infix_starts, starts_with}
 use Rattle.pp_grammar_complete.proofs.Steps.{Go, Run, closes_follows, go_on, goes_on, take_step}

@@ -32,7 +32,6 @@ use Rattle.pp_tree.specs.Plain.{Word}
 use Rattle.std.proofs.Common.{Bool, List, None, Option, Some, [], ap, false, refl, subst, sym, true, ℕ, ◌++◌, ◌∙◌, ◌∷◌}
 use Rattle.std.proofs.Common.{◌≡◌}
 use Rattle.std.proofs.lemmas.List.{append_assoc}
-use Rattle.std.proofs.lemmas.List.{append_assoc}
 
 module _ (text : Word) (ts : List Token) where
   abbrev pub BeginsAt : ℕ → Type 0

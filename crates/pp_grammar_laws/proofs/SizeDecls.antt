@@ -1,14 +1,13 @@
 -- Sizes and offsets of declarations and imports.
-use Rattle.pp_grammar.specs.Units.{IsAnnotations, IsChoice, IsClass, IsDef, IsImportText, IsModified, IsNames}
-use Rattle.pp_grammar.specs.Units.{IsParamList, IsParams, IsParent, IsPath, IsTypeParams, Modifiers, case_object}
-use Rattle.pp_grammar.specs.Units.{class_decl, class_of, def_of, empty_list, import_all, import_path, import_some}
-use Rattle.pp_grammar.specs.Units.{last_chosen, last_name, last_of_path, last_param, more_of_path, no_annotation}
-use Rattle.pp_grammar.specs.Units.{no_list, no_modifier, no_parent, no_type_params, one_annotation, one_modifier}
-use Rattle.pp_grammar.specs.Units.{one_more_chosen, one_more_name, one_more_param, param_at, param_list, parent}
-use Rattle.pp_grammar.specs.Units.{root_or_other, type_params}
+use Rattle.pp_grammar.specs.Units.{IsClass, IsDef, IsModified}
+use Rattle.pp_grammar.specs.Units.{IsParent, Modifiers, case_object}
+use Rattle.pp_grammar.specs.Units.{class_decl, class_of, def_of}
+use Rattle.pp_grammar.specs.Units.{no_modifier, no_parent, one_modifier}
+use Rattle.pp_grammar.specs.Units.{parent}
+use Rattle.pp_grammar.specs.Units.{root_or_other}
 use Rattle.pp_grammar.specs.Words.{word}
 use Rattle.pp_grammar_laws.proofs.SizeBodies.{size_body}
-use Rattle.pp_grammar_laws.proofs.SizeTypes.{size_break, size_type}
+use Rattle.pp_grammar_laws.proofs.SizeTypes.{size_type}
 use Rattle.pp_grammar_laws.proofs.Sized.{Ok, Sized, head, tail}
 use Rattle.pp_tokens.specs.declared.token.Token.{Token}
 use Rattle.pp_tree.specs.Count.{DeclFewCases, FewCases, ListFewCases, PostFewCases, decl_nodes, list_nodes, nodes}
@@ -17,6 +16,7 @@ use Rattle.pp_tree.specs.Offsets.{ClassOffsets, DeclOffsets, ListOffsets, Offset
 use Rattle.pp_tree.specs.Offsets.{TypeOffsets, WrittenOffsets}
 use Rattle.pp_tree.specs.Plain.{ClassTree, DeclTree, ParamTree, PostTree, Tree, TypeTree, Word, ctor, def}
 use Rattle.std.proofs.Common.{Bool, List, None, Option, Some, [], arith, false, refl, true, ℕ, ◌+◌, ◌∷◌, ◌≡◌}
+use Rattle.pp_grammar_laws.proofs.SizeHeads.{size_annotations, size_param_list, size_type_params}
 
 module _ (text : Word) (n : ℕ) (P : ℕ → Type 0) where
   root_good : (ps : List ParamTree) (q : Option TypeTree) (c : ClassTree) → ClassOffsets P c
@@ -35,134 +35,6 @@ module _ (text : Word) (n : ℕ) (P : ℕ → Type 0) where
   class_good false true false c g = (g, tt, refl)
   class_good true false trait c g = root_good c.fields c.parent c g
   class_good false false trait c g = (g, tt, refl)
-
-  annotations_no_annotation : (ts : List Token) → Ok n P ts → Sized n P ts ts 0 0 (Unit {0})
-  annotations_no_annotation ts ok =
-      record { good = tt; left = ok; small = omega (arith, ok.few); quarter = omega (arith, ok.few) }
-
-  annotations_one_annotation : (ts : List Token) (us : List Token) (vs : List Token) (a : Token) (z : Token)
-      → (Ok n P ts → Sized n P ts us 0 0 (Unit {0})) → (Ok n P us → Sized n P us vs 0 0 (Unit {0}))
-      → Ok n P (a ∷ z ∷ ts) → Sized n P (a ∷ z ∷ ts) vs 0 0 (Unit {0})
-  annotations_one_annotation ts us vs a z d1 d2 ok =
-      let s1 = d1 (tail n P (tail n P ok)) in
-      let s2 = d2 s1.left in
-      record {
-        good = tt;
-        left = s2.left;
-        small = omega (arith, s1.small, s2.small, ok.few);
-        quarter = omega
-            (arith, s1.quarter, s2.quarter, s1.small, s2.small, ok.few);
-      }
-
-  names_last_name : (us : List Token) (z : Token) (c : Token) → Ok n P (z ∷ c ∷ us)
-      → Sized n P (z ∷ c ∷ us) us 0 0 (Unit {0})
-  names_last_name us z c ok =
-      record {
-        good = tt;
-        left = (tail n P (tail n P ok));
-        small = omega (arith, ok.few);
-        quarter = omega (
-          arith,
-          ok.few,
-        );
-      }
-
-  names_one_more_name : (ts : List Token) (us : List Token) (ns : List Word) (z : Token) (c : Token) → (Ok n P ts
-      → Sized n P ts us 0 0 (Unit {0})) → Ok n P (z ∷ c ∷ ts) → Sized n P (z ∷ c ∷ ts) us 0 0 (Unit {0})
-  names_one_more_name ts us ns z c d1 ok =
-      let s1 = d1 (tail n P (tail n P ok)) in
-      record {
-        good = tt;
-        left = s1.left;
-        small = omega (arith, s1.small, ok.few);
-        quarter = omega (
-          arith,
-          s1.quarter,
-          s1.small,
-          ok.few,
-        );
-      }
-
-  type_params_no_type_params : (ts : List Token) → Ok n P ts → Sized n P ts ts 0 0 (Unit {0})
-  type_params_no_type_params ts ok =
-      record { good = tt; left = ok; small = omega (arith, ok.few); quarter = omega (arith, ok.few) }
-
-  type_params_type_params : (ts : List Token) (us : List Token) (ns : List Word) (o : Token) → (Ok n P ts
-      → Sized n P ts us 0 0 (Unit {0})) → Ok n P (o ∷ ts) → Sized n P (o ∷ ts) us 0 0 (Unit {0})
-  type_params_type_params ts us ns o d1 ok =
-      let s1 = d1 (tail n P ok) in
-      record {
-        good = tt;
-        left = s1.left;
-        small = omega (arith, s1.small, ok.few);
-        quarter = omega (
-          arith,
-          s1.quarter,
-          s1.small,
-          ok.few,
-        );
-      }
-
-  params_last_param : (ts : List Token) (us : List Token) (t : TypeTree) (z : Token) (c : Token) (e : Token)
-      → (Ok n P ts → Sized n P ts (e ∷ us) 0 0 (TypeOffsets P t)) → Ok n P (z ∷ c ∷ ts)
-      → Sized n P (z ∷ c ∷ ts) us 0 0 (ParamOffsets P (param_at text z t ∷ []))
-  params_last_param ts us t z c e d1 ok =
-      let s1 = d1 (tail n P (tail n P ok)) in
-      record {
-        good = assumption (head n P ok, head n P ((tail n P ok)), s1.good, head n P s1.left);
-        left = (tail n
-            P s1.left);
-        small = omega (arith, s1.small, ok.few);
-        quarter = omega (arith, s1.quarter, s1.small, ok.few);
-      }
-
-  params_one_more_param : (ts : List Token) (us : List Token) (vs : List Token) (t : TypeTree) (ps : List
-      ParamTree) (z : Token) (c : Token) (e : Token) → (Ok n P ts → Sized n P ts (e ∷ us) 0 0 (TypeOffsets P t))
-      → (Ok n P us → Sized n P us vs 0 0 (ParamOffsets P ps)) → Ok n P (z ∷ c ∷ ts)
-      → Sized n P (z ∷ c ∷ ts) vs 0 0 (ParamOffsets P (param_at text z t ∷ ps))
-  params_one_more_param ts us vs t ps z c e d1 d2 ok =
-      let s1 = d1 (tail n P (tail n P ok)) in
-      let s2 = d2 (tail n P s1.left) in
-      record {
-        good = assumption (head n P ok, head n P ((tail n P ok)), s1.good, head n P s1.left, s2.good);
-        left
-            = s2.left;
-        small = omega (arith, s1.small, s2.small, ok.few);
-        quarter = omega (
-          arith,
-          s1.quarter,
-          s2.quarter,
-          s1.small,
-          s2.small,
-          ok.few,
-        );
-      }
-
-  param_list_no_list : (ts : List Token) → Ok n P ts → Sized n P ts ts 0 0 (ParamOffsets P [])
-  param_list_no_list ts ok =
-      record { good = assumption ok; left = ok; small = omega (arith, ok.few); quarter = omega (arith, ok.few) }
-
-  param_list_empty_list : (us : List Token) (o : Token) (c : Token) → Ok n P (o ∷ c ∷ us)
-      → Sized n P (o ∷ c ∷ us) us 0 0 (ParamOffsets P [])
-  param_list_empty_list us o c ok =
-      record {
-        good = assumption (head n P ok, head n P ((tail n P ok)));
-        left = (tail n P (tail n P ok));
-        small =
-            omega (arith, ok.few);
-        quarter = omega (arith, ok.few);
-      }
-
-  param_list_param_list : (ts : List Token) (us : List Token) (ps : List ParamTree) (o : Token) → (Ok n P ts
-      → Sized n P ts us 0 0 (ParamOffsets P ps)) → Ok n P (o ∷ ts) → Sized n P (o ∷ ts) us 0 0 (ParamOffsets P ps)
-  param_list_param_list ts us ps o d1 ok =
-      let s1 = d1 (tail n P ok) in
-      record {
-        good = assumption (head n P ok, s1.good);
-        left = s1.left;
-        small = omega (arith, s1.small, ok.few);
-        quarter = omega (arith, s1.quarter, s1.small, ok.few);
-      }
 
   def_def_of : (ts : List Token) (us : List Token) (vs : List Token) (ws : List Token) (xs : List Token) (ys : List
       Token) (tparams : List Word) (listed : Bool) (params : List ParamTree) (result : TypeTree) (pre : List Tree)
@@ -342,148 +214,13 @@ module _ (text : Word) (n : ℕ) (P : ℕ → Type 0) where
         );
       }
 
-  path_last_of_path : (us : List Token) (z : Token) → Ok n P (z ∷ us) → Sized n P (z ∷ us) us 0 0 (Unit {0})
-  path_last_of_path us z ok =
-      record { good = tt; left = (tail n P ok); small = omega (arith, ok.few); quarter = omega (arith, ok.few) }
-
-  path_more_of_path : (ts : List Token) (us : List Token) (k : ℕ) (z : Token) (dot : Token) → (Ok n P ts
-      → Sized n P ts us 0 0 (Unit {0})) → Ok n P (z ∷ dot ∷ ts) → Sized n P (z ∷ dot ∷ ts) us 0 0 (Unit {0})
-  path_more_of_path ts us k z dot d1 ok =
-      let s1 = d1 (tail n P (tail n P ok)) in
-      record {
-        good = tt;
-        left = s1.left;
-        small = omega (arith, s1.small, ok.few);
-        quarter = omega (
-          arith,
-          s1.quarter,
-          s1.small,
-          ok.few,
-        );
-      }
-
-  choice_last_chosen : (us : List Token) (z : Token) (c : Token) → Ok n P (z ∷ c ∷ us)
-      → Sized n P (z ∷ c ∷ us) us 0 0 (Unit {0})
-  choice_last_chosen us z c ok =
-      record {
-        good = tt;
-        left = (tail n P (tail n P ok));
-        small = omega (arith, ok.few);
-        quarter = omega (
-          arith,
-          ok.few,
-        );
-      }
-
-  choice_one_more_chosen : (ts : List Token) (us : List Token) (z : Token) (c : Token) → (Ok n P ts
-      → Sized n P ts us 0 0 (Unit {0})) → Ok n P (z ∷ c ∷ ts) → Sized n P (z ∷ c ∷ ts) us 0 0 (Unit {0})
-  choice_one_more_chosen ts us z c d1 ok =
-      let s1 = d1 (tail n P (tail n P ok)) in
-      record {
-        good = tt;
-        left = s1.left;
-        small = omega (arith, s1.small, ok.few);
-        quarter = omega (
-          arith,
-          s1.quarter,
-          s1.small,
-          ok.few,
-        );
-      }
-
-  import_text_import_path : (ts : List Token) (us : List Token) (k : ℕ) (i : Token) (z : Token)
-      → (Ok n P (z ∷ ts) → Sized n P (z ∷ ts) us 0 0 (Unit {0})) → Ok n P (i ∷ z ∷ ts)
-      → Sized n P (i ∷ z ∷ ts) us 0 0 (P z.from)
-  import_text_import_path ts us k i z d1 ok =
-      let s1 = d1 (tail n P ok) in
-      record {
-        good = assumption (head n P ok, head n P ((tail n P ok)), s1.good);
-        left = s1.left;
-        small = omega
-            (arith, s1.small, ok.few);
-        quarter = omega (arith, s1.quarter, s1.small, ok.few);
-      }
-
-  import_text_import_all : (ts : List Token) (us : List Token) (k : ℕ) (i : Token) (z : Token) (dot : Token) (h :
-      Token) → (Ok n P (z ∷ ts) → Sized n P (z ∷ ts) (dot ∷ h ∷ us) 0 0 (Unit {0})) → Ok n P (i ∷ z ∷ ts)
-      → Sized n P (i ∷ z ∷ ts) us 0 0 (P z.from)
-  import_text_import_all ts us k i z dot h d1 ok =
-      let s1 = d1 (tail n P ok) in
-      record {
-        good = assumption (
-          head n P ok,
-          head n P ((tail n P ok)),
-          s1.good,
-          head n P s1.left,
-          head n P ((tail
-              n P s1.left)),
-        );
-        left = (tail n P (tail n P s1.left));
-        small = omega (arith, s1.small, ok.few);
-        quarter =
-            omega (arith, s1.quarter, s1.small, ok.few);
-      }
-
-  import_text_import_some : (ts : List Token) (us : List Token) (vs : List Token) (k : ℕ) (i : Token) (z : Token)
-      (dot : Token) (o : Token) → (Ok n P (z ∷ ts) → Sized n P (z ∷ ts) (dot ∷ o ∷ us) 0 0 (Unit {0}))
-      → (Ok n P us → Sized n P us vs 0 0 (Unit {0})) → Ok n P (i ∷ z ∷ ts) → Sized n P (i ∷ z ∷ ts) vs 0 0 (P z.from)
-  import_text_import_some ts us vs k i z dot o d1 d2 ok =
-      let s1 = d1 (tail n P ok) in
-      let s2 = d2 (tail n P (tail n P s1.left)) in
-      record {
-        good = assumption (
-          head n P ok,
-          head n P ((tail n P ok)),
-          s1.good,
-          head n P s1.left,
-          head n P ((tail
-              n P s1.left)),
-          s2.good,
-        );
-        left = s2.left;
-        small = omega (arith, s1.small, s2.small, ok.few);
-        quarter =
-            omega (arith, s1.quarter, s2.quarter, s1.small, s2.small, ok.few);
-      }
-
-  pub size_annotations : {ts us : List Token} → IsAnnotations text ts us → Ok n P ts
-      → Sized n P ts us 0 0 (Unit {0})
-  size_annotations (no_annotation {ts = ts}) = annotations_no_annotation ts
-  size_annotations (one_annotation {ts = ts} {us = us} {vs = vs} a z _ _ _ d1 d2) = annotations_one_annotation ts
-      us vs a z (size_break text n P d1) (size_annotations d2)
-
-  pub size_names : {ts us : List Token} {ns : List Word} → IsNames text ts us ns → Ok n P ts
-      → Sized n P ts us 0 0 (Unit {0})
-  size_names (last_name {us = us} z c _ _) = names_last_name us z c
-  size_names (one_more_name {ts = ts} {us = us} {ns = ns} z c _ _ d1) = names_one_more_name ts us ns z c
-      (size_names d1)
-
-  pub size_type_params : {ts us : List Token} {ns : List Word} → IsTypeParams text ts us ns → Ok n P ts
-      → Sized n P ts us 0 0 (Unit {0})
-  size_type_params (no_type_params {ts = ts}) = type_params_no_type_params ts
-  size_type_params (type_params {ts = ts} {us = us} {ns = ns} o _ d1) = type_params_type_params ts us ns o
-      (size_names d1)
-
-  pub size_params : {ts us : List Token} {ps : List ParamTree} → IsParams text ts us ps → Ok n P ts
-      → Sized n P ts us 0 0 (ParamOffsets P ps)
-  size_params (last_param {ts = ts} {us = us} {t = t} z c e _ _ d1 _) = params_last_param ts us t z c e (size_type
-      text n P d1)
-  size_params (one_more_param {ts = ts} {us = us} {vs = vs} {t = t} {ps = ps} z c e _ _ d1 _ d2) =
-      params_one_more_param ts us vs t ps z c e (size_type text n P d1) (size_params d2)
-
-  pub size_param_list : {ts us : List Token} {w : Bool} {ps : List ParamTree} → IsParamList text ts us w ps
-      → Ok n P ts → Sized n P ts us 0 0 (ParamOffsets P ps)
-  size_param_list (no_list {ts = ts}) = param_list_no_list ts
-  size_param_list (empty_list {us = us} o c _ _) = param_list_empty_list us o c
-  size_param_list (param_list {ts = ts} {us = us} {ps = ps} o _ d1) = param_list_param_list ts us ps o (size_params
-      d1)
-
   pub size_def : {ts us : List Token} {x : DeclTree} → IsDef text ts us x → Ok n P ts
       → Sized n P ts us (decl_nodes x + 1) 0 (DeclOffsets P x × DeclFewCases n x)
   size_def (def_of {ts = ts} {us = us} {vs = vs} {ws = ws} {xs = xs} {ys = ys} {tparams = tparams} {listed =
       listed} {params = params} {result = result} {pre = pre} {measure = ms} {body = body} {post = post} d z c q d1
       _ _ d2 d3 _ d4 _ d5) = def_def_of ts us vs ws xs ys tparams listed params result pre ms body post d z c q
-      (size_annotations d1) (size_type_params d2) (size_param_list d3) (size_type text n P d4) (size_body text n P d5)
+      (size_annotations text n P d1) (size_type_params text n P d2) (size_param_list text n P d3)
+      (size_type text n P d4) (size_body text n P d5)
 
   pub size_modified : {ts us : List Token} {m k : Modifiers} → IsModified ts us m k → Ok n P ts
       → Sized n P ts us 0 0 (Unit {0})
@@ -499,12 +236,12 @@ module _ (text : Word) (n : ℕ) (P : ℕ → Type 0) where
   pub size_class : {ts us : List Token} {x : DeclTree} → IsClass text ts us x → Ok n P ts
       → Sized n P ts us (decl_nodes x) 0 (DeclOffsets P x × DeclFewCases n x)
   size_class (case_object {ts = ts} {us = us} {vs = vs} {t = t} c k z x d1 _ _ _ _ d2) ok = class_case_object ts us
-      vs t c k z x (size_annotations d1) (size_type text n P d2) ok
+      vs t c k z x (size_annotations text n P d1) (size_type text n P d2) ok
   size_class (class_of {ts = ts} {us = us} {vs = vs} {ws = ws} {xs = xs} {ys = ys} {m = m} {trait = trait} {tparams
       = tparams} {fields = fields} {extended = extended} k z d1 d2 _ _ d3 d4 d5) ok =
-      let s1 = size_annotations d1 ok in let s2 = size_modified d2 s1.left in
-      let s3 = size_type_params d3 (tail n P (tail n P s2.left)) in
-      let s4 = size_param_list d4 s3.left in let s5 = size_parent d5 s4.left in
+      let s1 = size_annotations text n P d1 ok in let s2 = size_modified d2 s1.left in
+      let s3 = size_type_params text n P d3 (tail n P (tail n P s2.left)) in
+      let s4 = size_param_list text n P d4 s3.left in let s5 = size_parent d5 s4.left in
       let c : ClassTree = record {
         at = z.from;
         name = word text z;
@@ -529,20 +266,3 @@ module _ (text : Word) (n : ℕ) (P : ℕ → Type 0) where
         );
         quarter = omega (arith, s1.small, s2.small, s3.small, s4.small, s5.small);
       }
-
-  pub size_path : {ts us : List Token} {k : ℕ} → IsPath text ts us k → Ok n P ts → Sized n P ts us 0 0 (Unit {0})
-  size_path (last_of_path {us = us} z _) = path_last_of_path us z
-  size_path (more_of_path {ts = ts} {us = us} {k = k} z dot _ _ d1) = path_more_of_path ts us k z dot (size_path d1)
-
-  pub size_choice : {ts us : List Token} → IsChoice ts us → Ok n P ts → Sized n P ts us 0 0 (Unit {0})
-  size_choice (last_chosen {us = us} z c _ _) = choice_last_chosen us z c
-  size_choice (one_more_chosen {ts = ts} {us = us} z c _ _ d1) = choice_one_more_chosen ts us z c (size_choice d1)
-
-  pub size_import_text : {ts us : List Token} {z : Token} {w : Bool} → IsImportText text ts us z w → Ok n P ts
-      → Sized n P ts us 0 0 (P z.from)
-  size_import_text (import_path {ts = ts} {us = us} {k = k} i z _ d1 _) = import_text_import_path ts us k i z
-      (size_path d1)
-  size_import_text (import_all {ts = ts} {us = us} {k = k} i z dot h _ d1 _ _) = import_text_import_all ts us k i z
-      dot h (size_path d1)
-  size_import_text (import_some {ts = ts} {us = us} {vs = vs} {k = k} i z dot o _ d1 _ _ d2) =
-      import_text_import_some ts us vs k i z dot o (size_path d1) (size_choice d2)

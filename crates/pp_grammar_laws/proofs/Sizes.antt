@@ -6,7 +6,8 @@ use Rattle.pp_grammar.specs.Units.{item_object, items, library, member_class, me
 use Rattle.pp_grammar.specs.Units.{no_items, no_members, no_more_items, no_more_members, no_package, object_of}
 use Rattle.pp_grammar.specs.Units.{object_piece, of_object, one_more_item, one_more_member, one_package, root_or_other}
 use Rattle.pp_grammar.specs.Units.{unit}
-use Rattle.pp_grammar_laws.proofs.SizeDecls.{size_class, size_def, size_import_text, size_path}
+use Rattle.pp_grammar_laws.proofs.SizeDecls.{size_class, size_def}
+use Rattle.pp_grammar_laws.proofs.SizeImports.{size_import_text, size_path}
 use Rattle.pp_grammar_laws.proofs.SizeTypes.{size_break, size_gap, size_semis}
 use Rattle.pp_grammar_laws.proofs.Sized.{OffsetsOf, Ok, tail}
 use Rattle.pp_grammar_laws.specs.Laws.{BeginsToken}

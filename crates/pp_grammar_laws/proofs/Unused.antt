@@ -28,52 +28,18 @@ use Rattle.pp_grammar.specs.Units.{IsPackages, IsParamList, IsParams, IsParent, 
 use Rattle.pp_grammar.specs.Units.{SpellsUnit, case_object, class_of, def_of, empty_list, import_all, import_path}
 use Rattle.pp_grammar.specs.Units.{import_some, item_class, item_import, item_object, items, last_chosen, last_name}
 use Rattle.pp_grammar.specs.Units.{last_of_path, last_param, library, member_class, member_def, member_import, members}
-use Rattle.pp_grammar.specs.Units.{modified, more_of_path, no_annotation, no_items, no_list, no_members, no_modifier}
+use Rattle.pp_grammar.specs.Units.{more_of_path, no_annotation, no_items, no_list, no_members, no_modifier}
 use Rattle.pp_grammar.specs.Units.{no_more_items, no_more_members, no_package, no_parent, no_type_params, object_of}
 use Rattle.pp_grammar.specs.Units.{of_object, one_annotation, one_modifier, one_more_chosen, one_more_item}
 use Rattle.pp_grammar.specs.Units.{one_more_member, one_more_name, one_more_param, one_package, param_list, parent}
 use Rattle.pp_grammar.specs.Units.{type_params, unit}
-use Rattle.pp_grammar.specs.Words.{is_semi, is_trait_word, negated_of, negative_of, number_of}
+use Rattle.pp_grammar_laws.proofs.UsedKinds.{modifier_used, negated_used, negative_used, number_used, semi_used}
+use Rattle.pp_grammar_laws.proofs.UsedKinds.{trait_used}
 use Rattle.pp_grammar_laws.specs.Laws.{SpellsNone}
-use Rattle.pp_tokens.specs.declared.token.Reserved.TheVariants.{Abstract, Case, Class, Final, Sealed, Trait}
 use Rattle.pp_tokens.specs.declared.token.Token.{Token}
-use Rattle.pp_tokens.specs.declared.token.TokenKind.{TokenKind}
-use Rattle.pp_tokens.specs.declared.token.TokenKind.TheVariants.{Hex, Mark, Newline, Number, Word as Reserve}
 use Rattle.pp_tree.specs.Plain.{CaseTrees, DeclTree, ParamTree, PatternTree, PatternTrees, PostTree, Tree, Trees}
 use Rattle.pp_tree.specs.Plain.{TypeTree, TypeTrees, UnitTree, Word}
-use Rattle.std.proofs.Common.{Bool, List, None, Option, Some, [], ap, cond, false, refl, sym, true, ℕ, ℤ, ◌∙◌, ◌∷◌, ◌≡◌}
-
-semi_used : (k : TokenKind) → is_semi k ≡ true → is_unused k ≡ false
-semi_used Newline is = refl
-semi_used (Mark b) is = refl
-semi_used _ is = absurd (cc)
-
-number_used : (k : TokenKind) (z : ℤ) → number_of k ≡ Some z → is_unused k ≡ false
-number_used (Number m) z is = refl
-number_used (Hex m) z is = refl
-number_used _ z is = absurd (cc)
-
-negative_used : (k : TokenKind) (z : ℤ) → negative_of k ≡ Some z → is_unused k ≡ false
-negative_used (Number m) z is = refl
-negative_used (Hex m) z is = refl
-negative_used _ z is = absurd (cc)
-
-negated_used : (k : TokenKind) (z : ℤ) → negated_of k ≡ Some z → is_unused k ≡ false
-negated_used (Number m) z is = refl
-negated_used (Hex m) z is = refl
-negated_used _ z is = absurd (cc)
-
-modifier_used : (m z : Modifiers) (k : TokenKind) → modified m k ≡ Some z → is_unused k ≡ false
-modifier_used m z (Reserve Sealed) is = refl
-modifier_used m z (Reserve Abstract) is = refl
-modifier_used m z (Reserve Final) is = refl
-modifier_used m z (Reserve Case) is = refl
-modifier_used m z _ is = absurd (cc)
-
-trait_used : (k : TokenKind) (b : Bool) → is_trait_word k ≡ Some b → is_unused k ≡ false
-trait_used (Reserve Class) b is = refl
-trait_used (Reserve Trait) b is = refl
-trait_used _ b is = absurd (cc)
+use Rattle.std.proofs.Common.{Bool, List, None, Option, Some, [], ap, cond, false, refl, sym, ℕ, ◌∙◌, ◌∷◌, ◌≡◌}
 
 -- none of the tokens is such a word
 abbrev Used : List Token → Type 0

@@ -8,7 +8,8 @@ use Rattle.pp_tree.specs.Plain.{TypeTree, type_text, Tree, int, bool, name, appl
 use Rattle.pp_tree.specs.Plain.{matching, val_in, assert_in, ParamTree, ClassTree, PostTree, DeclTree, root, ctor}
 use Rattle.pp_tree.specs.Plain.{other, def, UnitTree}
 use Rattle.pp_tree.specs.Roots.{Root, place_of, type_place, expr_root, type_root, param_root, written_roots}
-use Rattle.pp_tree.specs.Roots.{class_roots, post_roots, decl_roots, unit_roots, too_high}
+use Rattle.pp_tree.specs.Roots.{class_roots, contract_roots, post_roots, stands_before, decl_roots, unit_roots}
+use Rattle.pp_tree.specs.Roots.{too_high}
 
 module _ (P : ℕ → Type 0) where
   abbrev AllAt : List Root → Type 0
@@ -56,6 +57,13 @@ module _ (P : ℕ → Type 0) where
   class_at c h =
       both (map param_root c.fields) (written_roots c.parent) (params_at c.fields h.1) (written_at c.parent h.2)
 
+  contracts_at : (xs ys : List Root) → AllAt xs → AllAt ys → AllAt (contract_roots xs ys)
+  contracts_at xs ys h k = by (stands_before ys xs)
+    where
+      by : (b : Bool) → AllAt (cond b (ys ++ xs) (xs ++ ys))
+      by true = both ys xs k h
+      by false = both xs ys h k
+
   decl_at : (d : DeclTree) → DeclOffsets P d → AllAt (decl_roots d)
   decl_at (root c) h = class_at c h
   decl_at (ctor c) h = class_at c h
@@ -63,9 +71,11 @@ module _ (P : ℕ → Type 0) where
   decl_at (def d) h =
       let behind = expr_root d.body ∷ post_roots d.post in
       let k : AllAt behind = (expr_at d.body h.5, post_at d.post h.6) in
-      let m = both (map expr_root d.measure) behind (exprs_at d.measure h.4) k in
-      let p = both (map expr_root d.pre) (map expr_root d.measure ++ behind) (exprs_at d.pre h.3) m in
-      both (map param_root d.params) (type_root d.result ∷ (map expr_root d.pre ++ (map expr_root d.measure ++ behind)))
+      let pre = map expr_root d.pre in
+      let measure = map expr_root d.measure in
+      let p = both (contract_roots pre measure) behind
+      (contracts_at pre measure (exprs_at d.pre h.3) (exprs_at d.measure h.4)) k in
+      both (map param_root d.params) (type_root d.result ∷ (contract_roots pre measure ++ behind))
       (params_at d.params h.1) (type_at d.result h.2, p)
 
   decls_at : (ds : List DeclTree) → DeclsOffsets P ds → AllAt (flat_map decl_roots ds)

@@ -63,27 +63,33 @@ under_case s = frames_of (without_pattern (without_guard (without_expr s)))
 
 -- ---- heads
 
+-- the head on top has one type parameter more
 abbrev pub type_param_added : Word → Shown → Shown
 type_param_added w s = with_head (with_type_param (top_head s.parts) w) (without_head s)
 
+-- .. one parameter more, of the name and the type on top
 abbrev pub param_added : ℕ → Shown → Shown
 param_added at s =
     with_head (with_param (top_head s.parts) at (name_on s) (type_on s)) (without_head (without_name (without_type s)))
 
+-- .. a list of parameters
 abbrev pub params_ended : Shown → Shown
 params_ended s = with_head (with_list (top_head s.parts)) (without_head s)
 
 -- ---- contracts and claims
 
+-- the contracts on top have one requirement more, the expression on top
 abbrev pub requirement_added : Shown → Shown
 requirement_added s =
     with_contracts (with_requirement (top_contracts s.parts) (expr_on s)) (without_contracts (without_expr s))
 
+-- .. the measure of the expressions on top
 abbrev pub measure_added : ℕ → Shown → Shown
 measure_added at s =
     with_contracts (with_measure (top_contracts s.parts) at (top_expr_list s.parts))
     (without_contracts (without_expr_list s))
 
+-- .. this word as their first, where they had none
 abbrev pub word_added : Word → ℕ → Shown → Shown
 word_added w at s = with_contracts (with_word (top_contracts s.parts) w at) (without_contracts s)
 
@@ -91,9 +97,11 @@ word_added w at s = with_contracts (with_word (top_contracts s.parts) w at) (wit
 abbrev pub post_on : ℕ → Shown → PostTree
 post_on at s = record { at = at; name = name_on s; of = top_given_type s.parts; claim = expr_on s }
 
+-- what lies below these three
 abbrev pub without_claim : Shown → Shown
 without_claim s = without_name (without_given_type (without_expr s))
 
+-- they become a postcondition
 abbrev pub claimed : ℕ → Shown → Shown
 claimed at s = with_post (Some (post_on at s)) (without_claim s)
 

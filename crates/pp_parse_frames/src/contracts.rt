@@ -56,7 +56,7 @@ pub fn add_measure(stack: &mut Stack<'_>, at: u32) -> Result<(), NoMemory>
     stack.put_contracts(contracts)
 }
 
-/// One of the contracts on the stack begins with the token.
+/// The token begins a contract: the contracts on the stack keep the first such word.
 pub fn add_word<'a>(cx: &Current<'a, '_>, stack: &mut Stack<'a>) -> Result<(), NoMemory>
     requires { IsSpan cx.now.text.now cx.now.token }
     ensures { IfOk result (λ _. shown stack.new ≡ word_added (word cx.now.text.now cx.now.token) cx.now.token.from
@@ -88,7 +88,7 @@ pub fn claim(stack: &mut Stack<'_>, at: u32) -> Result<(), NoMemory>
     }))
 }
 
-/// `holds` claims the result itself.
+/// Puts the postcondition of `holds`, the result itself, on the stack.
 pub fn hold<'a>(cx: &Current<'a, '_>, stack: &mut Stack<'a>) -> Result<(), NoMemory>
     ensures { IfOk result (λ _. shown stack.new ≡ with_post (holding_at cx.now.token) (shown stack.old)) }
 {
@@ -102,7 +102,7 @@ pub fn hold<'a>(cx: &Current<'a, '_>, stack: &mut Stack<'a>) -> Result<(), NoMem
     }))
 }
 
-/// The name that was read before is no operand.
+/// Why a name that was read before, which is no operand, is refused.
 pub fn misplaced_name<'a>(at: u32, name: &'a str, role: Role) -> Stop<'a>
     ensures { (text : Word) (t : Token) → Stops result (misplaced_name text t at name.now (role_of role)) }
 {

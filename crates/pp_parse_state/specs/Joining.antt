@@ -1,4 +1,5 @@
--- How the automaton joins operands and statements, one frame at a time. Source: own.
+-- How the automaton joins operands and statements, one frame at a time: `pp_grammar/specs/Joining` for what a stack
+-- shows. Source: own.
 use Rattle.std.specs.Prelude.{ℕ, Bool, true, false, cond, ◌||◌, nat_le, List, [], ◌∷◌}
 use Rattle.pp_tree.specs.Plain.{unary, binary, choice, val_in, assert_in}
 use Rattle.pp_grammar.specs.Words.{level, tightest}
@@ -10,7 +11,8 @@ use Rattle.pp_parse_state.specs.Parts.{top_given_type}
 use Rattle.pp_parse_state.specs.Shown.{Shown, expr_on, name_on, under_expr, with_expr, without_expr}
 use Rattle.pp_parse_state.specs.Shown.{without_given_type, without_name}
 
--- the frame is an operator before an operand that binds at least as tight as level p
+-- the frame is an operator before an operand that binds at least as tight as level p, or, at level 0, the rest of an
+-- `if`
 abbrev pub binds : ℕ → Frame → Bool
 binds p (Prefixing at op) = nat_le p tightest
 binds p (Left at op h) = nat_le p (level op)

@@ -5,13 +5,15 @@ use Rattle.pp_tree.specs.Plain.{Word, TypeTree, PatternTree, Tree, PostTree, Dec
 use Rattle.pp_grammar.specs.Frames.{Head, Contracts, CaseText}
 use Rattle.pp_grammar.specs.Joining.{head_at, no_contracts}
 
--- the trees that stand for parts that aren't there: each frame and each mode has its parts, so none is ever asked for
+-- the trees that stand for parts that aren't there: each frame and each mode has its parts, so none is ever asked for;
+-- no clause says so
 pub record Spares : Type 0 where
   pub of : TypeTree
   pub pattern : PatternTree
   pub expr : Tree
   pub decl : DeclTree
 
+-- what lies on the stack besides the frames
 pub record Parts : Type 0 where
   pub names : List Word
   pub types : List TypeTree
@@ -32,6 +34,27 @@ pub record Parts : Type 0 where
   pub decls : List DeclTree
   pub spares : Spares
 
+-- no parts but the spare ones
+abbrev pub no_parts : Spares → Parts
+no_parts s = record {
+  names = [];
+  types = [];
+  patterns = [];
+  exprs = [];
+  given_types = [];
+  guards = [];
+  type_lists = [];
+  pattern_lists = [];
+  expr_lists = [];
+  case_lists = [];
+  heads = [];
+  contracts = [];
+  posts = [];
+  decls = [];
+  spares = s;
+}
+
+-- the head that stands for one that isn't there
 abbrev pub no_head : Head
 no_head = head_at 0 []
 

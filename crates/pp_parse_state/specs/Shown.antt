@@ -1,5 +1,6 @@
--- The frames, modes and moves of the automaton that the parser's values stand for. Frames and modes are numbers alone:
--- their parts lie on the stack, those of the mode on top, below them those of the frames, the last frame first.
+-- The frames, modes and moves of the automaton that the parser's values stand for. Frames and modes hold no names,
+-- trees or lists: these are their parts, which lie on the stack, those of the mode on top, below them those of the
+-- frames, the last frame first.
 use Rattle.std.specs.Prelude.{◌≡◌, List, [], ◌∷◌, Option, option_map, Result, MatchResult}
 use Rattle.pp_tree.specs.Plain.{Word, TypeTree, no_types, PatternTree, Tree, PostTree, DeclTree}
 use Rattle.pp_tree_build.specs.Parts.{claim_parts}
@@ -19,12 +20,14 @@ use Rattle.pp_parse_state.specs.declared.mode.Move.TheVariants.{Go, Ends}
 use Rattle.pp_parse_state.specs.declared.stack.Stack.{Stack}
 use Rattle.pp_parse_state.specs.declared.spares.Spares as declared_spares
 use Rattle.pp_parse_state.specs.Values.{stacked, kind_of, head_of, contracts_of, around_of, case_text}
-use Rattle.pp_parse_state.specs.Parts.{Parts, Spares, rest, top_name, top_type, top_pattern, top_expr, second_expr}
+use Rattle.pp_parse_state.specs.Parts.{Parts, Spares, no_parts, rest, top_name, top_type, top_pattern, top_expr}
+use Rattle.pp_parse_state.specs.Parts.{second_expr}
 use Rattle.pp_parse_state.specs.Parts.{top_given_type, top_guard, top_type_list, top_pattern_list, top_expr_list}
 use Rattle.pp_parse_state.specs.Parts.{top_case_list, top_head, top_contracts, top_post, top_decl}
 
 -- ---- frames
 
+-- the automaton's frame that a frame stands for, above these parts
 abbrev pub frame_of : Frame → Parts → plain.Frame
 frame_of (frame.Header k) p = plain.header (kind_of k) (top_head p)
 frame_of (frame.ParamType at) p = plain.param_type at (top_name p)
@@ -105,6 +108,7 @@ over (f ∷ fs) p = frame_of f p ∷ over fs (below f p)
 
 -- ---- the stack
 
+-- the spare trees
 abbrev pub spares_of : declared_spares.Spares → Spares
 spares_of s = record {
   of = type_of s.of.now.tree;
@@ -118,6 +122,7 @@ pub record Shown : Type 0 where
   pub kinds : List Frame
   pub parts : Parts
 
+-- what a stack shows
 abbrev pub shown : Stack → Shown
 shown s = record {
   kinds = stacked (λ f. f) s.frames.items [];
@@ -139,6 +144,10 @@ shown s = record {
     spares = spares_of s.spares;
   };
 }
+
+-- the stack on which nothing lies but its spare trees
+abbrev pub nothing_on : Spares → Shown
+nothing_on s = record { kinds = []; parts = no_parts s }
 
 -- what is shown, with one more on top
 abbrev pub with_frame : Frame → Shown → Shown
@@ -186,7 +195,7 @@ with_post x s = record s { parts = record s.parts { posts = x ∷ s.parts.posts 
 abbrev pub with_decl : DeclTree → Shown → Shown
 with_decl x s = record s { parts = record s.parts { decls = x ∷ s.parts.decls } }
 
--- what is shown, without the one on top
+-- what is shown, without the name (type, pattern, ..) on top
 abbrev pub without_name : Shown → Shown
 without_name s = record s { parts = record s.parts { names = rest s.parts.names } }
 
@@ -229,7 +238,7 @@ without_post s = record s { parts = record s.parts { posts = rest s.parts.posts 
 abbrev pub without_decl : Shown → Shown
 without_decl s = record s { parts = record s.parts { decls = rest s.parts.decls } }
 
--- the automaton's frames that they are
+-- the automaton's frames that lie on the stack
 abbrev pub frames_of : Shown → List plain.Frame
 frames_of s = over s.kinds s.parts
 
@@ -263,6 +272,7 @@ under_expr s = frames_of (without_expr s)
 
 -- ---- modes and moves
 
+-- the automaton's mode that a mode stands for, above these parts
 abbrev pub mode_of : Mode → Parts → plain.Mode
 mode_of mode.Want p = plain.want
 mode_of (mode.Have h) p = plain.have (top_expr p) h

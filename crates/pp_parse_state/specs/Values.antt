@@ -1,4 +1,4 @@
--- The values that the parser's words, heads, contracts and lists stand for.
+-- The values that the parser's words, heads, contracts and lists stand for. Source: own.
 use Rattle.std.specs.Prelude.{List, [], ◌∷◌, map, option_map}
 use Rattle.pp_tree.specs.declared.expr.Case.{Case}
 use Rattle.pp_tree.specs.declared.expr.ExprKind.TheViews.{out-Case}

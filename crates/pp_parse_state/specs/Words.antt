@@ -1,4 +1,4 @@
--- The roles that the parser's values stand for.
+-- The roles that the parser's values stand for. Source: own.
 use Rattle.pp_grammar.specs.Words as plain
 use Rattle.pp_parse_state.specs.declared.words.Role.{Role}
 use Rattle.pp_parse_state.specs.declared.words.Role.TheVariants.{Plain, Require, Decreases, Ensuring, Holds, Assert}

@@ -86,7 +86,7 @@ impl<'a, 't> Current<'a, 't> {
         matches!(self.token.kind, TokenKind::Mark(Bracket::CloseRound))
     }
 
-    /// The language leaves out the token, which is a name.
+    /// The refusal of the token, a name that the language leaves out.
     pub fn unsupported(&self) -> Stop<'a>
         requires { IsSpan self.now.text.now self.now.token }
         ensures { Stops result (stop (unsupported_at (word self.now.text.now self.now.token) self.now.token.from)) }
@@ -97,7 +97,8 @@ impl<'a, 't> Current<'a, 't> {
         }
     }
 
-    /// The token can't stand here. A name `require` or `decreases` is unsupported wherever the grammar doesn't show it.
+    /// The refusal of the token, which can't stand here. A name `require` or `decreases` is unsupported wherever the
+    /// grammar doesn't show it.
     pub fn refuse(&self) -> Stop<'a>
         requires { IsSpan self.now.text.now self.now.token }
         ensures { Stops result (refuse self.now.text.now self.now.token) }

@@ -7,7 +7,9 @@ use std::alloc::Global;
 /// A word and where it stands.
 #[derive(Clone, Copy)]
 pub struct Placed<'a> {
+    /// The word.
     pub word: &'a str,
+    /// Its offset, in bytes.
     pub at: u32,
 }
 
@@ -49,7 +51,8 @@ pub enum Around {
     Braces,
 }
 
-/// What is open. Each stands for the frame of `pp_grammar` that has its name, whose parts lie on the stack.
+/// What is open. Each stands for the frame of `pp_grammar` that has its name, whose parts lie on the stack. A number is
+/// the offset at which that form stands, in bytes; a truth value, whether the hole stands in the operand.
 #[derive(Clone, Copy)]
 pub enum Frame {
     Header(Kind),

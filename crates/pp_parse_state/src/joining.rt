@@ -11,7 +11,8 @@ use crate::{Frame, NoMemory, Stack};
 use bumpalo::Bump;
 use pp_tree_build::{assert_in, binary, choice, unary, val_in};
 
-/// Whether the frame is an operator before an operand that binds at least as tight as the level.
+/// Whether the frame is an operator before an operand that binds at least as tight as the level, or, at the lowest
+/// level, the rest of an `if`.
 pub(crate) fn binds(frame: Frame, tight: u32) -> bool
     ensures { result ≡ binds tight frame }
 {

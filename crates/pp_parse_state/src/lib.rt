@@ -1,5 +1,7 @@
 //! What the parser keeps: the frames of what is open, the modes, the parts of both, and the words and numbers of single
-//! tokens. Frames and modes are numbers alone, and their parts lie on the stack, each kind in a list of its own.
+//! tokens. Frames and modes hold no names, trees or lists: these are their parts, which lie on the stack, each kind in
+//! a list of its own. On `NoMemory` what was made stays in the arena until its reset, and any parts may lie on the
+//! stack.
 //!
 //! The parser is an automaton that takes one token at a time, whose definition stands in `pp_grammar`. Each value here
 //! stands for one of that definition: `specs/Shown.antt` says which.

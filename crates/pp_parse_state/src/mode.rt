@@ -2,7 +2,9 @@
 
 use crate::Kind;
 
-/// What was read last. Each stands for the mode of `pp_grammar` that has its name, whose parts lie on the stack.
+/// What was read last. Each stands for the mode of `pp_grammar` that has its name, whose parts lie on the stack. A
+/// number is the offset at which that form stands, in bytes, and behind a minus sign also that of the sign's end; a
+/// truth value, whether the hole stands in the expression.
 #[derive(Clone, Copy)]
 pub enum Mode {
     Want,

@@ -1,7 +1,7 @@
 //! The parts of frames and modes: what is put on the stack, and what is taken off it.
 //!
-//! Each frame and each mode has its parts on the stack, so that there is one wherever it is asked for. Where there were
-//! none, the empty one or a spare tree would be answered, as `specs/Shown` says.
+//! Each frame and each mode has its parts on the stack, so that there is one wherever it is asked for; no clause says
+//! so. Where there were none, the empty one or a spare tree would be answered, as `specs/Parts` says.
 #![tactic(auto, using(crate::proofs::Stacked::stacked_push))]
 
 ghost use Rattle.std.specs.Prelude.{◌≡◌, [], IfOk, option_map};
@@ -99,7 +99,7 @@ impl<'a> Stack<'a> {
         self.exprs.pop().unwrap_or(self.spares.expr)
     }
 
-    /// Puts a type that may be left out on the stack.
+    /// Puts a written type, or that none is written, on the stack.
     pub fn put_given_type(&mut self, part: Option<&'a Built<TypeText<'a>>>) -> Result<(), NoMemory>
         ensures { IfOk result (λ _. shown self.new
             ≡ with_given_type (option_map (λ t. type_of t.now.tree) part.entry) (shown self.old)) }
@@ -108,7 +108,7 @@ impl<'a> Stack<'a> {
         Ok(())
     }
 
-    /// Takes a type that may be left out off the stack.
+    /// Takes a written type, or that none is written, off the stack.
     pub fn take_given_type(&mut self) -> Option<&'a Built<TypeText<'a>>>
         ensures part { option_map (λ t. type_of t.now.tree) result ≡ top_given_type (shown self.old).parts }
         ensures others { shown self.new ≡ without_given_type (shown self.old) }
@@ -116,7 +116,7 @@ impl<'a> Stack<'a> {
         self.given_types.pop().unwrap_or(None)
     }
 
-    /// Puts a guard of a case, if it has one on the stack.
+    /// Puts the guard of a case, or that there is none, on the stack.
     pub fn put_guard(&mut self, part: Option<&'a Built<Expr<'a>>>) -> Result<(), NoMemory>
         ensures { IfOk result (λ _. shown self.new
             ≡ with_guard (option_map (λ e. tree_of e.now.tree) part.entry) (shown self.old)) }
@@ -125,7 +125,7 @@ impl<'a> Stack<'a> {
         Ok(())
     }
 
-    /// Takes a guard of a case, if it has one off the stack.
+    /// Takes the guard of a case, or that there is none, off the stack.
     pub fn take_guard(&mut self) -> Option<&'a Built<Expr<'a>>>
         ensures part { option_map (λ e. tree_of e.now.tree) result ≡ top_guard (shown self.old).parts }
         ensures others { shown self.new ≡ without_guard (shown self.old) }
@@ -201,7 +201,7 @@ impl<'a> Stack<'a> {
         self.case_lists.pop().unwrap_or(Vec::new(self.alloc))
     }
 
-    /// Puts a head of a declaration on the stack.
+    /// Puts the head of a declaration on the stack.
     pub fn put_head(&mut self, part: Head<'a>) -> Result<(), NoMemory>
         ensures { IfOk result (λ _. shown self.new ≡ with_head (head_of part.entry) (shown self.old)) }
     {
@@ -209,7 +209,7 @@ impl<'a> Stack<'a> {
         Ok(())
     }
 
-    /// Takes a head of a declaration off the stack.
+    /// Takes the head of a declaration off the stack.
     pub fn take_head(&mut self) -> Head<'a>
         ensures part { head_of result ≡ top_head (shown self.old).parts }
         ensures others { shown self.new ≡ without_head (shown self.old) }
@@ -217,7 +217,7 @@ impl<'a> Stack<'a> {
         self.heads.pop().unwrap_or(Head::none(self.alloc))
     }
 
-    /// Puts a contracts of a body on the stack.
+    /// Puts the contracts of a body on the stack.
     pub fn put_contracts(&mut self, part: Contracts<'a>) -> Result<(), NoMemory>
         ensures { IfOk result (λ _. shown self.new ≡ with_contracts (contracts_of part.entry) (shown self.old)) }
     {
@@ -225,7 +225,7 @@ impl<'a> Stack<'a> {
         Ok(())
     }
 
-    /// Takes a contracts of a body off the stack.
+    /// Takes the contracts of a body off the stack.
     pub fn take_contracts(&mut self) -> Contracts<'a>
         ensures part { contracts_of result ≡ top_contracts (shown self.old).parts }
         ensures others { shown self.new ≡ without_contracts (shown self.old) }
@@ -233,7 +233,7 @@ impl<'a> Stack<'a> {
         self.contracts.pop().unwrap_or(Contracts::none(self.alloc))
     }
 
-    /// Puts a postcondition of a body, if it has one on the stack.
+    /// Puts the postcondition of a body, or that there is none, on the stack.
     pub fn put_post(&mut self, part: Option<Claim<'a>>) -> Result<(), NoMemory>
         ensures { IfOk result (λ _. shown self.new
             ≡ with_post (option_map claim_parts part.entry) (shown self.old)) }
@@ -242,7 +242,7 @@ impl<'a> Stack<'a> {
         Ok(())
     }
 
-    /// Takes a postcondition of a body, if it has one off the stack.
+    /// Takes the postcondition of a body, or that there is none, off the stack.
     pub fn take_post(&mut self) -> Option<Claim<'a>>
         ensures part { option_map claim_parts result ≡ top_post (shown self.old).parts }
         ensures others { shown self.new ≡ without_post (shown self.old) }

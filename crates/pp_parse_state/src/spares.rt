@@ -6,7 +6,7 @@ use pp_tree::{Decl, Expr, Pattern, TypeText};
 use pp_tree_build::{Built, Checked, ClassKind, ClassParts, any, class, int, type_text};
 
 /// A tree of each kind, which is taken where none lies on the stack. Each frame and each mode has its parts, so none of
-/// these is ever taken, and any would do.
+/// these is ever taken, and any would do; no clause says so.
 #[derive(Clone, Copy)]
 pub(crate) struct Spares<'a> {
     pub(crate) of: &'a Built<TypeText<'a>>,

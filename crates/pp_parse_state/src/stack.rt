@@ -5,7 +5,7 @@ ghost use Rattle.pp_grammar.specs.Frames.{Frame as plain_frame};
 ghost use Rattle.pp_grammar.specs.Joining.{floor, takes_hole};
 ghost use Rattle.pp_parse_state.specs.Joining.{top_binds, top_is_statement, lets_hole, is_claim};
 ghost use Rattle.pp_parse_state.specs.Parts.{Parts};
-ghost use Rattle.pp_parse_state.specs.Shown.{frame_of, frames, over, shown, with_frame};
+ghost use Rattle.pp_parse_state.specs.Shown.{frame_of, frames, nothing_on, over, shown, spares_of, with_frame};
 
 use crate::joining::{binds, is_statement};
 use crate::operators::{LOOSEST, TIGHTEST, level};
@@ -39,23 +39,25 @@ pub struct Stack<'a> {
 }
 
 impl<'a> Stack<'a> {
-    /// Nothing is open.
+    /// Nothing is open, and nothing lies there but the spare trees.
     pub fn new(alloc: Global, arena: &'a Bump) -> Result<Stack<'a>, NoMemory>
-        ensures { IfOk result (λ s. frames s ≡ []) }
+        ensures frames { IfOk result (λ s. frames s ≡ []) }
+        ensures parts { IfOk result (λ s. shown s ≡ nothing_on (shown s).parts.spares) }
     {
         Ok(Stack::empty(alloc, Spares::new(arena)?))
     }
 
-    /// Nothing is open any more.
+    /// Nothing is open any more, and nothing lies there but the spare trees, which stay.
     pub fn clear(&mut self)
-        ensures { frames self.new ≡ [] }
+        ensures frames { frames self.new ≡ [] }
+        ensures parts { shown self.new ≡ nothing_on (shown self.old).parts.spares }
     {
         *self = Stack::empty(self.alloc, self.spares);
     }
 
     /// The stack on which nothing lies.
     fn empty(alloc: Global, spares: Spares<'a>) -> Stack<'a>
-        ensures { frames result ≡ [] }
+        ensures { shown result ≡ nothing_on (spares_of spares.entry) }
     {
         Stack {
             alloc,
@@ -78,7 +80,7 @@ impl<'a> Stack<'a> {
         }
     }
 
-    /// A frame is put on top, above its parts. Where there is no memory, the frames stay as they were.
+    /// A frame is put on top, above its parts.
     #[tactic(auto, using(crate::proofs::Stacked::stacked_push))]
     pub fn push(&mut self, frame: Frame) -> Result<(), NoMemory>
         ensures { IfOk result (λ _. shown self.new ≡ with_frame frame (shown self.old)) }

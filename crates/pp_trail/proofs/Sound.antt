@@ -55,7 +55,8 @@ sound_push cs ss marks truths vars cap new s place h le low high absent reason a
 pub sound_pop : (cs : List (List Literal)) (ss front : List Step) (marks : List (Option Mark))
     (truths : List Truth) (vars cap new : ℕ) (s : Step) → IsSound cs ss marks truths vars cap
     → ss ≡ front ++ s ∷ [] → new ≡ cap → s.lit.var ≤ vars →
-    IsSound cs front (set marks s.lit.var None) (set (set truths (code s.lit) Open) (code (opposite s.lit)) Open) vars new
+    IsSound cs front (set marks s.lit.var None) (set (set truths (code s.lit) Open) (code (opposite s.lit)) Open) vars
+    new
 sound_pop cs ss front marks truths vars cap new s h e same high =
     let t : IsTrail cs vars (front ++ s ∷ []) = subst (λ (z : List Step). IsTrail cs vars z) e h.trail in
     let w : ArePlaces marks (front ++ s ∷ []) = subst (λ (z : List Step). ArePlaces marks z) e h.shows in

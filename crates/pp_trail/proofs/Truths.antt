@@ -58,7 +58,8 @@ value_none xs m h k = cond-false (has xs m) (Some true) _ h ∙ cond-false (has 
 -- and what a value says of the literal and of its negation
 by_true : (a b : Bool) → Some true ≡ cond a (Some true) (cond b (Some false) None) → a ≡ true
 by_true true b e = refl
-by_true false true e = absurd (let f : Some true ≡ Some false = e in let g : true ≡ false = cc in false_not_true (sym g))
+by_true false true e = absurd
+    (let f : Some true ≡ Some false = e in let g : true ≡ false = cc in false_not_true (sym g))
 by_true false false e = absurd (let f : Some true ≡ None = e in cc)
 
 by_none : (a b : Bool) → None ≡ cond a (Some true) (cond b (Some false) None) → (a ≡ false) × (b ≡ false)
@@ -200,7 +201,8 @@ truths_pop truths front s h lt lt' a = record {
           | inl e ↦ (
               let is : l ≡ s.lit = same_code l s.lit e in
               ap truth_of (written_first truths one other Open Open (code l) n e lt)
-              ∙ sym (absent_value front l (subst (λ (x : ℕ). IsAbsent x front) (sym (ap (λ (z : Literal). z.var) is)) a)))
+              ∙ sym (absent_value front l
+              (subst (λ (x : ℕ). IsAbsent x front) (sym (ap (λ (z : Literal). z.var) is)) a)))
           | inr m ↦ ap truth_of (unwritten truths one other Open Open (code l) n m)
               ∙ h.shown l (let k = length_written truths one other Open Open in omega arith)
               ∙ more ∙ value_push_other (lits front) s.lit l (λ e. m (ap code e)) (λ e. n (ap code e))

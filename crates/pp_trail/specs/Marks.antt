@@ -1,6 +1,7 @@
--- The trail by variable: whether and how each variable stands there. (own)
-use Rattle.std.specs.Prelude.{ℕ, suc, ◌≡◌, ◌+◌, ◌*◌, ◌<◌, ◌≤◌, ◌==◌, Bool, true, false, List, [], ◌∷◌, Option, Some, None}
-use Rattle.std.specs.Prelude.{All, length, slice_index_or, if◌then◌else◌}
+-- The trail by variable and by literal: whether and how each variable stands there, and what is said of each literal.
+-- (own)
+use Rattle.std.specs.Prelude.{ℕ, suc, ◌≡◌, ◌+◌, ◌*◌, ◌<◌, ◌≤◌, ◌==◌, Bool, true, false, List, [], ◌∷◌, Option, Some}
+use Rattle.std.specs.Prelude.{None, All, length, slice_index_or, if◌then◌else◌}
 use Rattle.pp_clause.specs.Literal.{Literal}
 use Rattle.pp_clause.specs.Bound.{IsUpTo}
 use Rattle.pp_trail.specs.Trail.{lits, value_in, IsTrail}

@@ -1,5 +1,4 @@
 //! A trail by variable, for look-ups.
-use pp_clause::Lit;
 
 /// How a variable stands in a trail.
 #[derive(Clone, Copy)]

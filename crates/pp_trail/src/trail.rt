@@ -23,7 +23,7 @@ pub struct Trail {
     steps: Vec<Step>,
     // by variable; there are one more than the greatest variable
     marks: Vec<Option<Mark>>,
-    // by literal: propagation reads these, and they take a sixth of the memory of the marks
+    // by literal: propagation reads these, and they take less memory than the marks
     truths: Vec<Truth>,
     vars: u32,
 }

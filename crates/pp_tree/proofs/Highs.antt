@@ -8,7 +8,7 @@ use Rattle.pp_tree.specs.Height.{def_height, decl_height, unit_height}
 use Rattle.pp_tree.specs.Plain.{TypeTree, ClassTree, PostTree, DefTree, DeclTree, root, ctor, other}
 use Rattle.pp_tree.specs.Plain.{def, UnitTree}
 use Rattle.pp_tree.specs.Roots.{Root, expr_root, type_root, param_root, written_roots, class_roots, post_roots}
-use Rattle.pp_tree.specs.Roots.{def_roots, decl_roots, unit_roots, too_high}
+use Rattle.pp_tree.specs.Roots.{stands_before, contract_roots, def_roots, decl_roots, unit_roots, too_high}
 
 abbrev levels : List Root → ℕ
 levels rs = highest (λ r. r.levels) rs
@@ -38,15 +38,23 @@ post_is : (o : Option PostTree) → levels (post_roots o) ≡ post_height o
 post_is None = refl
 post_is (Some p) = omega (arith, levels_append (written_roots p.of) (expr_root p.claim ∷ []), written_is p.of)
 
+contract_is : (rs qs : List Root) → levels (contract_roots rs qs) ≡ max (levels rs) (levels qs)
+contract_is rs qs = by (stands_before qs rs)
+  where
+    by : (b : Bool) → levels (cond b (qs ++ rs) (rs ++ qs)) ≡ max (levels rs) (levels qs)
+    by true = omega (arith, levels_append qs rs)
+    by false = omega (arith, levels_append rs qs)
+
 def_is : (d : DefTree) → levels (def_roots d) ≡ def_height d
 def_is d =
-    let after_measure = expr_root d.body ∷ post_roots d.post in
-    let after_pre = map expr_root d.measure ++ after_measure in
+    let pre = map expr_root d.pre in
+    let measure = map expr_root d.measure in
+    let behind = expr_root d.body ∷ post_roots d.post in
     omega (
       arith,
-      levels_append (map param_root d.params) (type_root d.result ∷ (map expr_root d.pre ++ after_pre)),
-      levels_append (map expr_root d.pre) after_pre,
-      levels_append (map expr_root d.measure) after_measure,
+      levels_append (map param_root d.params) (type_root d.result ∷ (contract_roots pre measure ++ behind)),
+      levels_append (contract_roots pre measure) behind,
+      contract_is pre measure,
       levels_map param_root d.params,
       levels_map expr_root d.pre,
       levels_map expr_root d.measure,

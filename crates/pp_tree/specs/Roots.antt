@@ -1,7 +1,7 @@
 -- The roots of a unit: the trees of expressions and written types that stand in no other, with their places and
 -- heights.
 -- Source: own.
-use Rattle.std.specs.Prelude.{ℕ, nat_lt, cond, List, [], ◌∷◌, ◌++◌, map, flat_map, Option, Some, None}
+use Rattle.std.specs.Prelude.{ℕ, nat_lt, cond, Bool, false, List, [], ◌∷◌, ◌++◌, map, flat_map, Option, Some, None}
 use Rattle.pp_tree.specs.Plain.{TypeTree, type_text, Tree, int, bool, name, apply, field, unary, binary, choice}
 use Rattle.pp_tree.specs.Plain.{matching, val_in, assert_in, ParamTree, ClassTree, PostTree, DefTree, DeclTree, root}
 use Rattle.pp_tree.specs.Plain.{ctor, other, def, UnitTree}
@@ -48,10 +48,20 @@ abbrev pub post_roots : Option PostTree → List Root
 post_roots None = []
 post_roots (Some p) = written_roots p.of ++ expr_root p.claim ∷ []
 
+-- whether the first of these stands before the first of those
+abbrev pub stands_before : List Root → List Root → Bool
+stands_before (r ∷ rs) (q ∷ qs) = nat_lt r.at q.at
+stands_before _ _ = false
+
+-- what is required and what is measured, in the order of the text: a measure may stand before what is required
+abbrev pub contract_roots : List Root → List Root → List Root
+contract_roots pre measure = cond (stands_before measure pre) (measure ++ pre) (pre ++ measure)
+
+-- in the order of the text
 abbrev pub def_roots : DefTree → List Root
 def_roots d =
-    map param_root d.params ++ (type_root d.result ∷ (map expr_root d.pre ++ (map expr_root d.measure
-    ++ (expr_root d.body ∷ post_roots d.post))))
+    map param_root d.params ++ (type_root d.result ∷ (contract_roots (map expr_root d.pre) (map expr_root d.measure)
+    ++ (expr_root d.body ∷ post_roots d.post)))
 
 abbrev pub decl_roots : DeclTree → List Root
 decl_roots (root c) = class_roots c

@@ -6,7 +6,7 @@ use Rattle.std.specs.Option.{is_some}
 use Rattle.std.specs.Prelude.{nat_lt, option_to_list, flat_map}
 use Rattle.std.proofs.lemmas.List.{drop_more}
 use Rattle.pp_tree.specs.Plain.{Word, ParamTree, TypeTree, Tree, PostTree, DefTree}
-use Rattle.pp_tree.specs.Roots.{Root, too_high, param_root, type_root, expr_root, written_roots, post_roots}
+use Rattle.pp_tree.specs.Roots.{Root, too_high, contract_roots, stands_before, type_root, written_roots}
 
 or_cond : (b : Bool) (x : ℕ) (o p : Option ℕ) → option_or (cond b (Some x) o) p ≡ cond b (Some x) (option_or o p)
 or_cond true x o p = refl
@@ -42,32 +42,17 @@ pub high_map : {A B : Type 0} (root : A → Root) (f : B → A) (xs : List B) (a
     → a ≡ too_high (map (λ x. root (f x)) xs) → IsHigh a (map root (map f xs))
 high_map root f xs a e = record { is = e ∙ ap too_high (roots_map root f xs) }
 
+-- contracts, in the order of the text
+pub high_contracts : (rs qs : List Root) (b : Bool) (d : Option ℕ) → b ≡ stands_before qs rs
+    → d ≡ too_high (cond b (qs ++ rs) (rs ++ qs)) → d ≡ too_high (contract_roots rs qs)
+high_contracts rs qs b d is e = e ∙ ap (λ (z : Bool). too_high (cond z (qs ++ rs) (rs ++ qs))) is
+
 pub high_one : (r : Root) (a : Option ℕ) → a ≡ too_high (r ∷ []) → IsHigh a (r ∷ [])
 high_one r a e = record { is = e }
 
 pub high_written : {B : Type 0} (f : B → TypeTree) (o : Option B) (a : Option ℕ)
     → a ≡ too_high (map (λ b. type_root (f b)) (option_to_list o)) → IsHigh a (written_roots (option_map f o))
 high_written f o a e = record { is = e ∙ ap too_high (roots_written f o) }
-
--- equal parts have equal roots
-pub same_class : (a : Option ℕ) (fs gs : List ParamTree) (p q : Option TypeTree) → gs ≡ fs → q ≡ p
-    → a ≡ too_high (map param_root fs ++ written_roots p) → a ≡ too_high (map param_root gs ++ written_roots q)
-same_class a fs gs p q same_fields same_parent e = e ∙ ap (λ f. too_high (map param_root f ++ written_roots p))
-    (sym same_fields) ∙ ap (λ r. too_high (map param_root gs ++ written_roots r)) (sym same_parent)
-
--- the roots of the parts of a function
-abbrev pub roots_of_parts : List ParamTree → TypeTree → List Tree → List Tree → Tree → Option PostTree → List Root
-roots_of_parts ps t pre m e post = map param_root ps ++ (type_root t ∷ (map expr_root pre ++ (map expr_root m ++
-    (expr_root e ∷ post_roots post))))
-
-pub same_def : (a : Option ℕ) (ps qs : List ParamTree) (t : TypeTree) (pre qre m n : List Tree) (e : Tree) (x y :
-    Option PostTree) → qs ≡ ps → qre ≡ pre → n ≡ m → y ≡ x → a ≡ too_high (roots_of_parts ps t pre m e x)
-    → a ≡ too_high (roots_of_parts qs t qre n e y)
-same_def a ps qs t pre qre m n e x y params pres measure post is =
-    is ∙ ap (λ z. too_high (roots_of_parts z t pre m e x)) (sym params)
-    ∙ ap (λ z. too_high (roots_of_parts qs t z m e x)) (sym pres)
-    ∙ ap (λ z. too_high (roots_of_parts qs t qre z e x)) (sym measure) ∙ ap (λ z. too_high (roots_of_parts qs t qre
-    n e z)) (sym post)
 
 abbrev def_record : ℕ → Word → List Word → List ParamTree → Bool → TypeTree → List Tree → List Tree → Tree
     → Option PostTree → DefTree

@@ -8,7 +8,8 @@ use Rattle.pp_tree.specs.declared.pattern.Pattern.{Pattern}
 use Rattle.pp_tree.specs.declared.type_text.TypeText.{TypeText}
 use Rattle.pp_tree.specs.Height.{highest, height, heights, type_height, type_heights, pattern_height, pattern_heights}
 use Rattle.pp_tree.specs.Height.{case_heights}
-use Rattle.pp_tree.specs.Plain.{Word, Tree, apply, choice, matching, PatternTree, ctor_pattern, TypeTree, type_text, CaseTrees}
+use Rattle.pp_tree.specs.Plain.{Word, Tree, apply, choice, matching, PatternTree, ctor_pattern, TypeTree, type_text}
+use Rattle.pp_tree.specs.Plain.{CaseTrees}
 use Rattle.pp_tree.specs.Plain.{no_cases}
 use Rattle.pp_tree.specs.Shown.{tree_of, trees, case_of, case_trees, case_before, type_of, type_trees, pattern_of}
 use Rattle.pp_tree.specs.Shown.{pattern_trees}

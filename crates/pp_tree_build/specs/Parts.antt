@@ -14,6 +14,7 @@ class_as Root c = root c
 class_as Ctor c = ctor c
 class_as Other c = other c
 
+-- the class that the parts make
 abbrev pub class_parts : ClassParts → ClassTree
 class_parts c = record {
   at = c.at;
@@ -24,6 +25,7 @@ class_parts c = record {
   object = c.object;
 }
 
+-- the postcondition that the parts make
 abbrev pub claim_parts : Claim → PostTree
 claim_parts c = record {
   at = c.at;
@@ -32,6 +34,7 @@ claim_parts c = record {
   claim = tree_of c.claim.now.tree;
 }
 
+-- the function that the parts make
 abbrev pub def_parts : DefParts → DefTree
 def_parts d = record {
   at = d.at;

@@ -33,13 +33,15 @@ impl<'a> Node for Param<'a> {
     ghost height_of = { λ p. param_height (param_of p) };
 }
 
-/// The greatest height that is told apart from greater ones, and one more.
+/// The least height that is too high. Greater ones aren't told apart from it.
 pub const TOO_HIGH: u32 = 65;
 
-/// A tree and its height, where [`TOO_HIGH`] stands for every height from there on.
+/// A tree and its height.
 #[derive(Drop)]
 pub struct Built<T: Node> {
+    /// The tree.
     pub tree: T,
+    /// Its height; [`TOO_HIGH`] stands for every height from there on.
     pub levels: u32,
     pub ghost is_height: { levels ≡ min (T.height_of tree) 65 },
 }

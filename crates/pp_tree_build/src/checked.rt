@@ -21,10 +21,12 @@ impl<'a> Rooted for Unit<'a> {
     ghost roots_of = { λ u. unit_roots (unit_of u) };
 }
 
-/// A declaration or a unit, and the place of the first of its roots that is higher than 64, if one is.
+/// A declaration or a unit, and what is too high in it.
 #[derive(Drop)]
 pub struct Checked<T: Rooted> {
+    /// The declaration or the unit.
     pub tree: T,
+    /// The offset of the first of its roots that is higher than 64, in bytes, if one is.
     pub deep: Option<u32>,
     pub ghost is_deep: { deep ≡ too_high (T.roots_of tree) } by { Prim.hlevel props },
 }

@@ -2,8 +2,9 @@
 
 ghost use Rattle.std.specs.Prelude.{◌≡◌, IfOk, flat_map, map, option_map};
 ghost use Rattle.pp_tree.specs.Plain.{def};
-ghost use Rattle.pp_tree.specs.Roots.{too_high, class_roots, def_roots, post_roots};
-ghost use Rattle.pp_tree.specs.Shown.{class_of, decl_of, def_of, import_of, post_of, unit_of};
+ghost use Rattle.pp_tree.specs.Roots.{class_roots, contract_roots, def_roots, expr_root, post_roots, stands_before};
+ghost use Rattle.pp_tree.specs.Roots.{too_high};
+ghost use Rattle.pp_tree.specs.Shown.{class_of, decl_of, def_of, import_of, post_of, tree_of, unit_of};
 ghost use Rattle.pp_tree_build.specs.Parts.{class_as, class_parts, claim_parts, def_parts};
 
 use crate::checked::{Checked, Rooted};
@@ -19,43 +20,66 @@ use pp_tree::{ClassDecl, Decl, DefDecl, Expr, Import, Param, Post, TypeText, Uni
 /// The parts of a class, a trait or a case object.
 #[derive(Clone, Copy)]
 pub struct ClassParts<'a, 'p> {
+    /// The offset of its name, in bytes.
     pub at: u32,
+    /// Its name.
     pub name: &'a str,
+    /// The names of its type parameters.
     pub params: &'p [&'a str],
+    /// Its fields.
     pub fields: &'p [&'a Built<Param<'a>>],
+    /// What it extends, if that is written.
     pub parent: Option<&'a Built<TypeText<'a>>>,
+    /// Whether it is a case object.
     pub object: bool,
 }
 
 /// What a class is: the root of a datatype, a constructor, or neither.
 #[derive(Clone, Copy)]
 pub enum ClassKind {
+    /// The root of a datatype.
     Root,
+    /// A constructor of a datatype.
     Ctor,
+    /// Neither.
     Other,
 }
 
 /// The parts of a postcondition.
 #[derive(Clone, Copy)]
 pub struct Claim<'a> {
+    /// The offset of the word `ensuring` or `holds`, in bytes.
     pub at: u32,
+    /// The name of the result.
     pub name: &'a str,
+    /// The type of the result, if that is written here.
     pub of: Option<&'a Built<TypeText<'a>>>,
+    /// What is claimed.
     pub claim: &'a Built<Expr<'a>>,
 }
 
 /// The parts of a function.
 #[derive(Clone, Copy)]
 pub struct DefParts<'a, 'p> {
+    /// The offset of its name, in bytes.
     pub at: u32,
+    /// Its name.
     pub name: &'a str,
+    /// The names of its type parameters.
     pub type_params: &'p [&'a str],
+    /// Its parameters.
     pub params: &'p [&'a Built<Param<'a>>],
+    /// Whether a list of parameters is written, be it an empty one.
     pub list: bool,
+    /// The type of its result.
     pub result: &'a Built<TypeText<'a>>,
+    /// What its `require` say, in their order.
     pub pre: &'p [&'a Built<Expr<'a>>],
+    /// The components of its `decreases`.
     pub measure: &'p [&'a Built<Expr<'a>>],
+    /// Its body.
     pub body: &'a Built<Expr<'a>>,
+    /// Its postcondition, if it has one.
     pub post: Option<Claim<'a>>,
 }
 
@@ -116,14 +140,38 @@ fn claim_deep(post: Option<Claim>) -> Option<u32>
     }
 }
 
+/// Whether the first of these trees stands before the first of those.
+fn stands_before(these: &[&Built<Expr>], those: &[&Built<Expr>]) -> bool
+    ensures { result ≡ stands_before (map expr_root (map (λ b. tree_of b.now.tree) these.now))
+        (map expr_root (map (λ b. tree_of b.now.tree) those.now)) }
+{
+    match (these.split_first(), those.split_first()) {
+        (Some((one, _)), Some((other, _))) => one.tree.at < other.tree.at,
+        _ => false,
+    }
+}
+
+/// The place of the first root of contracts that is too high, in the order of the text.
+fn contracts_deep(pre: &[&Built<Expr>], measure: &[&Built<Expr>]) -> Option<u32>
+    ensures { result ≡ too_high (contract_roots (map expr_root (map (λ b. tree_of b.now.tree) pre.now))
+        (map expr_root (map (λ b. tree_of b.now.tree) measure.now))) }
+{
+    let in_pre = first_too_high(pre);
+    let in_measure = first_too_high(measure);
+    if stands_before(measure, pre) {
+        in_measure.or(in_pre)
+    } else {
+        in_pre.or(in_measure)
+    }
+}
+
 /// The place of the first root of a function that is too high.
 fn def_deep(parts: &DefParts) -> Option<u32>
     ensures { result ≡ too_high (def_roots (def_parts parts.now)) }
 {
     let in_body = too_high(parts.body).or(claim_deep(parts.post));
-    let in_measure = first_too_high(parts.measure).or(in_body);
-    let in_pre = first_too_high(parts.pre).or(in_measure);
-    let in_result = too_high(parts.result).or(in_pre);
+    let in_contracts = contracts_deep(parts.pre, parts.measure).or(in_body);
+    let in_result = too_high(parts.result).or(in_contracts);
     first_too_high(parts.params).or(in_result)
 }
 

@@ -1,7 +1,10 @@
-//! Trees are built from their parts, with their heights. Each function here says which plain tree it gives.
+//! Trees are built from their parts, with their heights. Each function here says which plain tree it gives. Its `at` is
+//! the offset at which the tree stands, in bytes.
 //!
-//! What is built lies in the arena and is handed on by reference: no tree is copied but into a list of its parent. How
-//! heights are counted may be changed, as long as they tell which trees are higher than 64.
+//! What is built lies in the arena and is handed on by reference: a tree is copied only where its parent holds it by
+//! value, in a list, a case, a parameter or a declaration, or as the type of a `val`. On `NoMemory` what was made stays
+//! in the arena until its reset. How heights are counted may be changed, as long as they tell which trees are higher
+//! than 64.
 #![tactic(auto)]
 
 mod built;

@@ -7,7 +7,7 @@ use crate::{Built, NoMemory, Node, TOO_HIGH};
 use bumpalo::Bump;
 use bumpalo::collections::into_bump_slice;
 
-/// The height of a node above trees of this height at most.
+/// The height of a node above trees of this height at most, cut at `TOO_HIGH`.
 pub fn above(levels: u32) -> u32
     requires { levels ≤ 65 }
     ensures { result ≡ min (levels + 1) 65 }
@@ -15,7 +15,7 @@ pub fn above(levels: u32) -> u32
     (levels + 1).min(TOO_HIGH)
 }
 
-/// The greatest height of trees.
+/// The greatest height of the trees, cut at `TOO_HIGH`, and 0 where there is none.
 pub fn highest<T: Node>(items: &[&Built<T>]) -> u32
     ensures { result ≡ min (highest T.height_of (map (λ b. b.now.tree) items.now)) 65 }
 {

@@ -27,7 +27,7 @@ pub fn type_text<'a>(
     keep(arena, Built { tree, levels })
 }
 
-/// The height of a type that may be missing.
+/// The height of a type that may be missing, cut at `TOO_HIGH`, and 0 where it is missing.
 pub fn written_levels(of: Option<&Built<TypeText>>) -> u32
     ensures { result ≡ min (written_height (option_map (λ t. type_of t.now.tree) of.entry)) 65 }
 {

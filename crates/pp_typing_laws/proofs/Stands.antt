@@ -1,70 +1,63 @@
 -- A fault that is computed stands there.
-use Rattle.std.proofs.Common.{◌≡◌, ◌∙◌, ℕ, suc, List, [], ◌∷◌, ◌++◌, Ok, Err, Option, Some, None}
-use Rattle.std.proofs.Common.{refl, sym, ap, subst, nat_eq, length, map}
+use Rattle.std.proofs.Common.{◌≡◌, ◌∙◌, ℕ, List, [], ◌∷◌, ◌++◌, Ok, Err, Option, Some, None}
+use Rattle.std.proofs.Common.{refl, sym, ap, subst, length}
 use Rattle.std.specs.Prelude.{◌≢◌, slice_get}
-use Rattle.std.proofs.lemmas.Bool.{eqb-true}
 use Rattle.pp_fault.specs.declared.Fault.{Fault}
-use Rattle.pp_fault.specs.declared.Rule.TheVariants.{Duplicate, Mismatch, Arity, NotABoolean}
-use Rattle.pp_fault.specs.Part.{Part, and_then}
+use Rattle.pp_fault.specs.declared.Rule.TheVariants.{Duplicate, Mismatch, NotABoolean}
+use Rattle.pp_fault.specs.Part.{and_then}
 use Rattle.pp_fault.proofs.Parts.{same_err, same_ok}
 use Rattle.pp_generic.specs.declared.expected.Expected.{Expected}
 use Rattle.pp_generic.specs.declared.expected.Expected.TheVariants.{Open}
 use Rattle.pp_typed.specs.Equal.{equal}
-use Rattle.pp_generic.specs.Expected.{Found, exact, expect, every, known}
+use Rattle.pp_generic.specs.Expected.{Found, exact, expect, known}
 use Rattle.pp_generic.specs.Found.{learn}
 use Rattle.pp_typed.specs.Operators.{takes, unary_sort}
-use Rattle.pp_typed.specs.Put.{put}
-use Rattle.pp_names.specs.Find.{find_ctor}
 use Rattle.pp_rules.specs.declared.callee.Callee.{Callee}
-use Rattle.pp_rules.specs.Elab.{AllBound, Bound, Taken, alike, applied, arguments, arm, asserted, bind, body_sort}
-use Rattle.pp_rules.specs.Elab.{chosen, condition, count, count_patterns, ctor_bound, ctor_found, elab, elab_args}
-use Rattle.pp_rules.specs.Elab.{elab_cases, elab_pattern, elab_patterns, field_of_ctor, field_placed, field_typed}
-use Rattle.pp_rules.specs.Elab.{finished, guarded_arm, inferred, is_sort, leaf, local_at, matched, name_at, named}
-use Rattle.pp_rules.specs.Elab.{negated, no_args, of_sort, pattern_name, plain_arm, selected, started, taken}
-use Rattle.pp_rules.specs.Elab.{val_expected, valued, with_ctor}
+use Rattle.pp_rules.specs.Elab.{alike, applied, arm, asserted, body_sort}
+use Rattle.pp_rules.specs.Elab.{chosen, condition, count, elab, elab_args}
+use Rattle.pp_rules.specs.Elab.{elab_cases, elab_pattern, field_of_ctor, field_placed, field_typed}
+use Rattle.pp_rules.specs.Elab.{guarded_arm, is_sort, local_at, matched, name_at, named}
+use Rattle.pp_rules.specs.Elab.{negated, no_args, of_sort, plain_arm, selected, taken}
+use Rattle.pp_rules.specs.Elab.{val_expected, valued}
 use Rattle.pp_operators.specs.Classes.{is_equality}
 use Rattle.pp_rules.specs.Operators.{admits, right_expected}
 use Rattle.pp_rules.specs.Scope.{Env, Scope, clashes, place}
 use Rattle.pp_rules.specs.Shapes.{applied_by, field_place, field_sort, named_by, only_ctor}
 use Rattle.pp_rules.specs.Typing.{Types, an_int, a_bool, a_local, a_name, an_application, a_field, a_prefix}
-use Rattle.pp_rules.specs.Typing.{an_operation, a_choice, a_match, a_val, an_assert, Applies, applies, Starts}
-use Rattle.pp_rules.specs.Typing.{TypesArgs, no_arg, TypesCases}
-use Rattle.pp_rules.specs.Written.{written, written_from}
-use Rattle.pp_sorts.proofs.Broken.{stands, one_stands}
-use Rattle.pp_sorts.specs.IsSort.{count as count_types}
-use Rattle.pp_tree.specs.Plain.{Word, TypeTree, TypeTrees, no_types, more_types, PatternTree, any, int_pattern}
-use Rattle.pp_tree.specs.Plain.{bool_pattern, ctor_pattern, PatternTrees, no_patterns, more_patterns, Tree, int, bool}
+use Rattle.pp_rules.specs.Typing.{an_operation, a_choice, a_match, a_val, an_assert, Applies, applies}
+use Rattle.pp_rules.specs.Typing.{TypesArgs, TypesCases}
+use Rattle.pp_rules.specs.Written.{written}
+use Rattle.pp_sorts.proofs.Broken.{stands}
+use Rattle.pp_tree.specs.Plain.{Word, TypeTree, TypeTrees, no_types, PatternTree}
+use Rattle.pp_tree.specs.Plain.{Tree, int, bool}
 use Rattle.pp_tree.specs.Plain.{name, apply, field, unary, binary, choice, matching, val_in, assert_in, Trees, no_trees}
 use Rattle.pp_tree.specs.Plain.{more_trees, CaseTrees, no_cases, plain_case, guarded_case}
 use Rattle.pp_typed.specs.declared.expr.TypedCase.{TypedCase}
 use Rattle.pp_typed.specs.declared.expr.TypedExpr.{TypedExpr}
 use Rattle.pp_typed.specs.declared.pattern.TypedPattern.{TypedPattern}
-use Rattle.pp_typed.specs.declared.pattern.TypedPatternKind.{TypedPatternKind}
-use Rattle.pp_typed.specs.declared.pattern.TypedPatternKind.TheVariants as pattern_kind
 use Rattle.pp_typed.specs.declared.sort.GenericSort.{GenericSort}
 use Rattle.pp_typed.specs.declared.sort.GenericSort.TheOpen as layer
 use Rattle.pp_typed.specs.declared.sort.GenericSort.TheVariants as sort
 use Rattle.pp_typed.specs.declared.sort.GenericSort.TheViews.{out-GenericSort}
-use Rattle.pp_typed.specs.declared.typed.TypedCtor.{TypedCtor}
-use Rattle.pp_typing_laws.proofs.Faulty.{then_err, uneven, differs, unless_err, fresh_err, agreed_err}
+use Rattle.pp_typing_laws.proofs.Faulty.{then_err, differs, unless_err, fresh_err, agreed_err}
 use Rattle.pp_typing_laws.proofs.Faulty.{of_sort_err}
-use Rattle.pp_typing_laws.proofs.Patterns.{root_of, shows_root, bind_ok, arguments_ok, sound_pattern}
-use Rattle.pp_typing_laws.proofs.Sound.{sound, sound_args, sound_cases, started_ok, wanted_ok, taken_ok, arm_sort}
-use Rattle.pp_typing_laws.proofs.Steps.{then_ok, of_sort_ok, is_sort_is, nothing_left}
-use Rattle.pp_typing_laws.specs.Faults.{at_of, flawed, BreaksBinding, bound_again, BreaksPattern, any_bound}
-use Rattle.pp_typing_laws.specs.Faults.{int_bound, int_unfit, bool_bound, bool_unfit, ctor_unknown, ctor_absent}
-use Rattle.pp_typing_laws.specs.Faults.{ctor_of_other, ctor_arity, ctor_bound as binder_of_ctor, ctor_parts}
-use Rattle.pp_typing_laws.specs.Faults.{BreaksPatterns, this_pattern, later_pattern, BreaksWritten, in_type, Breaks}
+use Rattle.pp_typing_laws.proofs.Patterns.{root_of, shows_root, sound_pattern}
+use Rattle.pp_typing_laws.proofs.Sound.{sound, sound_args, sound_cases, wanted_ok, taken_ok, arm_sort}
+use Rattle.pp_typing_laws.proofs.Steps.{then_ok, of_sort_ok, is_sort_is}
+use Rattle.pp_typing_laws.specs.Faults.{at_of, flawed}
+use Rattle.pp_typing_laws.specs.Faults.{BreaksWritten, in_type, Breaks}
 use Rattle.pp_typing_laws.specs.Faults.{unfit_int, unfit_bool, absent_local, unfit_local, unknown_name, in_name}
 use Rattle.pp_typing_laws.specs.Faults.{unknown_applied, in_application, in_base, no_one_ctor, unknown_field}
 use Rattle.pp_typing_laws.specs.Faults.{unfit_field, in_operand, unfit_operand, unfit_unary, in_left, unfit_left}
 use Rattle.pp_typing_laws.specs.Faults.{in_right, unfit_right, unfit_binary, in_test, in_first, in_second}
 use Rattle.pp_typing_laws.specs.Faults.{unlike_second, in_matched, without_case, in_case, clashing_val, in_val_type}
 use Rattle.pp_typing_laws.specs.Faults.{in_value, after_val, in_asserted, after_assert, BreaksCondition, in_condition}
-use Rattle.pp_typing_laws.specs.Faults.{no_boolean, BreaksApplied, args_arity, types_arity, in_types, in_args}
-use Rattle.pp_typing_laws.specs.Faults.{open_param, unfit_result, BreaksArgs, this_arg, unfit_arg, later_arg}
+use Rattle.pp_typing_laws.specs.Faults.{no_boolean}
+use Rattle.pp_typing_laws.specs.Faults.{BreaksArgs, this_arg, unfit_arg, later_arg}
 use Rattle.pp_typing_laws.specs.Faults.{BreaksCases, in_plain, in_guarded, in_guard, plain_body, guarded_body}
 use Rattle.pp_typing_laws.specs.Faults.{after_plain, after_guarded, BreaksBody, in_body, unlike_body}
+use Rattle.pp_typing_laws.proofs.CallStands.{applied_err, bare_args}
+use Rattle.pp_typing_laws.proofs.PatternStands.{stands_pattern}
 
 module _ (env : Env) where
   at_applied : {sc : Scope} {at : ℕ} {x : Expected} {ts : TypeTrees} {c : Callee} {es : Trees} {e : TypedExpr}
@@ -86,158 +79,6 @@ module _ (env : Env) where
   at_typed (a_val at w new wants value rest) = refl
   at_typed (an_assert at test is rest) = refl
 
-  -- patterns
-
-  binding : (at : ℕ) (n : Option Word) (s : GenericSort) (k : ℕ) (sc : Scope) (f : Fault)
-      → bind env at n s k sc ≡ Err f → BreaksBinding env at k sc n f
-  binding at None s k sc f h = cc
-  binding at (Some w) s k sc f h =
-      fresh_err env (clashes w k sc) Duplicate w at (Ok (sc ++ (w, s) ∷ [])) f h
-      (λ b is. subst (BreaksBinding env at k sc (Some w)) is (bound_again at w b)) (λ b is. cc)
-
-  leaf_err : {C : Type 0} (at : ℕ) (n : Option Word) (kind : TypedPatternKind) (of s : GenericSort) (k : ℕ)
-      (sc : Scope) (f : Fault)
-      → leaf env at n kind of s k sc ≡ Err f → (s ≢ of → flawed env Mismatch (pattern_name env n) at ≡ f → C)
-      → (BreaksBinding env at k sc n f → C) → C
-  leaf_err at n kind of s k sc f h first later =
-      unless_err env (equal of s) Mismatch (pattern_name env n) at _ f h
-      (λ b is. first (differs env of s b) is)
-      (λ b rest. then_err (bind env at n s k sc) _ f rest (λ e. later (binding at n s k sc f e)) (λ a is more. cc))
-
-  arguments_err : (at : ℕ) (c : Word) (r : ℕ) (s : GenericSort) (o : layer.GenericSort-F GenericSort) (f : Fault)
-      → out-GenericSort s ≡ o
-      → arguments env at c r o ≡ Err f → ((args : List GenericSort)
-      → s ≢ sort.Root r args) × (flawed env Mismatch c at ≡ f)
-  arguments_err at c r s (layer.Root q ss) f o h =
-      unless_err env (nat_eq r q) Mismatch c at (Ok ss) f h
-      (λ b is. (λ args e. uneven r q b (let same = sym (shows_root s r args e) ∙ o in cc), is)) (λ b is. cc)
-  arguments_err at c r s layer.Int f o h = (
-    λ args e. (let same = sym (shows_root s r args e)
-        ∙ o in cc),
-    same_err {A = List GenericSort} _ f h,
-  )
-  arguments_err at c r s layer.Bool f o h = (
-    λ args e. (let same = sym (shows_root s r args e)
-        ∙ o in cc),
-    same_err {A = List GenericSort} _ f h,
-  )
-  arguments_err at c r s (layer.Param i) f o h = (
-    λ args e. (let same = sym (shows_root s r args e)
-        ∙ o in cc),
-    same_err {A = List GenericSort} _ f h,
-  )
-
-  with_ctor_err : (at : ℕ) (n : Option Word) (w : Word) (ps : PatternTrees) (parts : List GenericSort → Scope
-      → Part AllBound) (s : GenericSort) (k : ℕ) (sc : Scope) (i : ℕ) (o : Option TypedCtor) (f : Fault)
-      → ((ss : List GenericSort) (mid : Scope) → parts ss mid ≡ Err f → BreaksPatterns env k mid ss ps f)
-      → find_ctor env.declared w ≡ Some i → slice_get env.declared.ctors i ≡ o
-      → with_ctor env at n w (count_patterns ps) parts s k sc i o ≡ Err f
-      → BreaksPattern env k sc s (ctor_pattern at n w ps) f
-  with_ctor_err at n w ps parts s k sc i None f ih p g h =
-      subst (BreaksPattern env k sc s (ctor_pattern at n w ps)) (same_err {A = Bound} _ f h) (ctor_absent at w i p g)
-  with_ctor_err at n w ps parts s k sc i (Some c) f ih p g h =
-      then_err (arguments env at w c.root (out-GenericSort s)) _ f h
-      (λ e. let q = arguments_err at w c.root s (out-GenericSort s) f refl e in
-      subst (BreaksPattern env k sc s (ctor_pattern at n w ps)) q.1 (ctor_of_other at w i c p g q.0))
-      (λ args is rest. unless_err env (nat_eq (count_patterns ps) (length c.fields)) Arity w at _ f rest
-      (λ b e. subst (BreaksPattern env k sc s (ctor_pattern at n w ps)) e (ctor_arity at w i c p g (uneven _ _ b)))
-      (λ b rest2. then_err (bind env at n s k sc) _ f rest2
-      (λ e. binder_of_ctor at w (binding at n s k sc f e))
-      (λ mid bound rest3. then_err (parts (map (put args) c.fields) mid) (ctor_bound env at n i) f rest3
-      (λ e. ctor_parts at w i c args p g (root_of s c.root args (arguments_ok env at w c.root
-      (out-GenericSort s) args is))
-      (bind_ok env at n s k sc mid bound) (ih (map (put args) c.fields) mid e))
-      (λ all is2 more. cc))))
-
-  ctor_err : (at : ℕ) (n : Option Word) (w : Word) (ps : PatternTrees) (s : GenericSort) (k : ℕ) (sc : Scope)
-      (f : Fault) (o : Option ℕ)
-      → find_ctor env.declared w ≡ o
-      → ((ss : List GenericSort) (mid : Scope) → elab_patterns env [] ps ss k mid ≡ Err f
-      → BreaksPatterns env k mid ss ps f)
-      → ctor_found env at n w (count_patterns ps) (λ ss after. elab_patterns env [] ps ss k after) s k sc o ≡ Err f
-      → BreaksPattern env k sc s (ctor_pattern at n w ps) f
-  ctor_err at n w ps s k sc f None p ih h =
-      subst (BreaksPattern env k sc s (ctor_pattern at n w ps)) (same_err {A = Bound} _ f h) (ctor_unknown at w p)
-  ctor_err at n w ps s k sc f (Some i) p ih h =
-      with_ctor_err at n w ps (λ ss after. elab_patterns env [] ps ss k after) s k sc i
-      (slice_get env.declared.ctors i) f ih p refl h
-
-  mutual
-    pub stands_pattern : (p : PatternTree) (s : GenericSort) (k : ℕ) (sc : Scope) (f : Fault)
-        → elab_pattern env p s k sc ≡ Err f → BreaksPattern env k sc s p f
-    stands_pattern (any at n) s k sc f h =
-        then_err (bind env at n s k sc) _ f h (λ e. any_bound at (binding at n s k sc f e)) (λ a is more. cc)
-    stands_pattern (int_pattern at n v) s k sc f h =
-        leaf_err at n (pattern_kind.Int v) sort.Int s k sc f h
-        (λ d is. subst (BreaksPattern env k sc s (int_pattern at n v)) is (int_unfit at v d)) (λ b. int_bound at v b)
-    stands_pattern (bool_pattern at n v) s k sc f h =
-        leaf_err at n (pattern_kind.Bool v) sort.Bool s k sc f h
-        (λ d is. subst (BreaksPattern env k sc s (bool_pattern at n v)) is (bool_unfit at v d))
-        (λ b. bool_bound at v b)
-    stands_pattern (ctor_pattern at n w ps) s k sc f h =
-        ctor_err at n w ps s k sc f (find_ctor env.declared w) refl (λ ss mid e. stands_patterns ps ss k mid [] f e) h
-
-    stands_patterns : (ps : PatternTrees) (ss : List GenericSort) (k : ℕ) (sc : Scope) (done : List TypedPattern)
-        (f : Fault)
-        → elab_patterns env done ps ss k sc ≡ Err f → BreaksPatterns env k sc ss ps f
-    stands_patterns no_patterns ss k sc done f h = cc
-    stands_patterns (more_patterns p ps) [] k sc done f h = cc
-    stands_patterns (more_patterns p ps) (s ∷ ss) k sc done f h =
-        then_err (elab_pattern env p s k sc) _ f h
-        (λ e. this_pattern (stands_pattern p s k sc f e))
-        (λ r is rest. later_pattern (sound_pattern env p s k sc r is) (stands_patterns ps ss k r.1
-        (done ++ r.0 ∷ []) f rest))
-
-  -- applications
-
-  started_err : (sc : Scope) (at : ℕ) (x : Expected) (w : Word) (ts : TypeTrees) (c : Callee) (es : Trees) (f : Fault)
-      → started env at x w ts c ≡ Err f → BreaksApplied env sc at w x ts c es f
-  started_err sc at x w no_types c es f h = cc
-  started_err sc at x w (more_types t ts) c es f h =
-      unless_err env (nat_eq (suc (count_types ts)) c.type_params) Arity w at _ f h
-      (λ b is. subst (BreaksApplied env sc at w x (more_types t ts) c es) is (types_arity at w t ts (uneven _ _ b)))
-      (λ b rest. then_err (written_from env [] (more_types t ts)) _ f rest
-      (λ e.
-      let s = one_stands env.declared.roots env.type_params env.source (more_types t ts) f e in
-      subst (BreaksApplied env sc at w x (more_types t ts) c es)
-      (ap (λ z. record { rule = f.rule; name = f.name; source = z; at = f.at }) (sym s.in_source))
-      (in_types at w f.rule f.name f.at s.broken))
-      (λ sorts is more. cc))
-
-  inferred_err : (sc : Scope) (at : ℕ) (x : Expected) (w : Word) (ts : TypeTrees) (c : Callee) (es : Trees)
-      (found after : Found) (us : List TypedExpr) (o : Option (List GenericSort)) (f : Fault)
-      → Starts env x ts c found → TypesArgs env sc c.params found es us after → every after ≡ o
-      → inferred env at x w c us o ≡ Err f → BreaksApplied env sc at w x ts c es f
-  inferred_err sc at x w ts c es found after us None f s all p h =
-      subst (BreaksApplied env sc at w x ts c es) (same_err {A = TypedExpr} _ f h) (open_param at w s all p)
-  inferred_err sc at x w ts c es found after us (Some sorts) f s all p h =
-      let q = agreed_err env x w _ f h in
-      subst (BreaksApplied env sc at w x ts c es) q.1 (unfit_result at w sorts s all p q.0)
-
-  applied_err : (sc : Scope) (at : ℕ) (x : Expected) (w : Word) (ts : TypeTrees) (c : Callee) (es : Trees)
-      (args : List GenericSort → Found → Part Taken) (f : Fault)
-      → ((ps : List GenericSort) (found : Found) → args ps found ≡ Err f → BreaksArgs env sc ps found es f)
-      → ((ps : List GenericSort) (found : Found) (r : Taken) → count es ≡ length ps → args ps found ≡ Ok r
-      → TypesArgs env sc ps found es r.0 r.1)
-      → applied env at x w ts (count es) args (Some c) ≡ Err f → BreaksApplied env sc at w x ts c es f
-  applied_err sc at x w ts c es args f ih typed_args h =
-      unless_err env (nat_eq (count es) (length c.params)) Arity w at _ f h
-      (λ b is. subst (BreaksApplied env sc at w x ts c es) is (args_arity at w (uneven _ _ b)))
-      (λ b rest. then_err (started env at x w ts c) _ f rest
-      (λ e. started_err sc at x w ts c es f e)
-      (λ found is rest2. then_err (args c.params found) (finished env at x w c) f rest2
-      (λ e. in_args at w (started_ok env at x w ts c found is) (ih c.params found e))
-      (λ r is2 rest3. inferred_err sc at x w ts c es found r.1 r.0 (every r.1) f
-      (started_ok env at x w ts c found is)
-      (typed_args c.params found r (eqb-true _ _ b) is2) refl rest3)))
-
-  bare_args : (sc : Scope) (ps : List GenericSort) (found : Found) (r : Taken) → 0 ≡ length ps
-      → no_args env ps found ≡ Ok r → TypesArgs env sc ps found no_trees r.0 r.1
-  bare_args sc ps found r n h =
-      let start : Taken = ([], found) in
-      subst (λ z. TypesArgs env sc ps found no_trees z.0 z.1) (same_ok start r h)
-      (subst (λ qs. TypesArgs env sc qs found no_trees [] found) (sym (nothing_left ps n)) no_arg)
-
   -- names and fields
 
   named_err : (sc : Scope) (k at : ℕ) (x : Expected) (w : Word) (o : Option ℕ) (f : Fault) → place w sc ≡ o
@@ -257,8 +98,8 @@ module _ (env : Env) where
       as_callee None g h = subst (Breaks env sc k x (name at w)) (same_err {A = TypedExpr} _ f h)
           (unknown_name at w p g)
       as_callee (Some c) g h =
-          in_name at w c p g (applied_err sc at x w no_types c no_trees (no_args env) f (λ ps found e. cc)
-          (bare_args sc) h)
+          in_name at w c p g (applied_err env sc at x w no_types c no_trees (no_args env) f (λ ps found e. cc)
+          (bare_args env sc) h)
 
   field_err : (sc : Scope) (k at : ℕ) (x : Expected) (w : Word) (b : Tree) (t : TypedExpr)
       (o : layer.GenericSort-F GenericSort) (f : Fault)
@@ -407,7 +248,7 @@ module _ (env : Env) where
   apply_err sc k at x w ts es None f ih p h =
       subst (Breaks env sc k x (apply at w ts es)) (same_err {A = TypedExpr} _ f h) (unknown_applied at w p)
   apply_err sc k at x w ts es (Some c) f ih p h =
-      in_application at w c p (applied_err sc at x w ts c es (λ ps found. elab_args env [] es sc ps found) f ih
+      in_application at w c p (applied_err env sc at x w ts c es (λ ps found. elab_args env [] es sc ps found) f ih
       (λ ps found r n e.
       let all = sound_args env es sc ps found [] r n e in
       subst (λ us. TypesArgs env sc ps found es us r.1) all.1 all.2) h)
@@ -521,7 +362,7 @@ module _ (env : Env) where
         then_err (plain_arm env done (elab_pattern env p s (length sc) sc) (name_at env body)
         (λ after. elab env body after (length after) x)) _ f h
         (λ e. then_err (elab_pattern env p s (length sc) sc) _ f e
-        (λ i. in_plain (stands_pattern p s (length sc) sc f i))
+        (λ i. in_plain (stands_pattern env p s (length sc) sc f i))
         (λ r is rest. plain_body (sound_pattern env p s (length sc) sc r is)
         (body_err done body r.1 x r.0 None f (λ sc2 k2 x2 e2. stands_expr body sc2 k2 x2 f e2) rest)))
         (λ a is rest.
@@ -539,7 +380,7 @@ module _ (env : Env) where
         (λ after. elab env guard after (length after) Open) (name_at env body) (λ after. elab env body after
         (length after) x)) _ f h
         (λ e. then_err (elab_pattern env p s (length sc) sc) _ f e
-        (λ i. in_guarded (stands_pattern p s (length sc) sc f i))
+        (λ i. in_guarded (stands_pattern env p s (length sc) sc f i))
         (λ r is rest. then_err (condition env (name_at env guard) (elab env guard r.1 (length r.1) Open)) _ f rest
         (λ i. in_guard (sound_pattern env p s (length sc) sc r is) (condition_err guard r.1 f
         (λ sc2 k2 x2 e2. stands_expr guard sc2 k2 x2 f e2) i))

@@ -1,10 +1,9 @@
 //! Looks at the literals of clauses.
-ghost use Rattle.std.specs.Prelude.{◌≡◌, ◌≢◌, ◌<◌, ◌≤◌, ◌↔◌, ◌⊎◌, IsTrue, true, false, length, IfSome, IfNone};
-ghost use Rattle.pp_clause.specs.Literal.{opposite};
+ghost use Rattle.std.specs.Prelude.{◌≡◌, ◌≢◌, ◌<◌, ◌≤◌, ◌⊎◌, IsTrue, true, length, IfSome, IfNone};
 ghost use Rattle.pp_clause.specs.Clause.{has};
 ghost use Rattle.pp_clause.specs.Log.{all_negated};
 ghost use Rattle.pp_clause.specs.New.{OthersNegated};
-ghost use Rattle.pp_trail.specs.Trail.{lits, IsFalse};
+ghost use Rattle.pp_trail.specs.Trail.{lits};
 ghost use Rattle.pp_trail.specs.Marks.{code};
 ghost use Rattle.pp_watch.specs.Looking.{IsClauseOf, IsNotFalse, IsOther, IsChoice, IsBound, IsFree};
 ghost use Rattle.pp_watch.specs.Watching.{IsShort};
@@ -18,7 +17,7 @@ use pp_trail::Trail;
 pub struct Found {
     /// The literal.
     pub lit: Lit,
-    /// Its place.
+    /// Its place, where the next look may begin. Any would do, and no clause says which it is.
     pub place: usize,
 }
 
@@ -74,7 +73,7 @@ fn first_other(trail: &Trail, part: &[Lit], lit: Lit) -> Option<Found>
     None
 }
 
-/// The literal besides this one that became false last, or this one where there is no other.
+/// The literal besides this one that entered the trail last, or this one where there is no other. Any would do.
 pub fn latest_other(trail: &Trail, clause: &[Lit], lit: Lit) -> Lit
     requires { has clause.now lit ≡ true }
     ensures { has clause.now result ≡ true }
