@@ -1,5 +1,6 @@
 mod Arguments
 mod Defaults
+pub mod Failing
 mod Listing
 mod OwnFields
 pub mod Looking

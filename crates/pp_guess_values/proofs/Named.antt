@@ -13,15 +13,13 @@ use Rattle.pp_prog.specs.declared.id.CtorId.{CtorId}
 use Rattle.pp_prog.specs.declared.program.Program.{Program}
 use Rattle.pp_prog.specs.declared.sort.Sort.{Sort}
 use Rattle.pp_prog.specs.declared.sort.Sort.TheVariants as sort
-use Rattle.pp_prog.specs.declared.types.Ctor.{Ctor}
 use Rattle.pp_prog.specs.declared.types.TypeTable.{TypeTable}
 use Rattle.pp_prog.specs.declared.value.Value.{Value}
 use Rattle.pp_prog.specs.Sorts.{param_sorts}
 use Rattle.pp_prog.specs.Table.{HaveValues, is_sort}
 use Rattle.pp_prog.proofs.ValueSorts.{Has}
 use Rattle.pp_sound.specs.Sound.{IsCalled}
-use Rattle.pp_sound.proofs.Listed.{all_at}
-use Rattle.pp_guess_runs.specs.Answers.{Answering, IsAnswering, answers_of}
+use Rattle.pp_guess_runs.specs.Answers.{Answering, IsAnswering}
 use Rattle.pp_guess_runs.specs.Guess.{fails, guess}
 use Rattle.pp_induction.specs.Ends.{GuessFails}
 use Rattle.pp_domain.specs.Laws.{AdmittedFor}
@@ -37,14 +35,12 @@ use Rattle.pp_steps_run.specs.Told.{AreValues}
 use Rattle.pp_build.specs.Followed.{AreNamed, LooksNamed}
 use Rattle.pp_build.proofs.StepLists.{sorted_at}
 use Rattle.pp_guess_steps.specs.Laws.{HaveGuessSorts, IsSortedGuess}
-use Rattle.pp_guess_steps.specs.OpenCalls.{world}
 use Rattle.pp_guess_steps.proofs.Laws.{guesses_suppose}
 use Rattle.pp_guess_steps.proofs.Existing.{guesses_read}
-use Rattle.pp_guess_steps.proofs.SortedValues.{sorted_guesses_exist}
-use Rattle.pp_guess_steps.proofs.WorldSorts.{guesses_answer_sorted}
 use Rattle.pp_guess_values.specs.NamedGuess.{IsNamedGuess, IsShort, all_looked_at, fields_at, looked_at}
 use Rattle.pp_guess_values.proofs.Arguments.{arguments_are_steps, holds_of_values}
-use Rattle.pp_guess_values.proofs.Defaults.{default_field, default_field_is, default_has_sort, default_of}
+use Rattle.pp_guess_values.proofs.Defaults.{default_field, default_field_is, default_of}
+use Rattle.pp_guess_values.proofs.Failing.{field_sort_stands, own_missing, sorted_values}
 use Rattle.pp_guess_values.proofs.Listing.{all_fields, each_look, each_value, few_listed, first_is_default, listed}
 use Rattle.pp_guess_values.proofs.Looking.{field_was_asked, guess_looks_before}
 use Rattle.pp_guess_values.proofs.OwnFields.{has_few_fields, tree_fields}
@@ -67,17 +63,6 @@ module _ (p : Program) (f : Function) (check : CheckId) (n : ℕ)
 
   abbrev field : CtorId → ℕ → Value
   field = default_field p.types inhabited
-
-  field_sort_stands : (c : CtorId) (k : Ctor) (place : ℕ) (s : Sort) → slice_get p.types.ctors c.0 ≡ Some k
-      → slice_get k.fields place ≡ Some s → is_sort p.types.datatypes s ≡ true
-  field_sort_stands c k place s there at =
-      all_at (is_sort p.types.datatypes) k.fields place s (p.types.agree.fields c.0 k there) at
-
-  default_field_has_sort : (c : CtorId) (k : Ctor) (place : ℕ) (s : Sort) → slice_get p.types.ctors c.0 ≡ Some k
-      → slice_get k.fields place ≡ Some s → Has p.types.ctors s (field c place)
-  default_field_has_sort c k place s there at =
-      subst (Has p.types.ctors s) (sym (default_field_is p.types inhabited c k place s there at))
-      (default_has_sort p.types inhabited s (field_sort_stands c k place s there at))
 
   -- ---- values with their sorts, and a naming of all that is listed
 
@@ -128,7 +113,7 @@ module _ (p : Program) (f : Function) (check : CheckId) (n : ℕ)
             (sym (same c i
             ∙ default_field_is p.types inhabited c made.ctor i (run.sorts k) made.stands made.field))
             (default_is_first k (slice_get_within Steps k (steps.CtorField c i a) at) (run.sorts k) refl
-            (field_sort_stands c made.ctor i (run.sorts k) made.stands made.field))
+            (field_sort_stands p c made.ctor i (run.sorts k) made.stands made.field))
 
         -- the fields of the tree that a step looks at, which is that of step number a
         fields_named : (k : ℕ) (s : Step) → slice_get Steps k ≡ Some s → (a : ℕ) → looked_at s ≡ a ∷ []
@@ -169,11 +154,10 @@ module _ (p : Program) (f : Function) (check : CheckId) (n : ℕ)
       (called : IsCalled p i f args) (W : Answering) (answering : IsAnswering p W)
       (failed : guess p.types.ctors p.functions f check args n W ≡ fails) where
     abbrev missing : Missing
-    missing = world p.functions (answers_of p.types.ctors p.functions W) field n
+    missing = own_missing p n inhabited W
 
     run_values : IsSortedGuess p f check n missing args run.sorts
-    run_values = sorted_guesses_exist p i f args called check n missing default_field_has_sort
-        (guesses_answer_sorted p W answering field n) default (default_has_sort p.types inhabited) run
+    run_values = sorted_values p f check n run inhabited args i called W answering
 
     admitted_naming : AdmittedFor m p.types d (Listed run_values.values run_values.sorted)
     admitted_naming = namings (Listed run_values.values run_values.sorted)

@@ -1,2 +1,3 @@
 pub mod LooksBefore
 pub mod NamedGuess
+pub mod FailingGuess

@@ -8,3 +8,4 @@ mod Replies
 mod Searched
 mod Stands
 mod Variables
+mod Refuted

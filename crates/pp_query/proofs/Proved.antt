@@ -20,7 +20,7 @@ use Rattle.pp_query.specs.Reply.{IsFailing, IsSpentReply}
 use Rattle.pp_query.proofs.Variables.{spent_within}
 
 -- where no guess run is one that fails the check, none fails it
-no_guess_fails : (p : Program) (i : ℕ) (c : CheckId) (round : ℕ) → (GuessFails p i c round → ⊥)
+pub no_guess_fails : (p : Program) (i : ℕ) (c : CheckId) (round : ℕ) → (GuessFails p i c round → ⊥)
     → NoGuessFails p i c round
 no_guess_fails p i c round never f args called answers answering failed = never (record {
   function = f;

@@ -3,9 +3,10 @@
 //! `query_of` makes the circuit of a round (`pp_symbolic`), gives the clauses of what it asks to the solver
 //! (`pp_cdcl`), and answers a model where there is one. `search` asks of the run, over trees up to a height
 //! (`pp_bounded`), and reads the arguments off the model. `prove` asks of the guess runs, over named trees
-//! (`pp_named`): the check is proved where there is no model, and a plain descent is without a query; `comparisons`
-//! names the variables that the solver decides first there. `specs/Reply` and `specs/Question` say what is asked and
-//! replied, `specs/Found` and `specs/Proofs` what the answers mean.
+//! (`pp_named`): the check is proved where there is no model. A plain descent is proved without a query, and so is a
+//! check where `pp_closure` refutes by cases that a guess run fails it (`refuting`). `comparisons` names the variables
+//! that the solver decides first. `specs/Reply` and `specs/Question` say what is asked and replied, `specs/Found` and
+//! `specs/Proofs` what the answers mean.
 #![tactic(auto)]
 
 mod asking;
@@ -16,6 +17,7 @@ mod proving;
 mod query;
 mod question;
 mod reading;
+mod refuting;
 mod reply;
 mod searching;
 

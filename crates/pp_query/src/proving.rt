@@ -9,6 +9,7 @@ ghost use Rattle.pp_query.specs.Proofs.{IsProof};
 use crate::NoMemory;
 use crate::proof::Proof;
 use crate::query::{Query, query_of};
+use crate::refuting::no_guess_fails;
 use crate::reply::Reply;
 use pp_checks::Plan;
 use pp_named::Named;
@@ -16,9 +17,10 @@ use pp_prog::{CheckId, Program};
 use pp_symbolic::Mode;
 use std::alloc::Global;
 
-/// Proves that no guess run of the round fails the check. A plain descent is proved without a query; of another check
-/// the circuit of the guess runs, over named trees, is asked for a model, and the check is proved where there is none.
-/// The solver may learn so many lemmas. The only error is want of memory.
+/// Proves that no guess run of the round fails the check. A plain descent is proved without a query, and so is a check
+/// of which it is refuted by cases that its steps fail it; of another one the circuit of the guess runs, over named
+/// trees, is asked for a model, and the check is proved where there is none. The solver may learn so many lemmas. The
+/// only error is want of memory.
 pub fn prove(
     alloc: Global,
     program: &Program,
@@ -35,6 +37,9 @@ pub fn prove(
     ensures proof { IfOk result (λ proof. IsProof program.now check round lemmas proof) }
 {
     if plan.plain(check) {
+        return Ok(Proof::Proved);
+    }
+    if no_guess_fails(alloc, program, plan, check, round)? {
         return Ok(Proof::Proved);
     }
     let query = query_of::<Named>(alloc, program, plan, check, Mode::Guess, round, 1, lemmas)?;

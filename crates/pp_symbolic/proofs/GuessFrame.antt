@@ -1,5 +1,5 @@
 -- The frame of a guess run: where one fails the check, some assignment says so.
-use Rattle.std.proofs.Common.{◌≡◌, ◌≤◌, ◌<◌, ℕ, zero, suc, ◌+◌, ◌*◌, ◌^◌, List, [], ◌∷◌}
+use Rattle.std.proofs.Common.{◌≡◌, ◌≤◌, ◌<◌, ℕ, ◌+◌, ◌*◌, ◌^◌, List, []}
 use Rattle.std.proofs.Common.{length, Bool, true, false, ◌&&◌, Some, refl, sym, ap}
 use Rattle.std.proofs.Common.{◌∙◌, subst, arith}
 use Rattle.std.specs.Prelude.{slice_get}
@@ -10,7 +10,6 @@ use Rattle.pp_prog.specs.declared.check.Check.{Check}
 use Rattle.pp_prog.specs.declared.expr.Function.{Function}
 use Rattle.pp_prog.specs.declared.id.CheckId.{CheckId}
 use Rattle.pp_prog.specs.declared.program.Program.{Program}
-use Rattle.pp_prog.specs.declared.types.Ctor.{Ctor}
 use Rattle.pp_prog.specs.Cone.{IsWordFunction}
 use Rattle.pp_prog.specs.Sizes.{flat}
 use Rattle.pp_prog.specs.Sorts.{param_sorts}
@@ -28,9 +27,7 @@ use Rattle.pp_domain.specs.Laws.{Lawful}
 use Rattle.pp_domain.specs.Moves.{Moves}
 use Rattle.pp_domain.specs.Sense.{Sense}
 use Rattle.pp_domain.proofs.Composition.{Moves_more}
-use Rattle.pp_steps.specs.declared.step.Step.{Step}
 use Rattle.pp_steps.specs.Guesses.{GuessSteps, guess_steps}
-use Rattle.pp_steps.specs.Meaning.{Does, Missing, Obeys, Values}
 use Rattle.pp_guess_steps.specs.Laws.{HaveGuessSorts}
 use Rattle.pp_guess_steps.proofs.Existing.{guesses_read}
 use Rattle.pp_guess_steps.proofs.RoundsSorted.{guesses_are_sorted}
@@ -38,6 +35,7 @@ use Rattle.pp_guess_gates.specs.Laws.{FitIn}
 use Rattle.pp_guess_gates.proofs.Laws.{guesses_fit}
 use Rattle.pp_guess_gates.specs.Measure.{round_gates}
 use Rattle.pp_guess_values.specs.NamedGuess.{IsNamedGuess, IsShort, all_looked_at, fields_at}
+use Rattle.pp_guess_values.proofs.Failing.{does_at}
 use Rattle.pp_guess_values.proofs.Looking.{guess_looks_before}
 use Rattle.pp_guess_values.proofs.Named.{failing_guess_is_named}
 use Rattle.pp_build.specs.Followed.{CanFollowAll}
@@ -53,18 +51,8 @@ use Rattle.pp_symbolic.proofs.Names.{names_short}
 use Rattle.pp_symbolic.proofs.RunFrame.{first_good}
 use Rattle.pp_list.proofs.Lists.{no_item}
 
--- a step of those that values obey
-does_at : (ctors : List Ctor) (missing : Missing) (ρ : Values) (j : ℕ) (ss : List Step) (i k : ℕ) (s : Step)
-    → Obeys ctors missing ρ j ss → slice_get ss i ≡ Some s → k ≡ j + i → Does ctors missing ρ s (ρ k)
-does_at ctors missing ρ j [] i k s all at is = absurd (cc)
-does_at ctors missing ρ j (x ∷ ss) zero k s all at is =
-    let e : j ≡ k = omega arith in
-    subst (λ n. Does ctors missing ρ s (ρ n)) e (subst (λ y. Does ctors missing ρ y (ρ j)) (same_Some x s at) all.0)
-does_at ctors missing ρ j (x ∷ ss) (suc i) k s all at is =
-    does_at ctors missing ρ (suc j) ss i k s all.1 at (omega arith)
-
 -- a check belongs to one function
-same_owner : (p : Program) (i j c : ℕ) → IsCheckOf p i c → IsCheckOf p j c → i ≡ j
+pub same_owner : (p : Program) (i j c : ℕ) → IsCheckOf p i c → IsCheckOf p j c → i ≡ j
 same_owner p i j c one other =
     let check = same_Some one.check other.check (sym one.listed ∙ other.listed) in
     sym one.owner ∙ ap (λ (k : Check). k.function.0) check ∙ other.owner

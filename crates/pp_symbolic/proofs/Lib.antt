@@ -4,7 +4,7 @@ mod Evaluated
 mod GuessArguments
 mod GuessBuilt
 mod GuessFollows
-mod GuessFrame
+pub mod GuessFrame
 mod GuessWords
 mod WordRegisters
 mod FlatFields

@@ -12,7 +12,7 @@ use crate::NoMemory;
 use crate::frame::Frame;
 use crate::guessed::evaluate_guess;
 use crate::naming::values_to_name;
-use crate::owner::owner;
+use crate::ownership::owner;
 use pp_checks::Plan;
 use pp_compile::compile_guess;
 use pp_domain::Domain;

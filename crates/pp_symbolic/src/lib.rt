@@ -8,7 +8,7 @@
 //! - `real`, `steps`: the steps of a run, and how they are performed.
 //! - `guess`, `guessed`: those of guess runs.
 //! - `naming`: how many values have to be named for them, which the domain is told, so that its names are short.
-//! - `owner`: the function that a check belongs to.
+//! - `ownership`: the function that a check belongs to.
 #![tactic(auto)]
 
 mod evaluating;
@@ -16,10 +16,11 @@ mod frame;
 mod guess;
 mod guessed;
 mod naming;
-mod owner;
+mod ownership;
 mod real;
 mod steps;
 
 pub use evaluating::symbolic;
 pub use frame::{Frame, Mode};
+pub use ownership::owner;
 pub use pp_clause::NoMemory;

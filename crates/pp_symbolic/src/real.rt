@@ -10,7 +10,7 @@ ghost use Rattle.pp_symbolic.specs.Frame.{IsFrame};
 
 use crate::NoMemory;
 use crate::frame::Frame;
-use crate::owner::owner;
+use crate::ownership::owner;
 use crate::steps::evaluate;
 use pp_checks::Plan;
 use pp_compile::compile_run;

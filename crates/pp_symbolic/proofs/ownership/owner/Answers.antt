@@ -1,5 +1,5 @@
 use Rattle.pp_symbolic.proofs.Owners.{owner_in_range, owner_of}
-use Rattle.pp_symbolic.proofs.owner.owner.Goals as goal
+use Rattle.pp_symbolic.proofs.ownership.owner.Goals as goal
 
 pub function-requires : goal.function-requires
 function-requires c = owner_in_range c.args.program.now _ _ _ c.checks.ensures.all c.requires

@@ -6,7 +6,7 @@ ghost use Rattle.pp_symbolic.specs.Frame.{IsOwner};
 use pp_prog::{CheckId, Function, Program};
 
 /// The function that the check belongs to.
-pub(crate) fn owner(program: &Program, check: CheckId) -> &Function
+pub fn owner(program: &Program, check: CheckId) -> &Function
     requires { check.0 < length program.now.checks }
     ensures { IsOwner program.now check result.now }
 {

@@ -1,0 +1,6 @@
+mod Noted
+mod Values
+mod Ordered
+mod Equals
+mod Totals
+mod Said

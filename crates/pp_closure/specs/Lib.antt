@@ -1,0 +1,6 @@
+pub mod Facts
+pub mod Valuation
+pub mod Keeps
+pub mod Order
+pub mod Steps
+pub mod Sums

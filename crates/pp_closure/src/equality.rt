@@ -1,0 +1,147 @@
+//! What steps on the equality of values say.
+
+ghost use Rattle.std.specs.Prelude.{◌≡◌, ◌<◌, Bool, true, false, IfOk, OnOk, length, slice_get};
+ghost use Rattle.pp_prog.specs.declared.sort.Sort.TheVariants as sort;
+ghost use Rattle.pp_prog.specs.declared.value.Value.TheVariants.{Bool as Truth};
+ghost use Rattle.pp_prog.specs.Fits.{same_truth};
+ghost use Rattle.pp_eval.specs.Equality.{equal};
+ghost use Rattle.pp_steps.specs.Meaning.{Values, bit};
+ghost use Rattle.pp_closure.specs.Facts.{Holds, IsAnswer};
+ghost use Rattle.pp_closure.specs.Steps as looked;
+ghost use Rattle.pp_closure.specs.Valuation.{Valuation};
+
+use crate::NoMemory;
+use crate::facts::Facts;
+use crate::sums::equal_sums;
+use pp_list::at;
+use pp_prog::Sort;
+use pp_steps::Step;
+use std::alloc::Global;
+
+/// The step says whether two are equal, or whether they differ. It is known what it says where it is known whether they
+/// are; and where it says that they are equal they have one value. The only error is want of memory.
+pub(crate) fn learn_equality(
+    alloc: Global,
+    facts: &mut Facts,
+    all: &[Step],
+    number: u32,
+    a: u32,
+    b: u32,
+    positive: bool,
+) -> Result<(), NoMemory>
+    ensures { OnOk result ((v : Valuation all.now) → v.sorts a ≡ v.sorts b → a < length all.now → b < length all.now
+        → bit (v.values number) ≡ same_truth positive (equal (v.values a) (v.values b))
+        → Holds v.values facts.old → Holds v.values facts.new) }
+{
+    let equal = are_equal(alloc, facts, all, a, b)?;
+    learn_known(facts, number, positive, equal);
+    learn_united(facts, number, a, b, positive);
+    Ok(())
+}
+
+/// The step is as it says, where it is known whether the two are equal.
+fn learn_known(facts: &mut Facts, number: u32, positive: bool, equal: Option<bool>)
+    ensures { (ρ : Values) (truth : Bool) → IsAnswer equal truth → bit (ρ number) ≡ same_truth positive truth
+        → Holds ρ facts.old → Holds ρ facts.new }
+{
+    if let Some(equal) = equal {
+        facts.assume(number, equal == positive);
+    }
+}
+
+/// The two have one value, where the step is known to say so.
+fn learn_united(facts: &mut Facts, number: u32, a: u32, b: u32, positive: bool)
+    ensures { (ρ : Values) → bit (ρ number) ≡ same_truth positive (equal (ρ a) (ρ b)) → Holds ρ facts.old
+        → Holds ρ facts.new }
+{
+    if facts.is(number, positive) {
+        facts.unite(a, b);
+    }
+}
+
+/// Whether the values of the two are equal, where that is known. The only error is want of memory.
+fn are_equal(
+    alloc: Global,
+    facts: &Facts,
+    all: &[Step],
+    a: u32,
+    b: u32,
+) -> Result<Option<bool>, NoMemory>
+    ensures { IfOk result (λ r. (v : Valuation all.now) → v.sorts a ≡ v.sorts b → a < length all.now
+        → b < length all.now → Holds v.values facts.now → IsAnswer r (equal (v.values a) (v.values b))) }
+{
+    if facts.same(a, b) {
+        return Ok(Some(true));
+    }
+    match equal_by_class(facts, all, a, b) {
+        Some(equal) => Ok(Some(equal)),
+        None => {
+            let equal = equal_sums(alloc, facts, all, a, b)?;
+            Ok(equal)
+        }
+    }
+}
+
+/// Whether they are, by the truth values and the constructors that they are known to be.
+fn equal_by_class(facts: &Facts, all: &[Step], a: u32, b: u32) -> Option<bool>
+    ensures { (v : Valuation all.now) → a < length all.now → b < length all.now → Holds v.values facts.now
+        → IsAnswer result (equal (v.values a) (v.values b)) }
+{
+    let (one, other) = (facts.known(a), facts.known(b));
+    if one.excludes(&other) {
+        Some(false)
+    } else if facts.is(a, true) && facts.is(b, true) {
+        Some(true)
+    } else if are_false(facts, all, a, b) {
+        Some(true)
+    } else {
+        None
+    }
+}
+
+/// Whether both are truth values, and false.
+fn are_false(facts: &Facts, all: &[Step], a: u32, b: u32) -> bool
+    ensures { (v : Valuation all.now) → a < length all.now → b < length all.now → Holds v.values facts.now
+        → result ≡ true → v.values a ≡ v.values b }
+{
+    is_false(facts, all, a) && is_false(facts, all, b)
+}
+
+/// Whether the step is a truth value, and false.
+fn is_false(facts: &Facts, all: &[Step], number: u32) -> bool
+    ensures { (v : Valuation all.now) → number < length all.now → Holds v.values facts.now → result ≡ true
+        → v.values number ≡ Truth false }
+{
+    is_truth(all, number) && facts.is(number, false)
+}
+
+/// Whether the step is a truth value, as far as the step by itself shows it.
+fn is_truth(all: &[Step], number: u32) -> bool
+    ensures { (v : Valuation all.now) → result ≡ true → v.sorts number ≡ sort.Bool }
+{
+    truth_in(all, number)
+}
+
+fn truth_in(all: &[Step], number: u32) -> bool
+    ensures { result ≡ looked.truth_in (slice_get all.now number) }
+{
+    match at(all, number as usize) {
+        Some(Step::Answer(call)) => is_bool(call.result),
+        Some(Step::Open(sort)) => is_bool(*sort),
+        Some(Step::HasAnswer(_)) => true,
+        Some(Step::Bool(_)) => true,
+        Some(Step::Not(_)) => true,
+        Some(Step::Both(..)) => true,
+        Some(Step::IsCtor(..)) => true,
+        _ => false,
+    }
+}
+
+fn is_bool(sort: Sort) -> bool
+    ensures { result ≡ looked.is_bool sort }
+{
+    match sort {
+        Sort::Bool => true,
+        _ => false,
+    }
+}

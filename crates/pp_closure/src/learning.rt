@@ -1,0 +1,134 @@
+//! What each step says.
+
+ghost use Rattle.std.specs.Prelude.{◌≡◌, OnOk, Some, slice_get};
+ghost use Rattle.pp_steps.specs.declared.step.Step.TheVariants as steps;
+ghost use Rattle.pp_closure.specs.Keeps.{Keeps};
+
+use crate::NoMemory;
+use crate::alike::learn_alike;
+use crate::class::Shape;
+use crate::equality::learn_equality;
+use crate::facts::Facts;
+use crate::orders::{learn_order, order_of};
+use crate::seen::Seen;
+use crate::trees::{learn_construct, learn_field, learn_test};
+use crate::truths::{learn_both, learn_choice, learn_not};
+use pp_prog::{BinaryOp, UnaryOp};
+use pp_steps::Step;
+use std::alloc::Global;
+
+/// What the step with the number says, and that it has the value of one that was seen to do the same. The only error is
+/// want of memory.
+pub(crate) fn learn(
+    alloc: Global,
+    facts: &mut Facts,
+    all: &[Step],
+    seen: &mut Seen,
+    number: u32,
+    step: &Step,
+) -> Result<(), NoMemory>
+    requires { slice_get all.now number ≡ Some step.now }
+    ensures { OnOk result (Keeps all.now facts.old facts.new) }
+{
+    facts.shorten(number);
+    learn_step(alloc, facts, all, seen, number, step)?;
+    learn_alike(facts, all, seen, number, step)
+}
+
+/// What the step says by itself.
+fn learn_step(
+    alloc: Global,
+    facts: &mut Facts,
+    all: &[Step],
+    seen: &mut Seen,
+    number: u32,
+    step: &Step,
+) -> Result<(), NoMemory>
+    requires { slice_get all.now number ≡ Some step.now }
+    ensures { OnOk result (Keeps all.now facts.old facts.new) }
+{
+    match step {
+        Step::Bool(truth) => {
+            facts.assume(number, *truth);
+            Ok(())
+        }
+        Step::Int(_) => {
+            facts.maker(number);
+            Ok(())
+        }
+        Step::Not(a) => {
+            learn_not(facts, number, *a);
+            Ok(())
+        }
+        Step::Unary(op, a) => {
+            learn_unary(facts, all, number, *op, *a);
+            Ok(())
+        }
+        Step::Both(a, b) => {
+            learn_both(facts, number, *a, *b);
+            Ok(())
+        }
+        Step::Choose(test, a, b) => {
+            learn_choice(facts, number, *test, *a, *b);
+            Ok(())
+        }
+        Step::Construct(ctor, fields) => {
+            let shape = Shape {
+                ctor: *ctor,
+                fields: fields.len(),
+            };
+            learn_construct(facts, seen, number, shape)
+        }
+        Step::IsCtor(ctor, fields, a) => {
+            let shape = Shape {
+                ctor: *ctor,
+                fields: *fields as usize,
+            };
+            learn_test(facts, seen, number, shape, *a)
+        }
+        Step::CtorField(ctor, place, a) => {
+            learn_field(facts, all, number, *ctor, *place, *a);
+            Ok(())
+        }
+        Step::Binary(op, a, b) => learn_operator(alloc, facts, all, seen, number, *op, *a, *b),
+        _ => Ok(()),
+    }
+}
+
+/// What a step with an operator on one operand says.
+fn learn_unary(facts: &mut Facts, all: &[Step], number: u32, op: UnaryOp, a: u32)
+    requires { slice_get all.now number ≡ Some (steps.Unary op a) }
+    ensures { Keeps all.now facts.old facts.new }
+{
+    if let UnaryOp::Not = op {
+        learn_not(facts, number, a);
+    }
+}
+
+/// What a step with an operator on two operands says.
+fn learn_operator(
+    alloc: Global,
+    facts: &mut Facts,
+    all: &[Step],
+    seen: &mut Seen,
+    number: u32,
+    op: BinaryOp,
+    a: u32,
+    b: u32,
+) -> Result<(), NoMemory>
+    requires { slice_get all.now number ≡ Some (steps.Binary op a b) }
+    ensures { OnOk result (Keeps all.now facts.old facts.new) }
+{
+    match op {
+        BinaryOp::Equal => learn_equality(alloc, facts, all, number, a, b, true),
+        BinaryOp::Differ => learn_equality(alloc, facts, all, number, a, b, false),
+        BinaryOp::Add => {
+            facts.maker(number);
+            Ok(())
+        }
+        _ => match order_of(op, a, b) {
+            Some(order) => learn_order(facts, all, seen, number, order),
+            None => Ok(()),
+        },
+    }
+}

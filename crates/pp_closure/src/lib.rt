@@ -1,0 +1,36 @@
+//! Refutes what is supposed of steps: by congruence closure, with sums and the order of numbers, and by cases.
+//!
+//! The steps of a guess run tell, with the numbers that are supposed to be true, when a check fails. `refuted` looks
+//! for a contradiction: it takes what is supposed as facts, lets each step say what follows for its operands and its
+//! value, and names steps that have one value by one of them. Where nothing more follows, a test that isn't decided is
+//! first taken as false and, if that is refuted, as true. It answers `true` only where no values obey the steps and
+//! make all that is supposed true; where it answers `false` nothing is known.
+//!
+//! `specs/Valuation` says what values of the steps are, `specs/Facts` what it means that facts hold of them. What may
+//! be changed: which rules there are, in which order they are tried, and how long is searched. None of it is promised.
+//!
+//! - `class`, `facts`: what is known of the value of a step, and how it is noted.
+//! - `truths`, `trees`, `sums`, `orders`: what a step says, by what its value is. `equality`: equations.
+//! - `alike`, `seen`: which steps do the same to the same values.
+//! - `learning`: what each step says. `closing`: all steps that are due, until nothing more follows; `agenda` and
+//!   `news`: which are. `refuting`: the cases; `undecided`: which test comes next.
+#![tactic(auto)]
+
+mod agenda;
+mod alike;
+mod class;
+mod closing;
+mod equality;
+mod facts;
+mod learning;
+mod news;
+mod orders;
+mod refuting;
+mod seen;
+mod sums;
+mod trees;
+mod truths;
+mod undecided;
+
+pub use refuting::refuted;
+pub use std::alloc::AllocError as NoMemory;
