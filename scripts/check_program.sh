@@ -9,8 +9,12 @@ cd "$here" || exit 1
 passed=0
 failed=0
 
-# check NAME STATUS OUT ERR: compares what the last run left in status, out and err
+# check NAME STATUS OUT ERR: compares what the last run left in status, out and err. Where words were refused, of err the
+# first line is compared, which is the program's: scripts/check_words.sh has the one that the script adds.
 check() {
+    if [ "$status" -eq 4 ]; then
+        head -n 1 err > first && mv first err
+    fi
     if [ "$status" -eq "$2" ] && [ "$(cat out)" = "$3" ] && [ "$(cat err)" = "$4" ]; then
         passed=$((passed + 1))
     else
@@ -45,7 +49,7 @@ run refused.scala
 check 'a refused source' 3 '' 'refused: syntax at 1:1:11'
 run
 check 'no words' 4 '' 'words refused'
-run --help
+run --absent or.scala
 check 'an option' 4 '' 'words refused'
 run "$(printf 'a\377.scala')"
 check 'a word that is no text' 4 '' 'words refused'
@@ -170,7 +174,7 @@ check 'a closed output' 6 '' 'write fault'
 if bash "$root/scripts/check_release.sh" --sums | grep -q 'the same sources'; then
     mkdir fresh tools
     tar -C "$root" --exclude=out --exclude=.git -cf - . | tar -C fresh -xf -
-    for tool in bash awk cat chmod cut dirname find gzip mkdir mv readlink rm sed sha256sum sort xargs; do
+    for tool in bash awk cat chmod cut find gzip mkdir mv readlink rm sed sha256sum sort touch xargs; do
         ln -s "$(command -v "$tool")" "tools/$tool"
     done
     fresh() {

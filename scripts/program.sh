@@ -23,11 +23,18 @@ crates_below() {
         }' "$root/crates.txt"
 }
 
-# sources_newer_than FILE: whether a source is newer than this file, or a folder of sources, as it is when one was removed
+# find_sources TEST..: those of the sources, and of the folders of sources, on which these tests of `find` hold
+find_sources() {
+    find "$root/HANDLES" "$root/crates.txt" "$@"
+    find "$root/crates" -mindepth 2 \( -name out -o -name must-fail -o -name data \) -prune -o \
+        \( -name '*.rt' -o -name '*.antt' -o -type d \) "$@"
+}
+
+# sources_newer_than FILE: whether a source was changed since this file was, or a folder of sources, as it is when one
+# was added or removed. It goes by the time that the system notes at each change (ctime): a source that was put back has
+# an old date, but not an old time of this kind.
 sources_newer_than() {
-    [ "$root/HANDLES" -nt "$1" ] || [ "$root/crates.txt" -nt "$1" ] ||
-        [ -n "$(find "$root/crates" -mindepth 2 \( -name out -o -name must-fail -o -name data \) -prune -o -newer "$1" \
-            \( -name '*.rt' -o -name '*.antt' -o -type d \) -print -quit)" ]
+    [ -n "$(find_sources -cnewer "$1" -print -quit)" ]
 }
 
 # sum_of_sources KIT: the sum of all that the program is made from: the toolchain's line, HANDLES, crates.txt, and each
