@@ -2,8 +2,9 @@
 # Tries the examples of pages: `check_language.sh [PROGRAM [PAGE..]]`, where PROGRAM is the built program, and without a
 # PAGE the pages are the README and those of docs/ that are for users. Each page has a folder of its own, in which
 # `examples` is that of the repository. In a page
-#   ```scala name=FILE   holds the source FILE,
+#   ```scala name=FILE   holds the source FILE; ```make name=FILE and ```bash name=FILE hold another file,
 #   ```sh                holds a command a line, in which `pureproof` and `./pureproof` are the program,
+#   ```sh with=TOOL      the same, which is passed over with what it prints where this tool is missing,
 #   ```text status=N     holds what these commands print, on standard output where N is 0 to 2, else on standard error,
 #                        and the status with which the command ends, or one for each, as `status=0,3`; the other stream
 #                        stays empty.
@@ -21,7 +22,7 @@ for page in "${@:2}"; do
     pages+=("$(readlink -f "$page")")
 done
 if [ $# -lt 2 ]; then
-    pages=("$root/README.md" "$root"/docs/{TUTORIAL,VERDICTS,LANGUAGE,COMING}.md)
+    pages=("$root/README.md" "$root"/docs/{TUTORIAL,VERDICTS,LANGUAGE,COMING,CI}.md)
 fi
 for page in "${pages[@]}"; do
     if [ ! -r "$page" ]; then
@@ -75,13 +76,14 @@ read_page() {
     ln -s "$root/examples" examples && ln -s "$program" pureproof
     number=0
     inside=no
+    missing=no
     names=' '
     while IFS= read -r line || [ -n "$line" ]; do
         number=$((number + 1))
         if [ "$inside" = no ]; then
             case $line in
-                '```scala name='*)
-                    name=${line#'```scala name='}
+                '```scala name='* | '```make name='* | '```bash name='*)
+                    name=${line#*name=}
                     case $name in
                         '' | *[!A-Za-z0-9_.]*)
                             fail "no name of a file: $name"
@@ -93,12 +95,17 @@ read_page() {
                     esac
                     names="$names$name "
                     inside=scala
+                    missing=no
                     : > "$name"
                     printf 'pureproof %s\n' "$name" > "$scratch/commands"
                     ;;
-                '```sh')
+                '```sh' | '```sh with='*)
                     inside=sh
+                    missing=no
                     : > "$scratch/commands"
+                    case $line in
+                        *=*) command -v "${line#*=}" > /dev/null || missing=yes ;;
+                    esac
                     ;;
                 '```text status='*)
                     wanted=${line#'```text status='}
@@ -108,7 +115,7 @@ read_page() {
                 '```'*) inside=other ;;
             esac
         elif [ "$line" = '```' ]; then
-            if [ "$inside" = text ]; then
+            if [ "$inside" = text ] && [ "$missing" = no ]; then
                 try "$wanted"
             fi
             inside=no

@@ -1,6 +1,6 @@
 #!/usr/bin/env bash
 # The words that the script `pureproof` answers by itself, the line that it adds where the program refuses others, and
-# how it ends where a run is ended. It is started from other folders and through links, and after changes of the sources.
+# how it ends where a run is ended. It is started from other folders and through links, and behind changed sources.
 # Ends with the number of checks that passed and failed.
 set -u
 root=$(cd "$(dirname "${BASH_SOURCE[0]}")/.." && pwd)
@@ -88,7 +88,8 @@ refused "there is no option -x.scala; $options" -x.scala
 refused '--rounds is given twice' --rounds 3 --rounds=3 or.scala
 refused '--mode is given twice' --mode list or.scala --mode list
 refused '--rounds wants a value behind it' or.scala --rounds
-refused '--rounds wants a value behind it, and -1 begins as an option does (a value can: --rounds=-1)' --rounds -1 or.scala
+refused '--rounds wants a value behind it, and -1 begins as an option does (a value can: --rounds=-1)' \
+    --rounds -1 or.scala
 refused '--function wants a value behind it, and -- begins as an option does (a value can: --function=--)' \
     --mode run --function -- or.scala
 range='without sign and leading zeros'
@@ -196,7 +197,8 @@ mkdir 'a folder' 'a folder/b'
 ln -s "$root/pureproof" 'a folder/link'
 ln -s ../link 'a folder/b/further'
 ln -s "$root" 'a folder/root'
-for way in 'a folder/link' 'a folder/b/further' 'a folder/root/pureproof' "$here/a folder/root/examples/../pureproof"; do
+for way in 'a folder/link' 'a folder/b/further' 'a folder/root/pureproof' \
+    "$here/a folder/root/examples/../pureproof"; do
     "$way" or.scala > out 2> err
     status=$?
     check "started as $way" 0 "$valid" ''

@@ -1,13 +1,14 @@
 #!/usr/bin/env bash
-# The words of the command line, for the script `pureproof`, which reads this (`.`): what it answers by itself, which word
-# is at fault where the program refuses them, and how it then runs the program. It needs `root`, as scripts/program.sh.
+# The words of the command line, for the script `pureproof`, which reads this (`.`): what it answers by itself, which
+# word is at fault where the program refuses them, and how it then runs the program. scripts/program.sh is read before.
 
 # answer WORD: prints what --help, -h or --version asks for, and ends
 answer() {
-    local text kit
+    local text kit sum
     if [ "$1" = --version ]; then
         kit=$(noted toolchain)
-        printf -v text 'pureproof %s\nsources: %s\ntoolchain: %s' "$(< "$root/VERSION")" "$(sum_of_sources "$kit")" "$kit"
+        sum=$(sum_of_sources "$kit")
+        printf -v text 'pureproof %s\nsources: %s\ntoolchain: %s' "$(< "$root/VERSION")" "$sum" "$kit"
     else
         text=$(< "$root/scripts/help.txt")
     fi
@@ -119,8 +120,8 @@ take_option() {
     check_value "$option" "$2"
 }
 
-# check_mode FILES FIRST: whether the mode has what it wants, and nothing else; else says so in `fault`. FILES is how many
-# there are, and FIRST the first one.
+# check_mode FILES FIRST: whether the mode has what it wants, and nothing else; else says so in `fault`. FILES is how
+# many there are, and FIRST the first one.
 check_mode() {
     local option own
     case $mode in
@@ -149,8 +150,8 @@ check_mode() {
     fi
 }
 
-# find_fault WORD..: says in `fault` which word is the first one at fault, and what is allowed there; empty if none seems
-# to be. Names the mode in `mode`, and in `function` which function is to be run.
+# find_fault WORD..: says in `fault` which word is the first one at fault, and what is allowed there; empty if none
+# seems to be. Names the mode in `mode`, and in `function` which function is to be run.
 find_fault() {
     local number=0 files=0 first='' given=' ' taken shown word
     fault='' mode=verify function=''
@@ -192,8 +193,8 @@ end_as() {
     exit "$1"
 }
 
-# run_below PROGRAM WORD..: runs the program on the words, and ends as it ends. If it refuses them, a line says why: what
-# is in `fault`, or that there is no function of the name in `function`. What asks this script to end is passed on.
+# run_below PROGRAM WORD..: runs the program on the words, and ends as it ends. If it refuses them, a line says why:
+# what is in `fault`, or that there is no function of the name in `function`. What asks this script to end is passed on.
 run_below() {
     local child status signal passed_on
     if ! { : <&0; } 2> /dev/null; then
