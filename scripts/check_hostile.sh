@@ -17,8 +17,12 @@ fail() {
     printf 'check_hostile: %s: status %s, out: %s, err: %s\n' "$1" "$status" "$(head -c 300 out)" "$(head -c 300 err)"
 }
 
-# check NAME STATUS OUT ERR: compares what the last run left in status, out and err
+# check NAME STATUS OUT ERR: compares what the last run left in status, out and err. Where words were refused, of err
+# the first line is compared, which is the program's.
 check() {
+    if [ "$status" -eq 4 ]; then
+        head -n 1 err > first && mv first err
+    fi
     if [ "$status" -eq "$2" ] && [ "$(cat out)" = "$3" ] && [ "$(cat err)" = "$4" ]; then
         passed=$((passed + 1))
     else

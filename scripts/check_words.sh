@@ -38,7 +38,7 @@ run() {
 # refused LINE WORD..: the words are refused, and this line is added
 refused() {
     run "${@:2}"
-    check "the words ${*:2}" 4 '' "$(printf 'words refused\npureproof: %s' "$1")"
+    check "the words ${*:2:20}" 4 '' "$(printf 'words refused\npureproof: %s' "$1")"
 }
 
 cp "$root"/examples/{or,heap_wrong}.scala .
@@ -74,8 +74,10 @@ refused "$none" --
 refused "$none" --rounds 2
 refused 'there is no FILE; mode list takes one to sixteen' --mode list
 refused 'there is no FILE; mode run takes one to sixteen' --mode run --function f
-refused 'there are 17 FILEs; mode verify takes one to sixteen' or.scala or.scala or.scala or.scala or.scala or.scala \
-    or.scala or.scala or.scala or.scala or.scala or.scala or.scala or.scala or.scala or.scala or.scala
+mapfile -t many < <(printf 'or.scala\n%.0s' {1..17})
+refused 'there are more than sixteen FILEs; mode verify takes one to sixteen' "${many[@]}"
+mapfile -t many < <(printf 'a%s.scala\n' {1..20000})
+refused 'there are more than sixteen FILEs; mode list takes one to sixteen' --mode list "${many[@]}"
 refused '--help stands alone, without other words' --help or.scala
 refused '-h stands alone, without other words' or.scala -h
 refused '--version stands alone, without other words' --version --version

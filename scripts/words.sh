@@ -142,7 +142,7 @@ check_mode() {
     elif [ "$mode" != make ] && [ "$1" -eq 0 ]; then
         fault="there is no FILE; mode $mode takes one to sixteen"
     elif [ "$mode" != make ] && [ "$1" -gt 16 ]; then
-        fault="there are $1 FILEs; mode $mode takes one to sixteen"
+        fault="there are more than sixteen FILEs; mode $mode takes one to sixteen"
     elif [ "$mode" = run ] && [ "$given" = "${given/ --function /}" ]; then
         fault='mode run wants --function NAME, a function without parameters'
     elif [ "$mode" = make ] && [ "$given" = "${given/ --seed /}" ]; then
@@ -155,6 +155,8 @@ check_mode() {
 find_fault() {
     local number=0 files=0 first='' given=' ' taken shown word
     fault='' mode=verify function=''
+    # No line that is in order has more than 33 words: of many the first ones have a fault, or are too many FILEs.
+    set -- "${@:1:40}"
     for word in "$@"; do
         number=$((number + 1))
         if ! is_text "$word"; then
