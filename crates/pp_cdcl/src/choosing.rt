@@ -32,10 +32,11 @@ pub fn free_literal(watch: &Watch, order: &mut Order) -> Option<Lit>
     ensures none { IfNone result (IsFull watch.now.vars watch.now.steps) }
 {
     for _ in 0..order.len() {
-        if let Some(lit) = order.pop() {
-            if is_free(watch, lit) {
-                return Some(lit);
-            }
+        let Some(lit) = order.pop() else {
+            break;
+        };
+        if is_free(watch, lit) {
+            return Some(lit);
         }
     }
     any_free(watch)

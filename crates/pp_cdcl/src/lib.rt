@@ -12,6 +12,7 @@ mod backjump;
 mod choosing;
 mod decide;
 mod decisions;
+mod heap;
 mod order;
 mod propagate;
 mod restart;

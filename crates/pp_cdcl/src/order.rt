@@ -4,10 +4,15 @@
 //! first: a gate has a greater number than its parts, so most gates follow from what is decided, and few variables are
 //! decided that have nothing to do with the next conflict. Some searches get lost there: their lemmas each rule out
 //! little more than one assignment of the variables that were met first. So from time to time all activities are
-//! forgotten, and the order of equals is turned round. Of the heap only that its places are in range is proved.
-ghost use Rattle.std.specs.Prelude.{ℕ, ◌≡◌, ◌<◌, length, vec_len, All, IfOk, OnOk};
+//! forgotten, and the order of equals is turned round.
+//!
+//! Most variables are met by no conflict. So the heap has those alone that a conflict met or that the caller named; a
+//! cursor walks to the others, by their numbers, and goes back where one is let go again. What comes first is the same
+//! as if all were in the heap; proved is that all numbers are in range.
+ghost use Rattle.std.specs.Prelude.{◌≡◌, ◌+◌, ◌<◌, ◌≤◌, ◌^◌, length, vec_len, IfOk, IfSome, IsTrue};
 
 use crate::NoMemory;
+use crate::heap::{Rank, Waiting, is_before, is_ranked, sift_down, sift_up};
 use crate::restart::RESTART;
 use pp_clause::Lit;
 use pp_trail::Step;
@@ -27,26 +32,19 @@ const GREATEST_ACTIVITY: u64 = 1 << 60;
 /// By how many bits they are made smaller then.
 const SHIFT: u32 = 40;
 
-/// What says of a variable when it is decided.
-#[derive(Clone, Copy)]
-struct Rank {
-    /// Whether it comes before those of which this isn't so.
-    first: bool,
-    /// How active it is.
-    activity: u64,
-}
-
-/// Variables with the one on top that is decided next, and the sign that each had last.
+/// Variables that wait to be decided, and the sign that each had last.
 #[derive(Drop)]
 pub struct Order {
     // by variable
     ranks: Vec<Rank>,
-    // by variable: its literal that is decided
-    preferred: Vec<Lit>,
-    // by variable: its place in the heap
-    places: Vec<Option<usize>>,
+    // by variable: whether it is decided as true
+    signs: Vec<bool>,
+    // by variable
+    waiting: Vec<Waiting>,
     // no variable comes after those at places 2 i + 1 and 2 i + 2 below its place i
     heap: Vec<usize>,
+    // no variable that it walks to has a lower number, or a higher one where the order of equals is turned round
+    cursor: usize,
     gain: u64,
     // whether the highest number comes first of equals, and not the lowest
     turned: bool,
@@ -64,28 +62,25 @@ impl Model for Order {
 
     ghost view = { λ o. vec_len o.ranks };
 
-    ghost invariant = { λ o. IsSized (vec_len o.ranks) (vec_len o.preferred) (vec_len o.places) o.heap.items };
+    ghost invariant = { λ o. IsSized (vec_len o.ranks) (vec_len o.signs) (vec_len o.waiting) o.heap.items };
 }
 
 impl Order {
     /// All variables up to this one, each at first false: those that are named, and of others those with lower numbers
     /// first.
-    pub fn new(alloc: Global, vars: u32, first: &[u32]) -> Result<Order, NoMemory> {
+    pub fn new(alloc: Global, vars: u32, first: &[u32]) -> Result<Order, NoMemory>
+        ensures { IfOk result (λ order. order ≡ vars + 1) }
+    {
         let count = vars as usize + 1;
         let ranks = ranks_of(alloc, count, first)?;
-        let mut preferred = vec![in alloc; Lit::default(); count]?;
-        let places = vec![in alloc; None; count]?;
-        let heap = Vec::with_capacity(alloc, count)?;
-        for var in 1..count {
-            if var <= 1 << 30 {
-                preferred[var] = Lit::new(var as u32, false);
-            }
-        }
+        let signs = vec![in alloc; false; count]?;
+        let waiting = vec![in alloc; Waiting::Nowhere; count]?;
         let mut order = Order {
             ranks,
-            preferred,
-            places,
-            heap,
+            signs,
+            waiting,
+            heap: Vec::new(alloc),
+            cursor: count,
             gain: FIRST_GAIN,
             turned: false,
             patience: PATIENCE,
@@ -97,24 +92,82 @@ impl Order {
         Ok(order)
     }
 
-    /// How many variables wait to be decided.
-    pub fn len(&self) -> usize {
-        self.heap.len()
+    /// A number above all variables.
+    pub fn len(&self) -> usize
+        ensures { result ≡ self.now }
+    {
+        self.ranks.len()
     }
 
     /// Takes the first variable out, as the literal that is to be decided.
-    pub fn pop(&mut self) -> Option<Lit> {
+    pub fn pop(&mut self) -> Option<Lit>
+        ensures order { self.new ≡ self.old }
+        ensures in_range { IfSome result (λ lit. lit.var < self.old) }
+    {
+        let var = self.take()?;
+        self.waiting[var] = Waiting::Nowhere;
+        if is_var(var) {
+            Some(Lit::new(var as u32, self.signs[var]))
+        } else {
+            None
+        }
+    }
+
+    /// The first variable, which isn't in the heap any more.
+    fn take(&mut self) -> Option<usize>
+        ensures order { self.new ≡ self.old }
+        ensures in_range { IfSome result (λ var. var < self.old) }
+    {
+        match self.ahead() {
+            Some(var) => Some(var),
+            None => self.take_top(),
+        }
+    }
+
+    /// The variable that the cursor comes to next, if it comes before those in the heap.
+    fn ahead(&mut self) -> Option<usize>
+        ensures order { self.new ≡ self.old }
+        ensures in_range { IfSome result (λ var. var < self.old) }
+    {
+        if !self.heap.is_empty() && is_ranked(&self.ranks, self.heap[0]) {
+            return None;
+        }
+        self.walk();
+        let next = self.cursor;
+        if !is_ahead(&self.waiting, next) {
+            return None;
+        }
+        if !self.heap.is_empty() && is_before(&self.ranks, self.turned, self.heap[0], next) {
+            return None;
+        }
+        Some(next)
+    }
+
+    /// Moves the cursor to the next variable that it walks to.
+    fn walk(&mut self)
+        ensures { self.new ≡ self.old }
+    {
+        self.cursor = if self.turned {
+            next_below(&self.waiting, self.cursor)
+        } else {
+            next_above(&self.waiting, self.cursor)
+        };
+    }
+
+    /// Takes the variable on top out of the heap.
+    fn take_top(&mut self) -> Option<usize>
+        ensures order { self.new ≡ self.old }
+        ensures in_range { IfSome result (λ var. var < self.old) }
+    {
         let last = self.heap.pop()?;
-        self.places[last] = None;
         if self.heap.is_empty() {
-            return Some(self.preferred[last]);
+            return Some(last);
         }
         let top = self.heap[0];
-        self.places[top] = None;
         self.heap[0] = last;
-        self.places[last] = Some(0);
-        sift_down(&mut self.heap, &mut self.places, &self.ranks, self.turned);
-        Some(self.preferred[top])
+        self.waiting[last] = Waiting::Heap(0);
+        sift_down(&mut self.heap, &mut self.waiting, &self.ranks, self.turned);
+        Some(top)
     }
 
     /// Lets the variables of steps wait again, which are taken off the trail.
@@ -128,8 +181,8 @@ impl Order {
     /// Lets the variable of a literal wait again, with its sign.
     fn requeue(&mut self, lit: Lit) -> Result<(), NoMemory> {
         let var = lit.var() as usize;
-        if var < self.preferred.len() {
-            self.preferred[var] = lit;
+        if var < self.signs.len() {
+            self.signs[var] = lit.is_positive();
             self.queue(var)?;
         }
         Ok(())
@@ -147,16 +200,17 @@ impl Order {
         }
     }
 
-    /// Makes a variable more active.
+    /// Makes a variable more active. One that the cursor walks to isn't put into the heap here: what a conflict met has
+    /// a value, and is looked at again when it is let go.
     fn bump(&mut self, var: u32) {
         let var = var as usize;
         if var < self.ranks.len() {
             let raised = self.ranks[var].activity.saturating_add(self.gain);
             self.ranks[var].activity = raised;
-            if let Some(place) = self.places[var] {
+            if let Waiting::Heap(place) = self.waiting[var] {
                 sift_up(
                     &mut self.heap,
-                    &mut self.places,
+                    &mut self.waiting,
                     &self.ranks,
                     self.turned,
                     place,
@@ -184,6 +238,7 @@ impl Order {
         }
         self.gain = FIRST_GAIN;
         self.turned = !self.turned;
+        self.cursor = if self.turned { self.ranks.len() } else { 0 };
         self.patience = self.patience.saturating_add(PATIENCE);
         self.left = self.patience;
         self.restore();
@@ -194,7 +249,7 @@ impl Order {
         for place in 0..self.heap.len() {
             sift_up(
                 &mut self.heap,
-                &mut self.places,
+                &mut self.waiting,
                 &self.ranks,
                 self.turned,
                 place,
@@ -202,25 +257,91 @@ impl Order {
         }
     }
 
-    /// Puts the variable into the heap, where it isn't there.
+    /// Lets the variable wait, in the heap where a conflict met it or the caller named it.
     fn queue(&mut self, var: usize) -> Result<(), NoMemory>
         requires { var < self.old }
         ensures { self.new ≡ self.old }
     {
-        if self.places[var].is_none() {
-            let place = self.heap.len();
-            self.heap.push(var)?;
-            self.places[var] = Some(place);
-            sift_up(
-                &mut self.heap,
-                &mut self.places,
-                &self.ranks,
-                self.turned,
-                place,
-            );
+        if let Waiting::Heap(_) = self.waiting[var] {
+            return Ok(());
         }
+        if is_ranked(&self.ranks, var) {
+            self.push(var)
+        } else {
+            self.put_ahead(var);
+            Ok(())
+        }
+    }
+
+    /// Puts the variable into the heap.
+    fn push(&mut self, var: usize) -> Result<(), NoMemory>
+        requires { var < self.old }
+        ensures { self.new ≡ self.old }
+    {
+        let place = self.heap.len();
+        self.heap.push(var)?;
+        self.waiting[var] = Waiting::Heap(place);
+        sift_up(
+            &mut self.heap,
+            &mut self.waiting,
+            &self.ranks,
+            self.turned,
+            place,
+        );
         Ok(())
     }
+
+    /// Lets the cursor walk to the variable.
+    fn put_ahead(&mut self, var: usize)
+        requires { var < self.old }
+        ensures { self.new ≡ self.old }
+    {
+        self.waiting[var] = Waiting::Ahead;
+        self.cursor = if self.turned {
+            self.cursor.max(var)
+        } else {
+            self.cursor.min(var)
+        };
+    }
+}
+
+/// Whether a variable may have this number.
+fn is_var(number: usize) -> bool
+    ensures { IsTrue result → (1 ≤ number) × (number ≤ 2 ^ 30) }
+{
+    0 < number && number <= 1 << 30
+}
+
+/// Whether this is a variable that the cursor walks to.
+fn is_ahead(waiting: &[Waiting], var: usize) -> bool
+    ensures { IsTrue result → var < length waiting.now }
+{
+    if var >= waiting.len() {
+        return false;
+    }
+    match waiting[var] {
+        Waiting::Ahead => true,
+        Waiting::Nowhere | Waiting::Heap(_) => false,
+    }
+}
+
+/// The next number from here on upward that the cursor walks to, or how many there are where there is none.
+fn next_above(waiting: &[Waiting], from: usize) -> usize {
+    for var in from..waiting.len() {
+        if is_ahead(waiting, var) {
+            return var;
+        }
+    }
+    waiting.len()
+}
+
+/// The next number from here on downward that the cursor walks to, or 0.
+fn next_below(waiting: &[Waiting], from: usize) -> usize {
+    let mut var = from;
+    while 0 < var && !is_ahead(waiting, var) {
+        var -= 1;
+    }
+    var
 }
 
 /// The ranks of so many variables, of which these come first. Numbers of no variable are passed over.
@@ -238,76 +359,4 @@ fn ranks_of(alloc: Global, count: usize, first: &[u32]) -> Result<Vec<Rank>, NoM
         }
     }
     Ok(ranks)
-}
-
-/// Whether the one variable comes before the other: one of the first, the more active one, and of equals the one with
-/// the lower number, or with the higher one where the order of equals is turned round.
-fn is_before(ranks: &[Rank], turned: bool, one: usize, other: usize) -> bool
-    requires one { one < length ranks.now }
-    requires other { other < length ranks.now }
-{
-    let mine = ranks[one];
-    let its = ranks[other];
-    if mine.first != its.first {
-        mine.first
-    } else if mine.activity == its.activity {
-        (one < other) != turned
-    } else {
-        its.activity < mine.activity
-    }
-}
-
-/// Moves the variable at this place up, as long as it comes before the one above it.
-fn sift_up(
-    heap: &mut [usize],
-    places: &mut [Option<usize>],
-    ranks: &[Rank],
-    turned: bool,
-    place: usize,
-)
-    requires places { length places.old ≡ length ranks.now }
-    requires heap { All (λ x. x < length ranks.now) heap.old }
-    ensures { All (λ x. x < length ranks.now) heap.new }
-{
-    let mut at = place;
-    while 0 < at && at < heap.len() {
-        let above = (at - 1) / 2;
-        if !is_before(ranks, turned, heap[at], heap[above]) {
-            return;
-        }
-        exchange(heap, places, at, above);
-        at = above;
-    }
-}
-
-/// Moves the variable on top down, as long as one below it comes before it.
-fn sift_down(heap: &mut [usize], places: &mut [Option<usize>], ranks: &[Rank], turned: bool)
-    requires places { length places.old ≡ length ranks.now }
-    requires heap { All (λ x. x < length ranks.now) heap.old }
-    ensures { All (λ x. x < length ranks.now) heap.new }
-{
-    let mut at = 0;
-    while at < heap.len() / 2 {
-        let mut below = 2 * at + 1;
-        if below + 1 < heap.len() && is_before(ranks, turned, heap[below + 1], heap[below]) {
-            below += 1;
-        }
-        if !is_before(ranks, turned, heap[below], heap[at]) {
-            return;
-        }
-        exchange(heap, places, at, below);
-        at = below;
-    }
-}
-
-/// Exchanges the variables at two places of the heap.
-fn exchange(heap: &mut [usize], places: &mut [Option<usize>], one: usize, other: usize)
-    requires one { one < length heap.old }
-    requires other { other < length heap.old }
-    requires heap { All (λ x. x < length places.old) heap.old }
-    ensures { All (λ x. x < length places.old) heap.new }
-{
-    heap.swap(one, other);
-    places[heap[one]] = Some(one);
-    places[heap[other]] = Some(other);
 }

@@ -2,5 +2,8 @@ mod Noted
 mod Values
 mod Ordered
 mod Equals
-mod Totals
 mod Said
+mod Ring
+mod Products
+mod Totals
+mod Remainders

@@ -39,6 +39,8 @@ module _ (ρ : Values) where
     truth = tt;
     shape = tt;
     maker = tt;
+    low = tt;
+    high = tt;
   })
 
 pub length_push : (cs : List Class) (c : Class) (n : ℕ) → length cs ≡ n → length (cs ++ c ∷ []) ≡ n + 1

@@ -1,6 +1,7 @@
 -- What steps say of the order of numbers.
 use Rattle.std.proofs.Common.{◌≡◌, ◌<◌, ℕ, true, false, Option, Some, None, refl, ap, ◌∙◌, arith, subst}
 use Rattle.std.specs.Prelude.{ℤ, List, length, not, slice_get}
+use Rattle.std.specs.Int.{w32}
 use Rattle.std.specs.Int.RustNames.{int_le, int_lt}
 use Rattle.std.proofs.lemmas.Int.{ints}
 use Rattle.std.proofs.lemmas.Option.{same_Some, slice_get_within}
@@ -13,16 +14,22 @@ use Rattle.pp_prog.specs.declared.value.Value.{Value}
 use Rattle.pp_prog.specs.declared.value.Value.TheOpen as layer
 use Rattle.pp_prog.specs.declared.value.Value.TheVariants.{outs-Int, Bool as Truth}
 use Rattle.pp_prog.specs.declared.value.Value.TheViews.{out-Value}
+use Rattle.pp_prog.specs.Fits.{same_truth}
 use Rattle.pp_prog.specs.ExprSorts.{class_sort}
 use Rattle.pp_prog.specs.Sorts.{has_sort}
 use Rattle.pp_prog.proofs.PartSorts.{order_parts}
 use Rattle.pp_prog.proofs.ValueSorts.{int_value}
+use Rattle.pp_word.specs.Word.{word_less}
+use Rattle.pp_word.specs.Wrapping.{IsWord}
 use Rattle.pp_eval.specs.Operators.{on_layers}
 use Rattle.pp_steps.proofs.Bits.{bit_truth}
 use Rattle.pp_steps.specs.declared.step.Step.{Step}
 use Rattle.pp_steps.specs.declared.step.Step.TheVariants as steps
 use Rattle.pp_steps.specs.Meaning.{bit, value_or}
 use Rattle.pp_closure.specs.Order.{Says, is_less, is_less_in, order_of}
+use Rattle.pp_closure.specs.declared.orders.Order.{Order}
+use Rattle.pp_closure.specs.Sums.{whole, whole_in}
+use Rattle.pp_closure.proofs.Totals.{sorted_word}
 use Rattle.pp_closure.specs.Steps.{order_in}
 use Rattle.pp_closure.specs.Valuation.{Valuation}
 
@@ -85,6 +92,11 @@ at_least_bit : (o q : layer.Value-F Value) (m n : ℤ) → o ≡ layer.Int m →
     → bit (value_or (Truth false) (on_layers AtLeast None o q)) ≡ not (is_less_in o q)
 at_least_bit o q m n e f = rw (e, f) (bit_truth (int_le n m) ∙ at_most_is n m)
 
+-- of numbers
+less_whole : (o q : layer.Value-F Value) (m n : ℤ) → o ≡ layer.Int m → q ≡ layer.Int n
+    → is_less_in o q ≡ word_less (whole_in o) (whole_in q)
+less_whole o q m n e f = rw (e, f) refl
+
 -- ---- steps
 
 module _ (ss : List Step) (v : Valuation ss) where
@@ -110,6 +122,13 @@ module _ (ss : List Step) (v : Valuation ss) where
         int_at b (same_Some (v.sorts b) sort.Int parts.1) (omega (arith, below.1, within)),
       )
 
+  both_within : (k : ℕ) (op : BinaryOp) (a b : ℕ) → slice_get ss k ≡ Some (steps.Binary op a b)
+      → (a < length ss) × (b < length ss)
+  both_within k op a b at =
+      let below = v.reads k (steps.Binary op a b) at in
+      let within = slice_get_within ss k (steps.Binary op a b) at in
+      (omega (arith, below.0, within), omega (arith, below.1, within))
+
   pub says_op : (k : ℕ) (op : BinaryOp) (a b : ℕ) → slice_get ss k ≡ Some (steps.Binary op a b)
       → Says v.values k (order_of op a b)
   says_op k Less a b at =
@@ -125,6 +144,46 @@ module _ (ss : List Step) (v : Valuation ss) where
       ap bit (v.does k (steps.Binary AtLeast a b) at)
       ∙ at_least_bit (out-Value (v.values a)) (out-Value (v.values b)) both.0.number both.1.number both.0.is both.1.is
   says_op k op a b at = tt
+
+  -- the step says whether the one number is less than the other
+  pub record Compares (k : ℕ) (o : Order) : Type 0 where
+    pub says : bit (v.values k)
+        ≡ same_truth o.positive (word_less (whole (v.values o.low)) (whole (v.values o.high)))
+    pub low : IsWord w32 (whole (v.values o.low))
+    pub high : IsWord w32 (whole (v.values o.high))
+
+  abbrev pub Ordered : ℕ → Option Order → Type 0
+  Ordered k None = Unit {0}
+  Ordered k (Some o) = Compares k o
+
+  compares : (k : ℕ) (o : Order) → Says v.values k (Some o) → IsInt o.low → IsInt o.high → o.low < length ss
+      → o.high < length ss → Compares k o
+  compares k o says l h ll lh = record {
+    says = says ∙ ap (same_truth o.positive)
+        (less_whole (out-Value (v.values o.low)) (out-Value (v.values o.high)) l.number h.number l.is h.is);
+    low = sorted_word v.types.ctors (v.values o.low) (v.sorts o.low) (v.sorted o.low ll);
+    high = sorted_word v.types.ctors (v.values o.high) (v.sorts o.high) (v.sorted o.high lh);
+  }
+
+  pub ordered : (k : ℕ) (op : BinaryOp) (a b : ℕ) → slice_get ss k ≡ Some (steps.Binary op a b)
+      → Ordered k (order_of op a b)
+  ordered k Less a b at =
+      let i = operands k Less a b at (v.typed k (steps.Binary Less a b) at) in
+      let w = both_within k Less a b at in
+      compares k (record { low = a; high = b; positive = true }) (says_op k Less a b at) i.0 i.1 w.0 w.1
+  ordered k More a b at =
+      let i = operands k More a b at (v.typed k (steps.Binary More a b) at) in
+      let w = both_within k More a b at in
+      compares k (record { low = b; high = a; positive = true }) (says_op k More a b at) i.1 i.0 w.1 w.0
+  ordered k AtMost a b at =
+      let i = operands k AtMost a b at (v.typed k (steps.Binary AtMost a b) at) in
+      let w = both_within k AtMost a b at in
+      compares k (record { low = b; high = a; positive = false }) (says_op k AtMost a b at) i.1 i.0 w.1 w.0
+  ordered k AtLeast a b at =
+      let i = operands k AtLeast a b at (v.typed k (steps.Binary AtLeast a b) at) in
+      let w = both_within k AtLeast a b at in
+      compares k (record { low = a; high = b; positive = false }) (says_op k AtLeast a b at) i.0 i.1 w.0 w.1
+  ordered k op a b at = tt
 
   pub says_at : (k : ℕ) (o : Option Step) → slice_get ss k ≡ o → Says v.values k (order_in o)
   says_at k (Some (steps.Binary op a b)) at = says_op k op a b at

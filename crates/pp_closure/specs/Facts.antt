@@ -1,16 +1,26 @@
 -- What it means that facts hold of the values of steps. Source: own; classes of equal terms are those of congruence
 -- closure (Nelson, Oppen: Fast Decision Procedures Based on Congruence Closure, JACM 1980).
-use Rattle.std.specs.Prelude.{◌≡◌, ℕ, suc, Bool, false, true, Option, Some, None, List, [], ◌∷◌}
+use Rattle.std.specs.Prelude.{◌≡◌, ◌≤ℤ◌, ℕ, ℤ, suc, Bool, false, true, Option, Some, None, List, [], ◌∷◌}
 use Rattle.pp_prog.specs.declared.value.Value.{Value}
 use Rattle.pp_prog.specs.declared.value.Value.TheVariants.{Tree}
 use Rattle.pp_steps.specs.Meaning.{Values, bit, has_ctor}
+use Rattle.pp_closure.specs.Sums.{whole}
 use Rattle.pp_closure.specs.declared.class.Class.{Class}
 use Rattle.pp_closure.specs.declared.class.Shape.{Shape}
 use Rattle.pp_closure.specs.declared.facts.Facts.{Facts}
 
 -- nothing is known of the step's value
 abbrev pub unknown : ℕ → Class
-unknown k = record { name = k; truth = None; shape = None; maker = None; next = k }
+unknown k = record {
+  name = k;
+  truth = None;
+  shape = None;
+  maker = None;
+  low = None;
+  high = None;
+  moves = 0;
+  next = k;
+}
 
 -- the value is true or false, as is said
 abbrev pub HasTruth : Option Bool → Value → Type 0
@@ -37,12 +47,24 @@ abbrev pub HasMaker : Values → Option ℕ → Value → Type 0
 HasMaker ρ None v = Unit {0}
 HasMaker ρ (Some j) v = ρ j ≡ v
 
+-- the number that the value is is at least the one that is said
+abbrev pub HasLow : Option ℤ → Value → Type 0
+HasLow None v = Unit {0}
+HasLow (Some n) v = n ≤ℤ whole v
+
+-- and at most
+abbrev pub HasHigh : Option ℤ → Value → Type 0
+HasHigh None v = Unit {0}
+HasHigh (Some n) v = whole v ≤ℤ n
+
 -- what the class says is so of the value
 pub record Tells (ρ : Values) (c : Class) (v : Value) : Type 0 where
   pub name : ρ c.name ≡ v
   pub truth : HasTruth c.truth v
   pub shape : HasShape c.shape v
   pub maker : HasMaker ρ c.maker v
+  pub low : HasLow c.low v
+  pub high : HasHigh c.high v
 
 -- each class tells of its step's value, where the first step has the number k
 abbrev pub AllTell : Values → ℕ → List Class → Type 0

@@ -1,5 +1,5 @@
 -- The order of two values that are numbers, and what steps say of it. Source: own.
-use Rattle.std.specs.Prelude.{◌≡◌, ℕ, Bool, false, true, Option, Some, None}
+use Rattle.std.specs.Prelude.{◌≡◌, ◌<ℤ◌, ◌≤ℤ◌, ℕ, ℤ, pos, Bool, false, true, Option, Some, None}
 use Rattle.pp_tree.specs.declared.operator.BinaryOp.{BinaryOp}
 use Rattle.pp_tree.specs.declared.operator.BinaryOp.TheVariants.{Less, AtMost, More, AtLeast}
 use Rattle.pp_prog.specs.declared.value.Value.{Value}
@@ -33,3 +33,9 @@ order_of op a b = None
 abbrev pub Says : Values → ℕ → Option Order → Type 0
 Says ρ k None = Unit {0}
 Says ρ k (Some o) = bit (ρ k) ≡ same_truth o.positive (is_less (ρ o.low) (ρ o.high))
+
+-- what is known of the remainder r of a by b
+pub record Leaves (a b r : ℤ) : Type 0 where
+  pub below : pos 0 <ℤ b → r <ℤ b
+  pub natural : pos 0 <ℤ b → pos 0 ≤ℤ a → pos 0 ≤ℤ r
+  pub most : pos 0 <ℤ b → pos 0 ≤ℤ a → r ≤ℤ a

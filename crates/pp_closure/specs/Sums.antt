@@ -1,13 +1,16 @@
--- Sums of values that are numbers, as integers that don't wrap. Source: own.
-use Rattle.std.specs.Prelude.{◌≡◌, ◌^◌, ℕ, ℤ, pos, ◌+ℤ◌, Bool, true, false, List, [], ◌∷◌}
+-- Sums of products of values that are numbers, as integers that don't wrap. Source: own.
+use Rattle.std.specs.Prelude.{◌≡◌, ◌≢◌, ◌^◌, ℕ, ℤ, pos, ◌+ℤ◌, ◌*ℤ◌, Bool, true, false, List, [], ◌∷◌}
+use Rattle.std.specs.Prelude.{Option, Some, None}
+use Rattle.std.specs.Int.{w32}
 use Rattle.pp_prog.specs.declared.value.Value.{Value}
 use Rattle.pp_prog.specs.declared.value.Value.TheOpen as layer
 use Rattle.pp_prog.specs.declared.value.Value.TheViews.{out-Value}
-use Rattle.pp_word.specs.Wrapping.{SameModulo}
+use Rattle.pp_word.specs.Wrapping.{IsWord, SameModulo}
 use Rattle.pp_steps.specs.Meaning.{Values}
-use Rattle.pp_closure.specs.declared.sums.Part.{Part}
-use Rattle.pp_closure.specs.declared.sums.Part.TheVariants as part
-use Rattle.pp_closure.specs.declared.sums.Sum.{Sum}
+use Rattle.pp_closure.specs.declared.parts.Part.{Part}
+use Rattle.pp_closure.specs.declared.parts.Part.TheVariants as part
+use Rattle.pp_closure.specs.declared.product.Product.{Product}
+use Rattle.pp_closure.specs.declared.terms.Term.{Term}
 
 abbrev pub whole_in : layer.Value-F Value → ℤ
 whole_in (layer.Int n) = n
@@ -18,27 +21,47 @@ whole_in (layer.Tree c fields) = pos 0
 abbrev pub whole : Value → ℤ
 whole v = whole_in (out-Value v)
 
--- the sum of the values of the steps
-abbrev pub total : Values → List ℕ → ℤ
+-- the value of the step, and 1 where there is none
+abbrev pub factor : Values → Option ℕ → ℤ
+factor ρ None = pos 1
+factor ρ (Some k) = whole (ρ k)
+
+-- the product of the values of its steps
+abbrev pub product : Values → Product → ℤ
+product ρ p = factor ρ p.first *ℤ (factor ρ p.second *ℤ (factor ρ p.third *ℤ factor ρ p.fourth))
+
+-- the product so many times
+abbrev pub amount : Values → Term → ℤ
+amount ρ t = t.coefficient *ℤ product ρ t.product
+
+-- the sum of the terms
+abbrev pub total : Values → List Term → ℤ
 total ρ [] = pos 0
-total ρ (k ∷ ks) = whole (ρ k) +ℤ total ρ ks
+total ρ (t ∷ ts) = amount ρ t +ℤ total ρ ts
 
 -- the same up to what wrapping takes away
 abbrev pub AlikeWords : ℤ → ℤ → Type 0
 AlikeWords = SameModulo (2 ^ 32)
 
--- the step's value is what is left of the sum when it wraps
-pub record IsSumOf (ρ : Values) (s : Sum) (k : ℕ) : Type 0 where
-  pub same : AlikeWords (total ρ s.steps +ℤ s.constant) (whole (ρ k))
+-- there is a term, and it has the product
+abbrev pub HasProduct : Option Term → Product → Type 0
+HasProduct o p = (t : Term) × (o ≡ Some t) × ((ρ : Values) → product ρ t.product ≡ product ρ p)
+
+-- the number is 0, or a word other than 0
+abbrev pub IsZero : Bool → ℤ → Type 0
+IsZero true z = z ≡ pos 0
+IsZero false z = IsWord w32 z × (z ≢ pos 0)
 
 -- the number is made of the part
 abbrev pub IsPart : Values → Part → ℤ → Type 0
 IsPart ρ (part.Number n) w = w ≡ n
-IsPart ρ (part.Sum x y) w = AlikeWords (whole (ρ x) +ℤ whole (ρ y)) w
+IsPart ρ (part.Linear a x b y) w = AlikeWords ((a *ℤ whole (ρ x)) +ℤ (b *ℤ whole (ρ y))) w
+IsPart ρ (part.Product x y) w = AlikeWords (whole (ρ x) *ℤ whole (ρ y)) w
 IsPart ρ (part.Step r) w = whole (ρ r) ≡ w
 
 -- whether the part shows that the value is a number
 abbrev pub shows_number : Part → Bool
 shows_number (part.Number n) = true
-shows_number (part.Sum x y) = true
+shows_number (part.Linear a x b y) = true
+shows_number (part.Product x y) = true
 shows_number (part.Step r) = false

@@ -16,8 +16,8 @@ use std::alloc::Global;
 /// How often the steps that are due are gone over.
 const MOST_PASSES: u32 = 64;
 
-/// Lets the steps that are due say what follows, until nothing more does, or a contradiction is found. The only error
-/// is want of memory.
+/// Lets the steps that are due say what follows, until nothing more does, a contradiction is found, or no work is left.
+/// The only error is want of memory.
 pub(crate) fn close(
     alloc: Global,
     facts: &mut Facts,
@@ -28,7 +28,7 @@ pub(crate) fn close(
     requires { length all.now ≤ 2 ^ 32 }
     ensures { OnOk result (Keeps all.now facts.old facts.new) }
 {
-    wake(facts, agenda);
+    wake(facts, agenda)?;
     for _ in 0..MOST_PASSES {
         if facts.refuted || !pass(alloc, facts, all, agenda, seen)? {
             break;
@@ -49,23 +49,24 @@ fn pass(
     ensures { OnOk result (Keeps all.now facts.old facts.new) }
 {
     let mut any = false;
+    agenda.go_over();
     for number in 0..all.len() {
-        if facts.refuted {
+        if facts.refuted || agenda.is_spent() {
             break;
         }
         if agenda.take(number) {
             any = true;
             learn(alloc, facts, all, seen, number as u32, &all[number])?;
-            wake(facts, agenda);
+            wake(facts, agenda)?;
         }
     }
     Ok(any)
 }
 
-/// What something was noted of is due.
-fn wake(facts: &mut Facts, agenda: &mut Agenda)
+/// What something was noted of is due. The only error is want of memory.
+fn wake(facts: &mut Facts, agenda: &mut Agenda) -> Result<(), NoMemory>
     ensures { (ρ : Values) → Holds ρ facts.old → Holds ρ facts.new }
 {
     let news = facts.take_news();
-    agenda.enter_news(facts, &news);
+    agenda.enter_news(facts, &news)
 }

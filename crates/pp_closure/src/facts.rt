@@ -1,17 +1,23 @@
 //! Facts on the values of steps, and how they are noted.
 
-ghost use Rattle.std.specs.Prelude.{◌≡◌, ◌<◌, ℕ, true, false, IfOk, length};
+ghost use Rattle.std.specs.Prelude.{◌≡◌, ◌<◌, ◌≤ℤ◌, ℕ, true, false, IfOk, length};
 ghost use Rattle.pp_steps.specs.Meaning.{Values, bit, has_ctor};
+ghost use Rattle.std.specs.Int.{w32};
+ghost use Rattle.pp_word.specs.Wrapping.{IsWord};
+ghost use Rattle.pp_closure.specs.Sums.{whole};
 ghost use Rattle.pp_closure.specs.Facts.{HasMaker, HasShape, HasTruth, Holds, Tells};
 
 use crate::NoMemory;
-use crate::class::{Class, Shape};
+use crate::class::{Class, Shape, exceeds};
 use crate::news::News;
 use pp_list::{Items, at};
 use std::alloc::Global;
 
 /// How many names are followed from a step to the first one of its class.
 const LONGEST_PATH: u32 = 64;
+
+/// How often the bounds of a class are moved: they may come closer by one each time, so that it wouldn't end soon.
+const MOST_MOVES: u32 = 12;
 
 /// What is known of each step's value, by number; whether that is a contradiction; and of which steps something was
 /// noted since this was last asked.
@@ -142,11 +148,8 @@ impl Facts {
             None => self.put(
                 root,
                 Class {
-                    name: class.name,
                     truth: Some(truth),
-                    shape: class.shape,
-                    maker: class.maker,
-                    next: class.next,
+                    ..class
                 },
             ),
             Some(known) => self.refuted = self.refuted || known != truth,
@@ -164,11 +167,8 @@ impl Facts {
             None => self.put(
                 root,
                 Class {
-                    name: class.name,
-                    truth: class.truth,
                     shape: Some(shape),
-                    maker: class.maker,
-                    next: class.next,
+                    ..class
                 },
             ),
             Some(known) => self.refuted = self.refuted || !known.is(shape),
@@ -185,13 +185,72 @@ impl Facts {
             self.put(
                 root,
                 Class {
-                    name: class.name,
-                    truth: class.truth,
-                    shape: class.shape,
                     maker: Some(number),
-                    next: class.next,
+                    ..class
                 },
             );
+        }
+    }
+
+    /// Notes that the number that the step's value is is at least this one.
+    pub(crate) fn at_least(&mut self, number: u32, bound: i32)
+        ensures { (ρ : Values) → bound ≤ℤ whole (ρ number) → Holds ρ self.old → Holds ρ self.new }
+    {
+        let root = self.root(number);
+        let class = self.class(root);
+        let low = Some(bound);
+        if class.moves < MOST_MOVES && is_more(bound, class.low) {
+            let moves = class.moves + 1;
+            self.put(
+                root,
+                Class {
+                    low,
+                    moves,
+                    ..class
+                },
+            );
+        }
+        self.refuted = self.refuted || exceeds(low, class.high);
+    }
+
+    /// Notes that the number that the step's value is is at most this one.
+    pub(crate) fn at_most(&mut self, number: u32, bound: i32)
+        ensures { (ρ : Values) → whole (ρ number) ≤ℤ bound → Holds ρ self.old → Holds ρ self.new }
+    {
+        let root = self.root(number);
+        let class = self.class(root);
+        let high = Some(bound);
+        if class.moves < MOST_MOVES && is_less(bound, class.high) {
+            let moves = class.moves + 1;
+            self.put(
+                root,
+                Class {
+                    high,
+                    moves,
+                    ..class
+                },
+            );
+        }
+        self.refuted = self.refuted || exceeds(class.low, high);
+    }
+
+    /// What the number that the step's value is is at least, where that is a word.
+    pub(crate) fn low(&self, number: u32) -> i32
+        ensures { (ρ : Values) → Holds ρ self.now → IsWord w32 (whole (ρ number)) → result ≤ℤ whole (ρ number) }
+    {
+        match self.known(number).low {
+            Some(low) => low,
+            None => i32::MIN,
+        }
+    }
+
+    /// What the number that the step's value is is at most, where that is a word.
+    pub(crate) fn high(&self, number: u32) -> i32
+        ensures { (ρ : Values) → Holds ρ self.now → IsWord w32 (whole (ρ number)) → whole (ρ number) ≤ℤ result }
+    {
+        match self.known(number).high {
+            Some(high) => high,
+            None => i32::MAX,
         }
     }
 
@@ -217,10 +276,8 @@ impl Facts {
             second,
             Class {
                 name: first,
-                truth: other.truth,
-                shape: other.shape,
-                maker: other.maker,
                 next: one.next,
+                ..other
             },
         );
         self.refuted = self.refuted || one.excludes(&other);
@@ -233,16 +290,23 @@ impl Facts {
         let name = self.root(number);
         let class = self.class(number);
         if class.name != name {
-            self.set(
-                number,
-                Class {
-                    name,
-                    truth: class.truth,
-                    shape: class.shape,
-                    maker: class.maker,
-                    next: class.next,
-                },
-            );
+            self.set(number, Class { name, ..class });
         }
+    }
+}
+
+/// Whether the bound is more than the one that is known.
+fn is_more(bound: i32, known: Option<i32>) -> bool {
+    match known {
+        Some(known) => bound > known,
+        None => true,
+    }
+}
+
+/// Whether the bound is less than the one that is known.
+fn is_less(bound: i32, known: Option<i32>) -> bool {
+    match known {
+        Some(known) => bound < known,
+        None => true,
     }
 }

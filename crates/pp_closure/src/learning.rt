@@ -6,6 +6,7 @@ ghost use Rattle.pp_closure.specs.Keeps.{Keeps};
 
 use crate::NoMemory;
 use crate::alike::learn_alike;
+use crate::bounds::{learn_bounds, learn_number, learn_remainder};
 use crate::class::Shape;
 use crate::equality::learn_equality;
 use crate::facts::Facts;
@@ -52,8 +53,9 @@ fn learn_step(
             facts.assume(number, *truth);
             Ok(())
         }
-        Step::Int(_) => {
+        Step::Int(n) => {
             facts.maker(number);
+            learn_number(facts, number, *n);
             Ok(())
         }
         Step::Not(a) => {
@@ -100,8 +102,10 @@ fn learn_unary(facts: &mut Facts, all: &[Step], number: u32, op: UnaryOp, a: u32
     requires { slice_get all.now number ≡ Some (steps.Unary op a) }
     ensures { Keeps all.now facts.old facts.new }
 {
-    if let UnaryOp::Not = op {
-        learn_not(facts, number, a);
+    match op {
+        UnaryOp::Not => learn_not(facts, number, a),
+        UnaryOp::Neg => facts.maker(number),
+        UnaryOp::Flip => {}
     }
 }
 
@@ -122,12 +126,19 @@ fn learn_operator(
     match op {
         BinaryOp::Equal => learn_equality(alloc, facts, all, number, a, b, true),
         BinaryOp::Differ => learn_equality(alloc, facts, all, number, a, b, false),
-        BinaryOp::Add => {
+        BinaryOp::Add | BinaryOp::Sub | BinaryOp::Mul => {
             facts.maker(number);
             Ok(())
         }
+        BinaryOp::Rem => {
+            learn_remainder(facts, number, a, b);
+            Ok(())
+        }
         _ => match order_of(op, a, b) {
-            Some(order) => learn_order(facts, all, seen, number, order),
+            Some(order) => {
+                learn_bounds(facts, number, order.low, order.high, order.positive);
+                learn_order(facts, all, seen, number, order)
+            }
             None => Ok(()),
         },
     }

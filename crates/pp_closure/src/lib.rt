@@ -10,7 +10,8 @@
 //! be changed: which rules there are, in which order they are tried, and how long is searched. None of it is promised.
 //!
 //! - `class`, `facts`: what is known of the value of a step, and how it is noted.
-//! - `truths`, `trees`, `sums`, `orders`: what a step says, by what its value is. `equality`: equations.
+//! - `truths`, `trees`, `sums`, `bounds`, `orders`: what a step says, by what its value is. `equality`: equations.
+//! - `product`, `terms`, `parts`: sums of products of steps, modulo 2^32, and what a step is made of.
 //! - `alike`, `seen`: which steps do the same to the same values.
 //! - `learning`: what each step says. `closing`: all steps that are due, until nothing more follows; `agenda` and
 //!   `news`: which are. `refuting`: the cases; `undecided`: which test comes next.
@@ -18,6 +19,7 @@
 
 mod agenda;
 mod alike;
+mod bounds;
 mod class;
 mod closing;
 mod equality;
@@ -25,9 +27,12 @@ mod facts;
 mod learning;
 mod news;
 mod orders;
+mod parts;
+mod product;
 mod refuting;
 mod seen;
 mod sums;
+mod terms;
 mod trees;
 mod truths;
 mod undecided;

@@ -20,16 +20,6 @@ const MOST_CASES: u32 = 400;
 
 const DEEPEST: u32 = 12;
 
-/// How many tests are decided at most where there are so many steps: fewer where there are many, since each case goes
-/// over all of them.
-fn most_cases(steps: usize) -> u32 {
-    match steps {
-        0..=5_000 => MOST_CASES,
-        5_001..=50_000 => MOST_CASES / 10,
-        _ => MOST_CASES / 100,
-    }
-}
-
 /// What all cases share: which steps are due, which were seen, and how many cases may still be tried.
 #[derive(Drop)]
 struct Work {
@@ -61,7 +51,7 @@ pub fn refuted(
     let mut work = Work {
         agenda: Agenda::new(alloc, all)?,
         seen: Seen::new(alloc),
-        left: most_cases(all.len()),
+        left: MOST_CASES,
     };
     by_cases(alloc, table, all, facts, &mut work, DEEPEST)
 }
@@ -85,14 +75,16 @@ fn by_cases(
             work.agenda.clear();
             return Ok(true);
         }
-        if work.left == 0 || depth == 0 {
+        if work.left == 0 || depth == 0 || work.agenda.is_spent() {
             return Ok(false);
         }
         work.left -= 1;
+        work.agenda.go_over();
         match undecided(table, all, &facts) {
             None => return Ok(false),
             Some(test) => {
                 let mut other = facts.copy(alloc)?;
+                work.agenda.go_over();
                 other.assume(test, false);
                 let so_far = work.seen.so_far();
                 if !by_cases(alloc, table, all, other, work, depth - 1)? {

@@ -1,52 +1,26 @@
-//! Sums: whether two steps are equal as sums of others.
+//! Whether two steps are equal as sums of products of others.
 
-ghost use Rattle.std.specs.Prelude.{◌≡◌, ◌<◌, ◌+ℤ◌, true, false, IfOk, IfSome, Some, length, slice_get};
+ghost use Rattle.std.specs.Prelude.{◌≡◌, ◌<◌, ◌+ℤ◌, ◌-ℤ◌, ◌*ℤ◌, true, IfOk, OnOk, length};
 ghost use Rattle.pp_prog.specs.declared.sort.Sort.TheVariants as sort;
 ghost use Rattle.pp_eval.specs.Equality.{equal};
 ghost use Rattle.pp_steps.specs.Meaning.{Values};
 ghost use Rattle.pp_closure.specs.Facts.{Holds, IsAnswer};
-ghost use Rattle.pp_closure.specs.Sums.{IsPart, IsSumOf, shows_number, total, whole};
+ghost use Rattle.pp_closure.specs.Sums.{AlikeWords, amount, total, whole};
 ghost use Rattle.pp_closure.specs.Valuation.{Valuation};
 
 use crate::NoMemory;
 use crate::facts::Facts;
-use pp_list::{Items, at};
-use pp_prog::BinaryOp;
+use crate::parts::{made_of, parts_of};
+use crate::product::Product;
+use crate::terms::{Term, add, add_all, is_zero, take_last};
+use pp_list::Items;
 use pp_steps::Step;
 use std::alloc::Global;
 
-/// How many steps are looked at for one sum.
-const MOST_PARTS: u32 = 32;
+/// How often a factor of a sum is replaced by what it is made of, and of how many terms.
+const MOST_TURNS: u32 = 96;
 
-/// A sum of the values of steps and a constant.
-#[derive(Drop)]
-pub(crate) struct Sum {
-    pub steps: Items<u32>,
-    pub constant: i32,
-}
-
-/// What a number is made of, where that is known.
-#[derive(Clone, Copy)]
-enum Part {
-    /// A number.
-    Number(i32),
-    /// The sum of two steps.
-    Sum(u32, u32),
-    /// Nothing more is known of the step.
-    Step(u32),
-}
-
-impl Part {
-    /// Whether it shows that the value is a number.
-    fn is_number(self) -> bool
-        ensures { result ≡ shows_number self }
-    {
-        match self {
-            Part::Number(_) | Part::Sum(_, _) => true,
-            Part::Step(_) => false,
-        }
-    }
-}
+const MOST_TERMS: usize = 32;
 
 /// Whether the values of two steps are equal, where they are so as sums, or differ by a constant. One of them has to be
 /// known to be a sum or a number. The only error is want of memory.
@@ -60,16 +34,22 @@ pub(crate) fn equal_sums(
     ensures { IfOk result (λ r. (v : Valuation all.now) → v.sorts a ≡ v.sorts b → a < length all.now
         → b < length all.now → Holds v.values facts.now → IsAnswer r (equal (v.values a) (v.values b))) }
 {
-    if !is_number(facts, all, a) && !is_number(facts, all, b) {
+    if !are_numbers(facts, all, a, b) {
         return Ok(None);
     }
-    let left = sum_of(alloc, facts, all, a)?;
-    let right = sum_of(alloc, facts, all, b)?;
-    let constants = left.constant == right.constant;
-    if are_the_same(left.steps, right.steps) {
-        Ok(Some(constants))
+    let terms = difference(alloc, facts, all, a, b)?;
+    Ok(is_zero(terms.as_slice()))
+}
+
+/// Whether one of two steps of one sort is known to be a number.
+fn are_numbers(facts: &Facts, all: &[Step], a: u32, b: u32) -> bool
+    ensures { (v : Valuation all.now) → v.sorts a ≡ v.sorts b → a < length all.now → b < length all.now
+        → Holds v.values facts.now → result ≡ true → v.sorts a ≡ sort.Int }
+{
+    if is_number(facts, all, a) {
+        true
     } else {
-        Ok(None)
+        is_number(facts, all, b)
     }
 }
 
@@ -84,109 +64,78 @@ fn is_number(facts: &Facts, all: &[Step], number: u32) -> bool
     }
 }
 
-/// What the step's value is made of, as far as the step itself tells.
-fn made_of(all: &[Step], number: u32) -> Part
-    ensures part { (v : Valuation all.now) → IsPart v.values result (whole (v.values number)) }
-    ensures sort { (v : Valuation all.now) → shows_number result ≡ true → v.sorts number ≡ sort.Int }
-    ensures within { shows_number result ≡ true → number < length all.now }
+/// The first value less the second. The only error is want of memory.
+fn difference(
+    alloc: Global,
+    facts: &Facts,
+    all: &[Step],
+    a: u32,
+    b: u32,
+) -> Result<Items<Term>, NoMemory>
+    ensures { IfOk result (λ r. (v : Valuation all.now) → Holds v.values facts.now
+        → AlikeWords (total v.values r) (whole (v.values a) -ℤ whole (v.values b))) }
 {
-    match at(all, number as usize) {
-        Some(Step::Int(n)) => Part::Number(*n),
-        Some(Step::Binary(BinaryOp::Add, x, y)) => Part::Sum(*x, *y),
-        _ => Part::Step(number),
+    let mut terms = Items::new(alloc);
+    add(&mut terms, once(facts, 1, a))?;
+    add(&mut terms, once(facts, -1, b))?;
+    let all_terms = expanded(alloc, facts, all, terms)?;
+    Ok(all_terms)
+}
+
+/// The step so many times.
+fn once(facts: &Facts, coefficient: i32, step: u32) -> Term
+    ensures { (ρ : Values) → Holds ρ facts.now → amount ρ result ≡ coefficient *ℤ whole (ρ step) }
+{
+    Term {
+        coefficient,
+        product: Product::of(facts.root(step)),
     }
 }
 
-/// What the step's value is made of, as far as a step that makes it tells. A sum that has the value among its own
-/// operands isn't taken apart.
-fn part_of(facts: &Facts, all: &[Step], number: u32) -> Part
-    ensures { (v : Valuation all.now) → Holds v.values facts.now → IsPart v.values result (whole (v.values number)) }
+/// The same sum, where factors that are known to be made of others are replaced, the last ones first, as far as the
+/// bounds allow. The only error is want of memory.
+fn expanded(
+    alloc: Global,
+    facts: &Facts,
+    all: &[Step],
+    terms: Items<Term>,
+) -> Result<Items<Term>, NoMemory>
+    ensures { IfOk result (λ r. (v : Valuation all.now) → Holds v.values facts.now
+        → AlikeWords (total v.values r) (total v.values terms)) }
 {
-    let root = Part::Step(facts.root(number));
-    match facts.known(number).maker {
-        Some(maker) => match made_of(all, maker) {
-            Part::Number(n) => Part::Number(n),
-            Part::Sum(x, y) => {
-                if facts.same(x, number) || facts.same(y, number) {
-                    root
-                } else {
-                    Part::Sum(x, y)
-                }
-            }
-            Part::Step(_) => root,
-        },
-        None => root,
-    }
-}
-
-/// The step's value as a sum. The only error is want of memory.
-fn sum_of(alloc: Global, facts: &Facts, all: &[Step], number: u32) -> Result<Sum, NoMemory>
-    ensures { IfOk result (λ s. (v : Valuation all.now) → Holds v.values facts.now → IsSumOf v.values s number) }
-{
-    let mut steps = Items::new(alloc);
-    let mut constant = 0i32;
-    let mut todo = Items::new(alloc);
-    todo.push(number)?;
-    for _ in 0..MOST_PARTS {
-        match todo.pop() {
-            Some(next) => match part_of(facts, all, next) {
-                Part::Number(n) => constant = constant.wrapping_add(n),
-                Part::Sum(x, y) => {
-                    todo.push(x)?;
-                    todo.push(y)?;
-                }
-                Part::Step(step) => steps.push(step)?,
-            },
+    let mut left = terms;
+    let mut done = Items::new(alloc);
+    for _ in 0..MOST_TURNS {
+        if left.len() > MOST_TERMS || done.len() > MOST_TERMS {
+            break;
+        }
+        match take_last(&mut left) {
+            Some(term) => replace(facts, all, term, &mut left, &mut done)?,
             None => break,
         }
     }
-    steps.append(todo)?;
-    Ok(Sum { steps, constant })
+    add_all(&mut done, left.as_slice())?;
+    Ok(done)
 }
 
-/// Whether two lists have the same steps, in any order.
-fn are_the_same(left: Items<u32>, right: Items<u32>) -> bool
-    ensures { result ≡ true → (ρ : Values) → total ρ left ≡ total ρ right }
+/// Adds the term to those that are done, or what it is made of to those that are left. The only error is want of
+/// memory.
+fn replace(
+    facts: &Facts,
+    all: &[Step],
+    term: Term,
+    left: &mut Items<Term>,
+    done: &mut Items<Term>,
+) -> Result<(), NoMemory>
+    ensures { OnOk result ((v : Valuation all.now) → Holds v.values facts.now
+        → AlikeWords (total v.values left.new +ℤ total v.values done.new)
+        ((total v.values left.old +ℤ total v.values done.old) +ℤ amount v.values term)) }
 {
-    let mut rest = right;
-    take_all(left.as_slice(), &mut rest) && rest.is_empty()
-}
-
-/// Takes each of the steps out of the others, once for each time that it is there, until one isn't there.
-fn take_all(steps: &[u32], others: &mut Items<u32>) -> bool
-    ensures { result ≡ true → (ρ : Values) → total ρ others.old ≡ total ρ steps.now +ℤ total ρ others.new }
-{
-    for step in steps {
-        if !take_out(others, *step) {
-            return false;
+    match parts_of(facts, all, &term) {
+        Some((one, other)) => {
+            add(left, one)?;
+            add(left, other)
         }
+        None => add(done, term),
     }
-    true
-}
-
-/// Takes the step out of the others once, if it is there.
-fn take_out(others: &mut Items<u32>, step: u32) -> bool
-    ensures { result ≡ true → (ρ : Values) → total ρ others.old ≡ whole (ρ step) +ℤ total ρ others.new }
-{
-    match place_of(others.as_slice(), step) {
-        Some(place) => {
-            others.remove(place);
-            true
-        }
-        None => false,
-    }
-}
-
-/// A place where the step is.
-fn place_of(steps: &[u32], step: u32) -> Option<usize>
-    ensures { IfSome result (λ place. slice_get steps.now place ≡ Some step) }
-{
-    for place in 0..steps.len() {
-        if let Some(found) = at(steps, place)
-            && *found == step
-        {
-            return Some(place);
-        }
-    }
-    None
 }

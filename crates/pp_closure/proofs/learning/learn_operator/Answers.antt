@@ -2,8 +2,9 @@ use Rattle.std.proofs.Common.{Some, sym, subst, ap, ◌∙◌}
 use Rattle.pp_tree.specs.declared.operator.BinaryOp.{BinaryOp}
 use Rattle.pp_steps.specs.declared.step.Step.TheVariants as steps
 use Rattle.pp_closure.specs.Order.{Says}
-use Rattle.pp_closure.proofs.Ordered.{says_op}
+use Rattle.pp_closure.proofs.Ordered.{Ordered, ordered, says_op}
 use Rattle.pp_closure.proofs.Said.{differ_compared, differ_said, equal_compared, equal_said, on_ok}
+use Rattle.pp_closure.proofs.Remainders.{remainder_at}
 use Rattle.pp_closure.proofs.learning.learn_operator.Goals as goal
 
 pub returns-in-Equal : goal.returns-in-Equal
@@ -24,10 +25,19 @@ returns-in-Differ c =
     go v are.sort are.left are.right (differ_said _ v _ _ _ at) holds)
     c.learn_equality-in-Differ.ensures
 
+pub returns-in-Rem : goal.returns-in-Rem
+returns-in-Rem c v holds =
+    let step : BinaryOp → _ = λ op. Some (steps.Binary op c.args.a c.args.b) in
+    let r = remainder_at _ v _ _ _ (c.requires ∙ ap step c.in-Rem.is) in
+    c.learn_remainder.ensures v.values r.leaves r.left r.right holds
+
 pub returns-in-Some : goal.returns-in-Some
 returns-in-Some c =
     on_ok c.learn_order.result _ _
-    (λ go v holds. go v
-    (subst (Says v.values c.args.number) (sym c.order_of.ensures ∙ c.in-Some.is)
-    (says_op _ v c.args.number c.args.op c.args.a c.args.b c.requires)) holds)
+    (λ go v holds.
+    let is = sym c.order_of.ensures ∙ c.in-Some.is in
+    let o = subst (Ordered _ v c.args.number) is (ordered _ v c.args.number c.args.op c.args.a c.args.b c.requires) in
+    go v
+    (subst (Says v.values c.args.number) is (says_op _ v c.args.number c.args.op c.args.a c.args.b c.requires))
+    (c.learn_bounds.ensures v.values o.says o.low o.high holds))
     c.learn_order.ensures

@@ -1,5 +1,6 @@
 use Rattle.std.proofs.Common.{Some, ap, ◌∙◌}
 use Rattle.pp_closure.proofs.Said.{bool_said, both_said, made_said, not_said, on_ok, test_said}
+use Rattle.pp_closure.proofs.Totals.{made_number}
 use Rattle.pp_closure.proofs.learning.learn_step.Goals as goal
 
 pub returns-in-Bool : goal.returns-in-Bool
@@ -34,3 +35,8 @@ returns-in-IsCtor c =
 pub returns-in-CtorField : goal.returns-in-CtorField
 returns-in-CtorField c v holds =
     c.learn_field.ensures v (v.does c.args.number _ (c.requires ∙ ap Some c.in-CtorField.is)) holds
+
+pub returns-in-Int : goal.returns-in-Int
+returns-in-Int c v holds =
+    c.learn_number.ensures v.values (made_number _ v _ _ (c.requires ∙ ap Some c.in-Int.is))
+    (c.maker.ensures v.values holds)

@@ -1,8 +1,5 @@
-use Rattle.std.proofs.Common.{◌≡◌, vec_len}
+use Rattle.std.proofs.Common.{◌≡◌}
 use Rattle.pp_cdcl.proofs.order.Order.new.Given as goal
 
 abbrev pub invariant-loop-var : goal.invariant-loop-var
-invariant-loop-var l = vec_len l.preferred ≡ l.count
-
-abbrev pub invariant-loop-var-2 : goal.invariant-loop-var-2
-invariant-loop-var-2 l = l.order ≡ l.count
+invariant-loop-var l = l.order ≡ l.count
