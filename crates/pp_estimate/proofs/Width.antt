@@ -1,5 +1,5 @@
 -- How deep calls and expressions go: the measure of the visit.
-use Rattle.std.proofs.Common.{ℕ, ◌+◌, ◌*◌, max, Bool, true, false, List, [], Option, Some}
+use Rattle.std.proofs.Common.{ℕ, ◌+◌, ◌*◌, max, Bool, true, false, List, Option, Some}
 use Rattle.std.proofs.Common.{None}
 use Rattle.pp_prog.specs.declared.expr.Expr.{Expr, size-Expr}
 use Rattle.pp_prog.specs.declared.expr.Function.{Function}

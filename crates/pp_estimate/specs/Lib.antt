@@ -6,3 +6,4 @@ pub mod Estimates
 pub mod Counted
 pub mod Place
 pub mod Bounds
+pub mod Shared

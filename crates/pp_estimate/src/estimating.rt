@@ -1,13 +1,16 @@
-//! The estimate of a round.
+//! The estimate of a round, and estimates of one program that share what was counted for them.
 
 ghost use Rattle.std.specs.Prelude.{◌≡◌, ◌<◌, ◌≤◌, IfOk, OnOk, length, true};
 ghost use Rattle.pp_limits.specs.declared.TheConstants.{DEPTH, ROUNDS};
 ghost use Rattle.pp_prog.specs.Sorts.{param_sorts};
 ghost use Rattle.pp_checks.specs.Plan.{IsPlanOf};
+ghost use Rattle.pp_prog.specs.declared.program.Program.{Program};
 ghost use Rattle.pp_estimate.specs.Bounds.{AreRows};
+ghost use Rattle.pp_estimate.specs.Counted.{MemoOf};
 ghost use Rattle.pp_estimate.specs.Estimates as spec;
 ghost use Rattle.pp_estimate.specs.Cut.{cut};
 ghost use Rattle.pp_estimate.specs.Place.{IsMemo};
+ghost use Rattle.pp_estimate.specs.Shared.{AreOf};
 
 use crate::NoMemory;
 use crate::frames::frame_of;
@@ -20,6 +23,9 @@ use pp_checks::Plan;
 use pp_list::{Items, at};
 use pp_prog::{CheckId, Function, Param, Program, TypeTable};
 use std::alloc::Global;
+
+/// How many numbers the known frames may hold, each of which has one for each datatype and each function.
+const MOST_NUMBERS: usize = 1 << 24;
 
 /// The estimate of a round of the check, at this depth: at most how large its circuit is. Each sum and product is
 /// cut at the greatest number of 64 bits. The only error is want of memory.
@@ -38,12 +44,55 @@ pub fn estimate(
     ensures { IfOk result (λ e. e ≡ spec.estimate program.now.types program.now.functions program.now.checks check.0
         round depth) }
 {
-    let functions = program.functions.as_slice();
-    let f = plan.checks()[check.0 as usize].function;
-    match at(functions, f.0 as usize) {
-        // the function of a check is one of the program's
-        None => Ok(0),
-        Some(f) => rounds(alloc, program.types(), functions, f, round, depth),
+    let mut estimates = Estimates::new(alloc)?;
+    estimates.of(alloc, program, plan, check, round, depth)
+}
+
+/// What estimates of one program share, whatever the check, the round and the depth: the frames that were counted.
+#[derive(Drop)]
+pub struct Estimates {
+    memo: Memo,
+}
+
+impl Estimates {
+    /// Nothing is counted yet, so that any program will do.
+    pub fn new(alloc: Global) -> Result<Estimates, NoMemory>
+        ensures { IfOk result (λ estimates. (p : Program) → AreOf p estimates) }
+    {
+        Ok(Estimates {
+            memo: Memo::new(alloc)?,
+        })
+    }
+
+    /// The estimate of a round of the check, as `estimate` has it, which counts no frame again that is known here.
+    pub fn of(
+        &mut self,
+        alloc: Global,
+        program: &Program,
+        plan: &Plan,
+        check: CheckId,
+        round: u32,
+        depth: u32,
+    ) -> Result<u64, NoMemory>
+        requires plan { IsPlanOf plan.now program.now }
+        requires check { check.0 < length program.now.checks }
+        requires round { round ≤ ROUNDS.most }
+        requires depth { (1 ≤ depth) × (depth ≤ DEPTH.most) }
+        requires estimates { AreOf program.now self.old }
+        ensures estimate { IfOk result (λ e. e ≡ spec.estimate program.now.types program.now.functions
+            program.now.checks check.0 round depth) }
+        ensures estimates { OnOk result (AreOf program.now self.new) }
+    {
+        let functions = program.functions.as_slice();
+        let f = plan.checks()[check.0 as usize].function;
+        match at(functions, f.0 as usize) {
+            // the function of a check is one of the program's
+            None => Ok(0),
+            Some(f) => {
+                let memo = &mut self.memo;
+                rounds(alloc, program.types(), functions, memo, f, round, depth)
+            }
+        }
     }
 }
 
@@ -52,14 +101,17 @@ pub(crate) fn rounds(
     alloc: Global,
     types: &TypeTable,
     functions: &[Function],
+    memo: &mut Memo,
     f: &Function,
     last: u32,
     depth: u32,
 ) -> Result<u64, NoMemory>
-    requires { last ≤ ROUNDS.most }
-    ensures { IfOk result (λ e. e ≡ cut (spec.rounds types.now functions.now f.now last depth)) }
+    requires last { last ≤ ROUNDS.most }
+    requires memo { MemoOf types.now functions.now memo.old }
+    ensures rounds { IfOk result (λ e. e ≡ cut (spec.rounds types.now functions.now f.now last depth)) }
+    ensures sound { OnOk result (MemoOf types.now functions.now memo.new) }
 {
-    let mut memo = Memo::new(alloc)?;
+    make_room(alloc, types, functions, memo)?;
     let mut total = 0u64;
     for round in 0..last + 1 {
         let place = Place {
@@ -68,9 +120,26 @@ pub(crate) fn rounds(
             fuel: round,
             own: true,
         };
-        total = total.saturating_add(single(alloc, place, &mut memo, f, depth)?);
+        total = total.saturating_add(single(alloc, place, memo, f, depth)?);
     }
     Ok(total)
+}
+
+/// Forgets what is known where that is much.
+fn make_room(
+    alloc: Global,
+    types: &TypeTable,
+    functions: &[Function],
+    memo: &mut Memo,
+) -> Result<(), NoMemory>
+    requires { MemoOf types.now functions.now memo.old }
+    ensures { OnOk result (MemoOf types.now functions.now memo.new) }
+{
+    let numbers = types.datatypes.len().saturating_add(functions.len());
+    if memo.known.len().saturating_mul(numbers) > MOST_NUMBERS {
+        *memo = Memo::new(alloc)?;
+    }
+    Ok(())
 }
 
 /// One round by itself.

@@ -4,7 +4,7 @@
 //! of expression weighs, `specs/Frames` what a call does. How it is counted may change: `specs/Counted`, `specs/Bounds`
 //! and `specs/Place` are of the making.
 //!
-//! - `estimating`: `estimate`, the rounds together, and one round.
+//! - `estimating`: `estimate` and `Estimates`, the rounds together, and one round.
 //! - `frames`: calls, and the frames of functions; a called one is counted once.
 //! - `visit`: expressions, an arm for each form.
 //! - `nodes`: what is counted behind the parts of a node, and the shape of its value.
@@ -33,6 +33,6 @@ mod sizes;
 mod visit;
 mod weights;
 
-pub use estimating::estimate;
+pub use estimating::{Estimates, estimate};
 pub use shape::Shape;
 pub use std::alloc::AllocError as NoMemory;

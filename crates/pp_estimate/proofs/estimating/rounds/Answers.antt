@@ -1,17 +1,8 @@
-use Rattle.std.proofs.Common.{◌≡◌, ◌∙◌, ℕ, suc, refl, sym, ap, subst, arith}
-use Rattle.pp_estimate.specs.Counted.{MemoOf}
+use Rattle.std.proofs.Common.{◌≡◌, ◌∙◌, ℕ, suc, ap, arith}
 use Rattle.pp_estimate.specs.Cut.{cut}
 use Rattle.pp_estimate.specs.Estimates.{single, sum_below}
-use Rattle.pp_estimate.proofs.Calling.{memo_none}
 use Rattle.pp_estimate.proofs.Totals.{sum_more}
 use Rattle.pp_estimate.proofs.estimating.rounds.Goals as goal
-
-pub loop-round-init : goal.loop-round-init
-loop-round-init c = record {
-  total = refl;
-  sound = subst (MemoOf c.args.types.now c.args.functions.now) (sym c.in_ok-memo.ensures)
-      (memo_none c.args.types.now c.args.functions.now);
-}
 
 pub loop-round-preserved : goal.loop-round-preserved
 loop-round-preserved c = record {
@@ -21,8 +12,8 @@ loop-round-preserved c = record {
   sound = c.in_ok-single.ensures.sound;
 }
 
-pub returns : goal.returns
-returns c =
+pub returns-clause-rounds : goal.returns-clause-rounds
+returns-clause-rounds c =
     let all : c.loop-round.round ≡ suc c.args.last = omega arith in
     c.loop-round.invariant.total ∙ ap (λ (n : ℕ). cut
     (sum_below n (λ (r : ℕ). single c.args.types.now c.args.functions.now c.args.f.now r c.args.depth))) all

@@ -6,5 +6,11 @@ pub loop-f-preserved : goal.loop-f-preserved
 loop-f-preserved c =
     let ends = c.function_count-f-end.ensures in
     let more = c.loop-f-test.true in
-    from_more c.args.program.now c.args.round c.args.depth c.args.program.now.functions c.loop-f.f (omega arith)
-    c.in_ok-add_function.ensures c.loop-f.invariant
+    let round = c.args.round in
+    let depth = c.args.depth in
+    record {
+      lines = from_more c.args.program.now round depth c.args.program.now.functions c.loop-f.f (omega arith)
+          (λ f at. c.in_ok-add_function.ensures f at round depth c.in_ok-estimate.ensures.shared)
+          c.loop-f.invariant.lines;
+      estimates = c.in_ok-estimate.ensures.estimates;
+    }
