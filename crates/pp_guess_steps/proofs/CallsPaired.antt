@@ -45,7 +45,7 @@ module _ (P : List Step → Type 0) (join : (xs ys : List Step) → P xs → P y
   pub pattern_fits : (p : Pattern) (k t : ℕ) → P (fitting p k t).steps
   pattern_fits = pattern_closed P join none pattern_quiet
 
-paired_join : (xs ys : List Step) → Paired xs → Paired ys → Paired (xs ++ ys)
+pub paired_join : (xs ys : List Step) → Paired xs → Paired ys → Paired (xs ++ ys)
 paired_join [] ys p q = q
 paired_join (steps.HasAnswer c ∷ []) ys p q = absurd p
 paired_join (steps.HasAnswer c ∷ steps.Answer d ∷ ss) ys p q = (p.0, paired_join ss ys p.1 q)
@@ -80,7 +80,7 @@ paired_join (steps.Field a i ∷ ss) ys p q = paired_join ss ys p q
 paired_join (steps.IsAlike a b ∷ ss) ys p q = paired_join ss ys p q
 paired_join (steps.GoesDown a b ∷ ss) ys p q = paired_join ss ys p q
 
-paired_one : (s : Step) → IsNoCall s → Paired (s ∷ [])
+pub paired_one : (s : Step) → IsNoCall s → Paired (s ∷ [])
 paired_one (steps.HasAnswer c) h = absurd h
 paired_one (steps.Answer c) h = absurd h
 paired_one (steps.Open s) h = tt

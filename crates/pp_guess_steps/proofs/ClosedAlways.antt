@@ -61,7 +61,7 @@ any_post : (o : Option (CheckId × Expr)) → PostHolds Always o
 any_post None = tt
 any_post (Some post) = tt
 
-any_function : (f : Function) → FunctionHolds Always f
+pub any_function : (f : Function) → FunctionHolds Always f
 any_function f =
     record { pre = maybe_any f.pre; measure = all_any f.measure; body = tt; post = any_post f.post }
 

@@ -30,7 +30,7 @@ use Rattle.pp_guess_steps.proofs.ClosedExprs.{AllClosed, IsSimpleOf, all_closed,
 
 module _ (q : Conditions) (P : List Step → Type 0) (join : (xs ys : List Step) → P xs → P ys → P (xs ++ ys))
     (none : P []) (simple : (s : Step) → IsSimpleOf q s → P (s ∷ [])) where
-  implying_closed : (k a b : ℕ) → P (implying k a b).steps
+  pub implying_closed : (k a b : ℕ) → P (implying k a b).steps
   implying_closed k a b =
       more q P join none simple (steps.Not b) _ tt (more q P join none simple (steps.Both a k) _ tt
       (simple (steps.Not (suc k)) tt))
@@ -110,7 +110,7 @@ module _ (q : Conditions) (P : List Step → Type 0) (join : (xs ys : List Step)
       → (k : ℕ) (env : List ℕ) (reach : ℕ) → P (compile asked site e k env reach).steps
   whole asked site its e holds = expr_closed q P join none simple pats asked site its e holds
 
-  holding_closed : (w : ℕ) → Fit w → (o : Option (CheckId × Expr)) → PostHolds q o
+  pub holding_closed : (w : ℕ) → Fit w → (o : Option (CheckId × Expr)) → PostHolds q o
       → (k : ℕ) (values : List ℕ) (reach : ℕ) → P (holding (asking functions w) o k values reach).steps
   holding_closed w fit None holds k values reach = none
   holding_closed w fit (Some post) holds k values reach =

@@ -66,7 +66,8 @@ module _ (ctors : List Ctor) (functions : List Function) (W : Answers) (field : 
     abbrev pub Obeyed : List Step → Type 0
     Obeyed ss = Obeys ctors (world functions W field N) ρ 0 ss
 
-    fails_on : Obeyed (base functions f c).steps → AreValues ρ (A functions f c).out args → On ρ (F functions f c).out
+    pub fails_on : Obeyed (base functions f c).steps → AreValues ρ (A functions f c).out args
+        → On ρ (F functions f c).out
     fails_on h are =
         fails_told ctors functions (world functions W field N) ρ c _ _
         (λ frame g pre down vs. same_extends _) (λ frame g pre down vs. same_extends _) f args h are

@@ -41,7 +41,7 @@ module _ (functions : List Function) where
   abbrev pub Labelled : List Step → Type 0
   Labelled = AllOf IsLabelled
 
-  one_labelled : (s : Step) → IsNoCall s → Labelled (s ∷ [])
+  pub one_labelled : (s : Step) → IsNoCall s → Labelled (s ∷ [])
   one_labelled (steps.HasAnswer c) h = absurd h
   one_labelled (steps.Answer c) h = absurd h
   one_labelled (steps.Open s) h = (tt, tt)

@@ -47,7 +47,7 @@ guesses_tell ctors functions f check n missing ρ args made contracts outer con 
     )
 
 -- a guess run that fails is a run that fails the check
-guessed_fails : (c : CheckId) (p : Part Outcome) → guessed c p ≡ fails → p ≡ Err (stop.Fails c)
+pub guessed_fails : (c : CheckId) (p : Part Outcome) → guessed c p ≡ fails → p ≡ Err (stop.Fails c)
 guessed_fails c (Ok (outcome.Done v)) e = cc
 guessed_fails c (Ok outcome.Outside) e = cc
 guessed_fails c (Ok (outcome.Fails d)) e = cc

@@ -1,10 +1,10 @@
 mod Members
-mod FuelsAgree
-mod ByValues
-mod RunsKeep
+pub mod FuelsAgree
+pub mod ByValues
+pub mod RunsKeep
 mod OpenCalls
 mod OwnCalls
-mod Ties
+pub mod Ties
 mod Pairs
 pub mod Rounds
 pub mod Conditions
@@ -14,7 +14,7 @@ pub mod ClosedRounds
 pub mod ClosedAlways
 pub mod CallsPaired
 pub mod OwnFrame
-mod Failures
+pub mod Failures
 mod Supposed
 mod ButCalls
 mod PairsBack
@@ -24,7 +24,7 @@ mod OwnWorld
 mod CallsTrue
 mod AllTrue
 mod Answered
-mod Reading
+pub mod Reading
 pub mod RoundsRead
 pub mod Labels
 mod OperatorSorts

@@ -32,7 +32,7 @@ le_suc k = omega arith
 -- ---- calls
 
 module _ (functions : List Function) where
-  asking_stays : (wait base : ℕ) → SiteStays base (asking functions wait)
+  pub asking_stays : (wait base : ℕ) → SiteStays base (asking functions wait)
   asking_stays wait base k reach g pre down args le r a = record {
     reads = (
       (r, a),
@@ -110,7 +110,7 @@ implying_within k a b x y =
     plain_within {R = LessOne} k (steps.Not b ∷ steps.Both a k ∷ steps.Not (suc k) ∷ []) (suc (suc k)) a
     (y, ((less_suc a k x, self_less k), (self_less (suc k), tt))) (third_three k) x
 
-holding_within : (functions : List Function) (wait : ℕ) (o : Option (CheckId × Expr)) (k : ℕ) (values : List ℕ)
+pub holding_within : (functions : List Function) (wait : ℕ) (o : Option (CheckId × Expr)) (k : ℕ) (values : List ℕ)
     (reach : ℕ)
     → Below k values → reach < k → IsWithin LessOne k (holding (asking functions wait) o k values reach)
 holding_within functions wait None k values reach v r =

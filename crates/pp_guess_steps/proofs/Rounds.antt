@@ -76,7 +76,7 @@ module _ (ctors : List Ctor) (functions : List Function) (W : Answers) (field : 
   abbrev Honest : Standing → Type 0
   Honest = IsHonest ctors functions W field N ρ
 
-  honest_from : (k : ℕ) (ss : List Step) → Does_all k ss → Paired ss → AllOf Honest (standing k ss)
+  pub honest_from : (k : ℕ) (ss : List Step) → Does_all k ss → Paired ss → AllOf Honest (standing k ss)
   honest_from k [] h p = tt
   honest_from k (steps.HasAnswer c ∷ []) h p = absurd p
   honest_from k (steps.HasAnswer c ∷ steps.Answer d ∷ ss) h p = (

@@ -31,7 +31,7 @@ use Rattle.pp_guess_steps.proofs.Rounds.{Paired}
 use Rattle.pp_guess_steps.proofs.StandingAgree.{mid}
 
 -- numbers below k, of an outcome
-abbrev LessAll : ℕ → List ℕ → Type 0
+abbrev pub LessAll : ℕ → List ℕ → Type 0
 LessAll k ns = Below k ns
 
 -- ---- the calls that stand
@@ -264,7 +264,7 @@ some_less : (a k : ℕ) → a < k → 0 < k
 some_less a k h = omega arith
 
 -- with more steps behind it, and more numbers supposed
-more_read : (g : GuessSteps) (x : Piece (List ℕ)) → IsReading g → IsWithin LessAll (length g.steps) x
+pub more_read : (g : GuessSteps) (x : Piece (List ℕ)) → IsReading g → IsWithin LessAll (length g.steps) x
     → IsReading (record {
       steps = g.steps ++ x.steps;
       arguments = g.arguments;
@@ -283,7 +283,7 @@ more_read g x h hx =
           (below_join (after k x) g.supposed x.out (below_end k (length x.steps) g.supposed h.supposed) hx.out);
     }
 
-le_zero : (k : ℕ) → 0 + k ≤ k
+pub le_zero : (k : ℕ) → 0 + k ≤ k
 le_zero k = omega arith
 
 agreement_read : (i : ℕ) (g : GuessSteps) → IsReading g → Paired g.steps → IsReading (with_agreement i g)
@@ -309,7 +309,7 @@ module _ (functions : List Function) (f : Function) (check : CheckId) where
       (up (A functions f check).alive (n functions f check) (length (R functions f check).steps)
       (reach_below (param_sorts f.params)))
 
-  base_read : IsReading (base functions f check)
+  pub base_read : IsReading (base functions f check)
   base_read =
       let a = A functions f check in
       let i = n functions f check in

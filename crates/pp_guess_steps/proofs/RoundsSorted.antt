@@ -189,7 +189,7 @@ module _ (p : Program) (σ : Sorts) where
   well_suits k x h all = let it = h.given all in (it.sorted, it.leaves.out)
 
   -- with more steps behind it, and more numbers supposed
-  more_sorted : (params : List Sort) (g : GuessSteps) (x : Piece (List ℕ)) → AllAssigned p.types σ 0
+  pub more_sorted : (params : List Sort) (g : GuessSteps) (x : Piece (List ℕ)) → AllAssigned p.types σ 0
       (g.steps ++ x.steps)
       → IsRoundSorted params g → Suits (length g.steps) x
       → IsRoundSorted params (record {
@@ -247,7 +247,7 @@ module _ (p : Program) (σ : Sorts) where
 
   module _ (plan : Plan) (plans : IsPlanOf plan p) (i : ℕ) (f : Function) (is : slice_get p.functions i ≡ Some f)
       (check : CheckId) where
-    base_sorted : AllAssigned p.types σ 0 (base p.functions f check).steps
+    pub base_sorted : AllAssigned p.types σ 0 (base p.functions f check).steps
         → IsRoundSorted (param_sorts f.params) (base p.functions f check)
     base_sorted all =
         let args = A p.functions f check in

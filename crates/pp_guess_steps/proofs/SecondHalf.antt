@@ -49,7 +49,7 @@ at_end : (n : ℕ) → 0 + n ≤ n
 at_end n = omega arith
 
 -- what all have, each has
-each_of : {A : Type 0} (P : A → Type 0) (xs : List A) (x : A) → AllOf P xs → Contains xs x → P x
+pub each_of : {A : Type 0} (P : A → Type 0) (xs : List A) (x : A) → AllOf P xs → Contains xs x → P x
 each_of P [] x h there = absurd (nothing_in x there)
 each_of P (y ∷ xs) x h there = elim (head_or y x xs there) [
   | inl e ↦ subst P e h.0

@@ -22,10 +22,10 @@ use Rattle.pp_guess_steps.proofs.OwnFrame.{arguments_are}
 use Rattle.pp_guess_steps.proofs.RoundsRead.{guess_read}
 use Rattle.pp_guess_steps.proofs.SolvedSorted.{solved_have, value_at_has}
 
-none_before : (i : ℕ) → i < 0 → ⊥
+pub none_before : (i : ℕ) → i < 0 → ⊥
 none_before i lt = omega (arith, lt)
 
-less_test : (k n : ℕ) → k < n → nat_lt k n ≡ true
+pub less_test : (k n : ℕ) → k < n → nat_lt k n ≡ true
 less_test k n lt = grind (arith, ltb-true)
 
 pub sorted_guesses_exist : SortedGuessesExist

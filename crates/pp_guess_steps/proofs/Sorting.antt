@@ -46,7 +46,7 @@ module _ (p : Program) (σ : Sorts) where
 
   -- ---- calls
 
-  asking_sorted : (wait i : ℕ) → IsSiteSorted p σ i (asking p.functions wait)
+  pub asking_sorted : (wait i : ℕ) → IsSiteSorted p σ i (asking p.functions wait)
   asking_sorted wait i = record {
     call = λ k reach g pre down args f is a met r.
         let c = open_call p.functions wait reach g args in
@@ -171,7 +171,7 @@ module _ (p : Program) (σ : Sorts) where
       plain_sorted p.types σ {R = Bools} k (steps.Not b ∷ steps.Both a k ∷ steps.Not (suc k) ∷ []) (suc (suc k)) a
       (λ all. (((y, all.0), ((x, all.0, all.1.0), ((all.1.0, all.1.1.0), tt))), all.1.1.0, x))
 
-  holding_sorted : (wait g : ℕ) (f : Function) → slice_get p.functions g ≡ Some f → (o : Option (CheckId × Expr))
+  pub holding_sorted : (wait g : ℕ) (f : Function) → slice_get p.functions g ≡ Some f → (o : Option (CheckId × Expr))
       → is_sorted_post p.types p.functions o (param_sorts f.params ++ f.result ∷ []) ≡ true
       → AreMet p g (post_sites p.types p.functions o f.result (param_sorts f.params))
       → (k : ℕ) (values : List ℕ) (reach : ℕ) → AreOf p.types σ (param_sorts f.params ++ f.result ∷ []) values

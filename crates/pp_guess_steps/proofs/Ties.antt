@@ -52,7 +52,7 @@ keep_some (Err (stop.Inner g c)) h = (tt, λ n. absurd n)
 keep_some (Err stop.Deep) h = (tt, λ n. absurd n)
 keep_some (Err stop.Stuck) h = (tt, λ n. absurd n)
 
-kept_ok : {A : Type 0} (p q : Part A) (a : A) → Keeps OwnStop own_inner p q → p ≡ Ok a → q ≡ Ok a
+pub kept_ok : {A : Type 0} (p q : Part A) (a : A) → Keeps OwnStop own_inner p q → p ≡ Ok a → q ≡ Ok a
 kept_ok (Ok b) q a h e = h ∙ e
 kept_ok (Err s) q a h e = cc
 
@@ -71,10 +71,10 @@ the_ok v = Ok v
 abbrev ok_bool : Bool → Part Bool
 ok_bool b = Ok b
 
-less_one : (n w m : ℕ) → n - w ≡ suc m → n - suc w ≡ m
+pub less_one : (n w m : ℕ) → n - w ≡ suc m → n - suc w ≡ m
 less_one n w m e = omega (arith, e)
 
-positive : (n w : ℕ) → w < n → (m : ℕ) × (n - w ≡ suc m)
+pub positive : (n w : ℕ) → w < n → (m : ℕ) × (n - w ≡ suc m)
 positive n w h = (n - suc w, omega (arith, h))
 
 module _ (ctors : List Ctor) (functions : List Function) (W : Answers) (field : CtorId → ℕ → Value) (N : ℕ)
@@ -108,7 +108,7 @@ module _ (ctors : List Ctor) (functions : List Function) (W : Answers) (field : 
   }
 
   -- an expression of a called frame that has a value
-  told_value : (w : ℕ) (e : Expr) (k : ℕ) (env : List ℕ) (reach : ℕ) → Made k
+  pub told_value : (w : ℕ) (e : Expr) (k : ℕ) (env : List ℕ) (reach : ℕ) → Made k
       (compile None (asking functions w) e k env reach)
       → (vs : List Value) → On ρ reach → AreValues ρ env vs → (v : Value) → meaning (Ans w) e None vs ≡ Ok v
       → IsTold ρ None (IsValue ρ) (compile None (asking functions w) e k env reach) (Ok v)
@@ -147,12 +147,12 @@ module _ (ctors : List Ctor) (functions : List Function) (W : Answers) (field : 
       by false e = cc
 
   -- the body and the postcondition of a call that was unfolded and has a value
-  record HasParts (calls : CallMeaning) (f : Function) (args : List Value) (v : Value) : Type 0 where
-    body : meaning calls f.body None args ≡ Ok v
-    post : (u : Value) × (held calls f.post args v ≡ Ok u)
+  pub record HasParts (calls : CallMeaning) (f : Function) (args : List Value) (v : Value) : Type 0 where
+    pub body : meaning calls f.body None args ≡ Ok v
+    pub post : (u : Value) × (held calls f.post args v ≡ Ok u)
 
-  parts_of : (calls : CallMeaning) (o : Option Value) (f : Function) (g : FunctionId) (args : List Value) (v : Value)
-      → unfolded calls o (Some f) g args ≡ Ok v → HasParts calls f args v
+  pub parts_of : (calls : CallMeaning) (o : Option Value) (f : Function) (g : FunctionId) (args : List Value)
+      (v : Value) → unfolded calls o (Some f) g args ≡ Ok v → HasParts calls f args v
   parts_of calls o f g args v e =
       let b = then_value (meaning calls f.body None args) (λ u. and_then (held calls f.post args u) (agreed o)) v
       (inside_value g _ v e) in
@@ -179,7 +179,7 @@ module _ (ctors : List Ctor) (functions : List Function) (W : Answers) (field : 
       by true e = refl
       by false e = cc
 
-  holding_on : (w : ℕ) (calls : CallMeaning) → CallsKeep OwnStop own_inner calls (Ans w)
+  pub holding_on : (w : ℕ) (calls : CallMeaning) → CallsKeep OwnStop own_inner calls (Ans w)
       → (o : Option (CheckId × Expr)) (k : ℕ)
       (values : List ℕ) (reach : ℕ) → Made k (holding (asking functions w) o k values reach) → On ρ reach
       → (args : List Value) (v : Value) → AreValues ρ values (args ++ v ∷ []) → (u : Value) ×

@@ -1,0 +1,10 @@
+pub mod Alike
+pub mod Lists
+pub mod ClosedMoves
+pub mod MovesPaired
+pub mod Reading
+pub mod Supposed
+pub mod Sorting
+pub mod Truths
+pub mod Existing
+pub mod Adding
