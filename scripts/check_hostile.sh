@@ -290,8 +290,8 @@ done
 put 'object A {' "  def f(x: Int): Int = $sum" '}'
 hold 1000000 2 8192
 run a.scala
-check '32768 divisions' 2 "$(printf '%s\n' 'f: open before round 0, division at 1:2:40, size' \
-    '0 valid, 0 invalid, 1 open, 0 depending')" ''
+check '32768 divisions' 1 "$(printf '%s\n' 'f: invalid, division at 1:2:40, x = 0' \
+    '0 valid, 1 invalid, 0 open, 0 depending')" ''
 run --mode list a.scala
 printf '%s lines\n%s\n' "$(wc -l < out)" "$(head -n 1 out)" > first && mv first out
 check 'a list of 32768 divisions' 0 "$(printf '32769 lines\nf: 32768 checks')" ''
@@ -314,6 +314,46 @@ for kilobytes in 256000 2000000; do
     check "a type that doubles 40 times, in $kilobytes KB" 7 '' 'out of memory'
     run a.scala
     check "a type that doubles with each instance, in $kilobytes KB" 7 '' 'out of memory'
+done
+
+# Proofs by cases, where each step of a sum has many others that are sums of it, or many classes meet.
+hold 1000000 1 8192
+list='  sealed abstract class List
+  case class Cons(head: Int, tail: List) extends List
+  case class Nil() extends List
+  def len(l: List): Int = {
+    decreases(l)
+    l match {
+      case Nil() => 0
+      case Cons(_, t) => len(t) + 1
+    }
+  }'
+# settles NAME: the source a.scala is settled within that time, whatever is said of it
+settles() {
+    run a.scala
+    if [ "$status" -gt 2 ] || [ -s err ]; then
+        fail "$1"
+    else
+        passed=$((passed + 1))
+    fi
+}
+for k in 8 16 32; do
+    put 'object A {' "$list" '  def f(l: List): Boolean = {' '    val a = len(l)' \
+        "    !(a == a + a) || a$(repeat ' + a' $((k - 1))) <= a$(repeat ' + a' $((k - 3)))" '  }.holds' '}'
+    run a.scala
+    check "a sum of $k equal parts" 0 "$(printf '%s\n' 'len: valid, 1 checks' 'f: valid, 1 checks' \
+        '2 valid, 0 invalid, 0 open, 0 depending')" ''
+    put 'object A {' "$list" '  def f(l: List, a: Int): Boolean = {' '    require(a == a + a)' \
+        "    len(l) == len(l) + (a$(repeat ' + a' $((k - 1))))" '  }.holds' '}'
+    settles "a claim on a sum of $k equal parts, each equal to the sum of two"
+done
+for k in 10 30 54; do
+    put 'object A {' "$list" \
+        '  def walk(l: List, a: Int, b: Int, c: Int, d: Int, e: Int, f: Int, g: Int): Int = {' '    decreases(l)' \
+        '    l match {' '      case Nil() => 0' '      case Cons(x, t) =>' \
+        "$(for ((n = 1; n <= k; n++)); do echo "        if (a + b + c + d + e + f + g <= 10 * $n) $n else"; done)" \
+        '        walk(t, a, b, c, d, e, f, g)' '    }' '  } ensuring (res => res >= 0)' '}'
+    settles "$k branches on one sum"
 done
 
 printf '%s passed, %s failed\n' "$passed" "$failed"

@@ -41,7 +41,7 @@ module _ (p : Program) (limits : Limits) (i : â„•) (f : Function) (line : List â
     own = t.own;
     args = t.args;
     fuel = t.round;
-    asked = t.ended.begun.round;
+    asked = t.ended.tried.round;
     fails = t.ended.fails;
     printed = t.text;
   }

@@ -98,7 +98,7 @@ module _ (p : Program) (limits : Limits) (i : ℕ) (f : Function) (line : List �
       → Means limits p i f (content_of v t)
   meant Valid t good = (refl, good refl)
   meant (Depends g) t good = (refl, t.cone)
-  meant (Invalid c) t good = (t.round, t.ended.begun.round, t.ended.fails)
+  meant (Invalid c) t good = (t.round, t.ended.tried.round, t.ended.fails)
   meant (Open c) t good = (searched_means c t.searched t.ended, reason_means c t.searched t.why t.because)
 
 module _ (p : Program) (limits : Limits) (r : Response) (a : AnswersVerify p limits r) where

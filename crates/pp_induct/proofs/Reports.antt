@@ -23,8 +23,8 @@ module _ (p : Program) (limits : Limits) where
       by check.function.0 (record { 0 = c }) end (are c check end listed at)
     where
       by : (i : ℕ) (c : CheckId) (end : CheckEnd) → IsEnd p limits i c end → IsSupported p 12 limits.depth i c end
-      by i c (Proved n) h = (omega (arith, within.rounds, h.begun.round), h.proved)
-      by i c (Exhausted n) h = (omega (arith, within.rounds, h.begun.round), h.exhausted)
+      by i c (Proved n) h = (omega (arith, within.rounds, h.tried.round), h.proved)
+      by i c (Exhausted n) h = (omega (arith, within.rounds, h.tried.round), h.exhausted)
       by i c (Invalid args n) h = tt
       by i c (Open searched why) h = tt
 
@@ -45,7 +45,7 @@ module _ (p : Program) (limits : Limits) where
   exhausted_never_fail i c n d args h failing =
       let never = nested_never_deep p i failing.function args failing.called n h.exhausted.closed.nested in
       h.exhausted.runs failing.function args failing.called
-      (sym (lasts p.types.ctors p.functions failing.function args n limits.rounds h.begun.round never) ∙ failing.fails)
+      (sym (lasts p.types.ctors p.functions failing.function args n limits.rounds h.tried.round never) ∙ failing.fails)
 
 pub closed_are_decided : ClosedAreDecided
 closed_are_decided p limits report is i c check closed searched at =

@@ -17,6 +17,7 @@ use Rattle.pp_induct.specs.declared.ends.CheckEnd.{CheckEnd}
 use Rattle.pp_induct.specs.declared.ends.CheckEnd.TheVariants.{Proved, Exhausted, Invalid, Open}
 use Rattle.pp_induct.specs.declared.ends.Why.{Why}
 use Rattle.pp_induct.specs.declared.ends.Why.TheVariants.{Rounds, Lemmas, Size}
+use Rattle.pp_induct.specs.declared.limits.TheConstants.{FRONTED_ABOVE}
 use Rattle.pp_induct.specs.declared.limits.Limits.{Limits}
 use Rattle.pp_induct.specs.declared.verdict.Report.{Report}
 use Rattle.pp_induct.specs.Verdicts.{AreVerdicts}
@@ -49,24 +50,41 @@ module _ (p : Program) (limits : Limits) (i : ℕ) (c : CheckId) where
     pub round : n ≤ limits.rounds
     pub size : size_of n ≤ limits.gates
 
+  -- the round is left to the fronts: its estimate is above the asked number of gates, and so large that it tells
+  -- nothing of what is done there
+  pub record IsFronted (n : ℕ) : Type 0 where
+    pub round : n ≤ limits.rounds
+    pub size : limits.gates < size_of n
+    pub large : FRONTED_ABOVE < size_of n
+
+  -- the round is one of those that are asked for, and is begun, or its estimate is so large that it is left to the
+  -- fronts
+  pub record IsTried (n : ℕ) : Type 0 where
+    pub round : n ≤ limits.rounds
+    pub size : (size_of n ≤ limits.gates) ⊎ (FRONTED_ABOVE < size_of n)
+
   -- proved: no guess run of the round fails the check, and no run on arguments up to the depth; and the function isn't
   -- closed there, since a check that was tried on all arguments isn't proved besides
   pub record IsProvedIn (n : ℕ) : Type 0 where
-    pub begun : IsBegun n
+    pub tried : IsTried n
     pub proved : IsProved p i c n limits.depth
     pub open_still : Closed p.types p.functions i n limits.depth → ⊥
 
-  -- exhausted: the function is closed in this round and in none before it, and no run fails the check
+  -- exhausted: the function is closed in this round, and in none before it that isn't too large; and no run fails the
+  -- check
   pub record IsExhaustedIn (n : ℕ) : Type 0 where
-    pub begun : IsBegun n
+    pub tried : IsTried n
     pub exhausted : IsExhausted p i c n limits.depth
-    pub first : (k : ℕ) → k < n → Closed p.types p.functions i k limits.depth → ⊥
+    pub first : (k : ℕ) → k < n → size_of k ≤ limits.gates → Closed p.types p.functions i k limits.depth → ⊥
 
-  -- invalid: the arguments fail the check with the fuel n, and none up to the depth fail it with less
+  -- invalid: the arguments fail the check with the fuel n, and with no less; and no arguments up to the depth fail it
+  -- with less in a round that isn't too large
   pub record IsInvalidIn (args : List Value) (n : ℕ) : Type 0 where
-    pub begun : IsBegun n
+    pub tried : IsTried n
     pub fails : IsCounterexample p i c n limits.depth args
-    pub first : (k : ℕ) → k < n → (others : List Value) → IsCounterexample p i c k limits.depth others → ⊥
+    pub least : (k : ℕ) → k < n → IsCounterexample p i c k limits.depth args → ⊥
+    pub first : (k : ℕ) → k < n → size_of k ≤ limits.gates → (others : List Value)
+        → IsCounterexample p i c k limits.depth others → ⊥
 
   -- searched: no arguments up to the depth fail the check with the fuel n, and the function isn't closed there
   pub record IsSearchedTo (n : ℕ) : Type 0 where

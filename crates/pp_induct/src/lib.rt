@@ -15,6 +15,6 @@ mod verdict;
 pub use concluding::conclude;
 pub use ends::{CheckEnd, Ends, Why};
 pub use laws::{closed_are_decided, failing_are_found, plain_are_decided};
-pub use limits::Limits;
+pub use limits::{FRONTED_ABOVE, Limits};
 pub use std::alloc::AllocError as NoMemory;
 pub use verdict::{Report, Verdict, Verdicts};

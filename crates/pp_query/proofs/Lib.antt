@@ -9,3 +9,7 @@ mod Searched
 mod Stands
 mod Variables
 mod Refuted
+mod RunsRefuted
+mod RunValues
+mod SomeValues
+mod Unanswered

@@ -4,14 +4,17 @@
 //! (`pp_cdcl`), and answers a model where there is one. `search` asks of the run, over trees up to a height
 //! (`pp_bounded`), and reads the arguments off the model. `prove` asks of the guess runs, over named trees
 //! (`pp_named`): the check is proved where there is no model. A plain descent is proved without a query, and so is a
-//! check where `pp_closure` refutes by cases that a guess run fails it (`refuting`). `comparisons` names the variables
-//! that the solver decides first. `specs/Reply` and `specs/Question` say what is asked and replied, `specs/Found` and
+//! check where `pp_closure` refutes by cases that a guess run fails it; where it refutes that a run does, there are no
+//! arguments that fail it (`refuting`). The search tries cases before the solver where the check's function meets no
+//! datatype (`words`), and else where the solver has spent its lemmas. `comparisons` names the variables that the
+//! solver decides first. `specs/Reply` and `specs/Question` say what is asked and replied, `specs/Found` and
 //! `specs/Proofs` what the answers mean.
 #![tactic(auto)]
 
 mod asking;
 mod compared;
 mod found;
+mod fronts;
 mod proof;
 mod proving;
 mod query;
@@ -20,9 +23,11 @@ mod reading;
 mod refuting;
 mod reply;
 mod searching;
+mod words;
 
 pub use compared::comparisons;
 pub use found::Found;
+pub use fronts::{guesses_refuted, runs_refuted};
 pub use proof::Proof;
 pub use proving::prove;
 pub use query::{Query, query_of};

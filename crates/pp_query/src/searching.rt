@@ -10,15 +10,18 @@ use crate::NoMemory;
 use crate::found::Found;
 use crate::query::{Query, query_of};
 use crate::reading::read_all;
+use crate::refuting::no_run_fails;
 use crate::reply::Reply;
+use crate::words::has_words_alone;
 use pp_bounded::Bounded;
 use pp_checks::Plan;
 use pp_prog::{CheckId, Program};
 use pp_symbolic::Mode;
 use std::alloc::Global;
 
-/// Looks for arguments of height at most `depth` whose run with the fuel `round` fails the check. The solver may learn
-/// so many lemmas. The only error is want of memory.
+/// Looks for arguments of height at most `depth` whose run with the fuel `round` fails the check. There are none where
+/// it is refuted by cases that the run fails it, which is tried first where the function meets no datatype, and else
+/// where the solver has spent its lemmas. It may learn so many. The only error is want of memory.
 pub fn search(
     alloc: Global,
     program: &Program,
@@ -37,6 +40,10 @@ pub fn search(
         ≤ GATES.most }
     ensures found { IfOk result (λ found. IsFound program.now check round depth lemmas found) }
 {
+    let words = has_words_alone(program, plan, check);
+    if words && no_run_fails(alloc, program, plan, check, round)? {
+        return Ok(Found::Nothing);
+    }
     let query = query_of::<Bounded>(
         alloc,
         program,
@@ -61,6 +68,11 @@ pub fn search(
             Ok(Found::Args(values))
         }
         Reply::NoModel => Ok(Found::Nothing),
-        Reply::Spent(evidence) => Ok(Found::Spent(evidence)),
+        Reply::Spent(evidence) => {
+            if !words && no_run_fails(alloc, program, plan, check, round)? {
+                return Ok(Found::Nothing);
+            }
+            Ok(Found::Spent(evidence))
+        }
     }
 }

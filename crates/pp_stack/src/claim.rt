@@ -42,6 +42,7 @@ impl<'a> Machine<'a> {
         code: Code<'a>,
         post: &'a Option<(CheckId, Expr)>,
         held: Held,
+        turns: &mut u64,
     ) -> Result<Outcome, Halt>
         requires all { AllHeld self.old.stacks }
         requires one { IsHeld self.old.stacks.store held }
@@ -54,7 +55,7 @@ impl<'a> Machine<'a> {
         match post {
             None => self.done(alloc, held),
             Some((check, claim)) => {
-                let result = self.claim(alloc, code, *check, claim, held)?;
+                let result = self.claim(alloc, code, *check, claim, held, turns)?;
                 self.done(alloc, result)
             }
         }
@@ -68,6 +69,7 @@ impl<'a> Machine<'a> {
         check: CheckId,
         claim: &'a Expr,
         held: Held,
+        turns: &mut u64,
     ) -> Result<Held, Halt>
         requires all { AllHeld self.old.stacks }
         requires one { IsHeld self.old.stacks.store held }
@@ -78,7 +80,7 @@ impl<'a> Machine<'a> {
             (scope (state_of self.old.stacks) ++ value_of self.old.stacks.store held ∷ []))) }
     {
         self.stacks.bind_held(held)?;
-        if self.truth(alloc, code, claim)? {
+        if self.truth(alloc, code, claim, turns)? {
             self.stacks.pop()
         } else {
             Err(Halt::Stopped(Stop::Fails(check)))

@@ -25,17 +25,20 @@ pub(crate) struct Machine<'a> {
 }
 
 impl<'a> Machine<'a> {
-    /// Does all that is left to do. After 2^64 - 1 steps it gives up, as for want of memory.
-    pub(crate) fn run(&mut self, alloc: Global, code: Code<'a>) -> Result<(), Halt>
+    /// Does all that is left to do, a thing a turn. Each takes one from `turns`, and where they come to 0 it gives up,
+    /// as for want of memory.
+    pub(crate) fn run(&mut self, alloc: Global, code: Code<'a>, turns: &mut u64) -> Result<(), Halt>
         requires { AllHeld self.old.stacks }
         ensures { Ends result self.new (left code.entry self.old.todo (state_of self.old.stacks)) }
     {
-        for _ in 0..u64::MAX {
+        while *turns > 1 {
+            *turns -= 1;
             match self.todo.pop() {
                 None => return Ok(()),
                 Some(todo) => self.take(alloc, code, todo)?,
             }
         }
+        *turns = 0;
         Err(Halt::Memory)
     }
 

@@ -1,5 +1,5 @@
 -- The ends of the first checks.
-use Rattle.std.proofs.Common.{◌≡◌, ◌∙◌, ℕ, ◌+◌, ◌<◌, List, [], ◌∷◌, ◌++◌, Some, inl, inr, length, slice_get}
+use Rattle.std.proofs.Common.{◌≡◌, ◌∙◌, ℕ, ◌+◌, ◌<◌, List, [], ◌∷◌, ◌++◌, Some, None, inl, inr, length, slice_get}
 use Rattle.std.proofs.Common.{get_or, refl, sym, ap, subst}
 use Rattle.std.proofs.lemmas.Option.{slice_get-get_or}
 use Rattle.pp_prog.specs.declared.check.Check.{Check}
@@ -15,6 +15,12 @@ use Rattle.pp_sound.specs.Sound.{IsCheckOf}
 pub record AreEndsTo (p : Program) (limits : Limits) (n : ℕ) (ends : List CheckEnd) : Type 0 where
   pub size : length ends ≡ n
   pub each : AreEnds p limits ends
+
+-- no end yet
+pub no_ends : (p : Program) (limits : Limits) (ends : List CheckEnd) → ends ≡ [] → AreEndsTo p limits 0 ends
+no_ends p limits ends none =
+    subst (AreEndsTo p limits 0) (sym none)
+    (record { size = refl; each = λ c other e here there. let past : None ≡ Some e = there in cc })
 
 -- one more end, of the next check
 pub one_more_end : (p : Program) (limits : Limits) (n i : ℕ) (ends more : List CheckEnd) (end : CheckEnd)

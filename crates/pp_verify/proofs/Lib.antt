@@ -3,4 +3,5 @@ pub mod GuessesAlike
 pub mod Repeated
 pub mod RoundEnds
 pub mod ProofEnds
+mod Failures
 mod KnownSizes

@@ -43,7 +43,7 @@ module _ {p : Program} {limits : Limits} {i : ℕ} {c : CheckId} {round : ℕ} (
   where
     pub proved_by : NoGuessFails p i c round → IsEnd p limits i c (Proved round)
     proved_by guesses = record {
-      begun = searched.begun;
+      tried = record { round = searched.begun.round; size = inl searched.begun.size };
       proved = record { guesses = guesses; runs = searched.none };
       open_still = searched.open_still;
     }

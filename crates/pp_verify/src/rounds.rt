@@ -1,24 +1,26 @@
 //! The rounds of a check.
 
-ghost use Rattle.std.specs.Prelude.{◌≡◌, IfOk, OnOk};
+ghost use Rattle.std.specs.Prelude.{◌≡◌, ◌<◌, IfOk, OnOk};
 ghost use Rattle.pp_checks.specs.Plan.{IsPlanOf};
+ghost use Rattle.pp_estimate.specs.Estimates.{estimate};
 ghost use Rattle.pp_induct.specs.Reports.{AreLimits, IsBegun, IsEnd, IsSearchedTo};
 ghost use Rattle.pp_sound.specs.Sound.{IsCheckOf};
 ghost use Rattle.pp_verify.specs.Rounds.{HasCome, StepGives, TellsRepeated};
-ghost use Rattle.pp_verify.specs.Rounds as spec;
-ghost use Rattle.pp_verify.specs.Sizes.{AreSizes};
+ghost use Rattle.pp_verify.specs.Shared.{AreShared};
 
 use crate::NoMemory;
-use crate::progress::{Progress, Step};
-use crate::sizes::{Sizes, size_of};
+use crate::fronts::end_by_fronts;
+use crate::progress::{Progress, Step, open_before};
+use crate::shared::Shared;
+use crate::sizes::size_of;
 use pp_checks::Plan;
-use pp_induct::{CheckEnd, Limits, Why};
+use pp_induct::{CheckEnd, FRONTED_ABOVE, Limits, Why};
 use pp_prog::{CheckId, FunctionId, Program};
 use pp_query::{Found, Proof, prove, search};
 use std::alloc::Global;
 
-/// Works on a check of the function in rounds 0, 1 and so on, until a round ends it. What is worked out of the sizes of
-/// the function's rounds serves its other checks too.
+/// Works on a check of the function in rounds 0, 1 and so on, until a round ends it. What the checks of the function
+/// share serves its other checks too.
 pub(crate) fn end_of_check(
     alloc: Global,
     program: &Program,
@@ -26,14 +28,14 @@ pub(crate) fn end_of_check(
     function: FunctionId,
     check: CheckId,
     limits: Limits,
-    sizes: &mut Sizes,
+    shared: &mut Shared,
 ) -> Result<CheckEnd, NoMemory>
     requires plan { IsPlanOf plan.now program.now }
     requires check { IsCheckOf program.now function.0 check.0 }
     requires limits { AreLimits limits }
-    requires sizes { AreSizes program.now function.0 limits.depth sizes.old }
+    requires shared { AreShared program.now limits function.0 shared.old }
     ensures end { IfOk result (λ end. IsEnd program.now limits function.0 check end) }
-    ensures sizes { OnOk result (AreSizes program.now function.0 limits.depth sizes.new) }
+    ensures shared { OnOk result (AreShared program.now limits function.0 shared.new) }
 {
     let mut progress = Progress {
         function,
@@ -41,7 +43,7 @@ pub(crate) fn end_of_check(
         round: 0,
     };
     loop {
-        match step(alloc, program, plan, limits, progress, sizes)? {
+        match step(alloc, program, plan, limits, progress, shared)? {
             Step::Ended(end) => return Ok(end),
             Step::Next(next) => progress = next,
         }
@@ -49,39 +51,37 @@ pub(crate) fn end_of_check(
 }
 
 /// One round of the work on a check: its end, or how far the work has come. The round isn't begun where its estimate is
-/// above the asked number of gates, and is passed over where its runs are those of the round before.
-fn step(
+/// above the asked number of gates: the check ends, by the fronts where the estimate is so large that it tells nothing.
+/// It is passed over where its runs are those of the round before. The only error is want of memory.
+pub fn step(
     alloc: Global,
     program: &Program,
     plan: &Plan,
     limits: Limits,
     progress: Progress,
-    sizes: &mut Sizes,
+    shared: &mut Shared,
 ) -> Result<Step, NoMemory>
     requires plan { IsPlanOf plan.now program.now }
     requires limits { AreLimits limits }
     requires come { HasCome program.now limits progress }
-    requires sizes { AreSizes program.now progress.function.0 limits.depth sizes.old }
+    requires shared { AreShared program.now limits progress.function.0 shared.old }
     ensures step { IfOk result (λ step. StepGives program.now limits progress step) }
-    ensures sizes { OnOk result (AreSizes program.now progress.function.0 limits.depth sizes.new) }
+    ensures shared { OnOk result (AreShared program.now limits progress.function.0 shared.new) }
 {
     let round = progress.round;
-    let Progress {
-        function,
-        check,
-        ..
-    } = progress;
     let size = size_of(
         alloc,
         program,
         plan,
-        function,
-        check,
-        round,
+        progress,
         limits.depth,
-        sizes,
+        &mut shared.sizes,
     )?;
     if size > limits.gates {
+        if size > FRONTED_ABOVE {
+            let end = end_by_fronts(alloc, program, plan, limits, progress, shared)?;
+            return Ok(Step::Ended(end));
+        }
         return Ok(Step::Ended(open_before(round, Why::Size)));
     }
     if is_repeated(plan, progress.function, round) {
@@ -156,15 +156,5 @@ fn prove_round(
             why: Why::Lemmas(spent),
         })),
         Proof::NotProved => Ok(progress.after(limits)),
-    }
-}
-
-/// Open, where this round wasn't searched and the one before it was.
-fn open_before(round: u32, why: Why) -> CheckEnd
-    ensures { result ≡ spec.open_before round why }
-{
-    CheckEnd::Open {
-        searched: round.checked_sub(1),
-        why,
     }
 }

@@ -8,42 +8,44 @@ ghost use Rattle.pp_sound.specs.Sound.{IsCheckOf};
 ghost use Rattle.pp_verify.specs.Sizes.{AreSizes};
 
 use crate::NoMemory;
+use crate::progress::Progress;
 use pp_checks::Plan;
 use pp_estimate::estimate;
 use pp_list::Items;
-use pp_prog::{CheckId, FunctionId, Program};
+use pp_prog::Program;
 use std::alloc::Global;
 
 /// The estimates of the first rounds of a function, as many as were asked for.
 pub(crate) type Sizes = Items<u64>;
 
-/// The estimate of a round of a check of the function, which isn't worked out again where it is known. The only error
-/// is want of memory.
+/// The estimate of the round to which the work on a check has come, with arguments up to the depth. None is worked out
+/// again that is known. The only error is want of memory.
 pub(crate) fn size_of(
     alloc: Global,
     program: &Program,
     plan: &Plan,
-    function: FunctionId,
-    check: CheckId,
-    round: u32,
+    progress: Progress,
     depth: u32,
     sizes: &mut Sizes,
 ) -> Result<u64, NoMemory>
     requires plan { IsPlanOf plan.now program.now }
-    requires check { IsCheckOf program.now function.0 check.0 }
-    requires round { round ≤ ROUNDS.most }
+    requires check { IsCheckOf program.now progress.function.0 progress.check.0 }
+    requires round { progress.round ≤ ROUNDS.most }
     requires depth { (1 ≤ depth) × (depth ≤ DEPTH.most) }
-    requires sizes { AreSizes program.now function.0 depth sizes.old }
-    ensures size { IfOk result (λ e. e ≡ estimate program.now.types program.now.functions program.now.checks check.0
-        round depth) }
-    ensures sizes { OnOk result (AreSizes program.now function.0 depth sizes.new) }
+    requires sizes { AreSizes program.now progress.function.0 depth sizes.old }
+    ensures size { IfOk result (λ e. e ≡ estimate program.now.types program.now.functions program.now.checks
+        progress.check.0 progress.round depth) }
+    ensures sizes { OnOk result (AreSizes program.now progress.function.0 depth sizes.new) }
 {
-    if let Some(size) = pp_list::at(sizes.as_slice(), round as usize) {
-        return Ok(*size);
+    let Progress { check, round, .. } = progress;
+    for next in 0..round + 1 {
+        if next as usize == sizes.len() {
+            let size = estimate(alloc, program, plan, check, next, depth)?;
+            sizes.push(size)?;
+        }
     }
-    let size = estimate(alloc, program, plan, check, round, depth)?;
-    if round as usize == sizes.len() {
-        sizes.push(size)?;
+    match pp_list::at(sizes.as_slice(), round as usize) {
+        Some(size) => Ok(*size),
+        None => estimate(alloc, program, plan, check, round, depth),
     }
-    Ok(size)
 }

@@ -7,6 +7,7 @@ ghost use Rattle.pp_induct.specs.Verdicts.{ValidAreGood};
 
 use crate::NoMemory;
 use crate::rounds::end_of_check;
+use crate::shared::Shared;
 use pp_checks::Plan;
 use pp_induct::{Ends, Limits, Report, conclude};
 use pp_list::Items;
@@ -47,15 +48,13 @@ fn ends_of_checks(
     let checks = program.checks();
     let mut ends = Items::new(alloc);
     let mut owner = FunctionId(0);
-    let mut sizes = Items::new(alloc);
+    let mut shared = Shared::new(alloc);
     for c in 0..checks.len() {
         let function = checks[c].function;
-        if function != owner {
-            sizes = Items::new(alloc);
-        }
+        shared.turn_to(alloc, owner, function);
         owner = function;
         let check = CheckId(c as u32);
-        ends.push(end_of_check(alloc, program, plan, function, check, limits, &mut sizes)?)?;
+        ends.push(end_of_check(alloc, program, plan, function, check, limits, &mut shared)?)?;
     }
     Ok(ends)
 }

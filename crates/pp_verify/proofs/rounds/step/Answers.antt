@@ -4,6 +4,17 @@ use Rattle.pp_verify.proofs.ProofEnds.{after_gives}
 use Rattle.pp_verify.proofs.RoundEnds.{open_by_size, repeated_is_searched}
 use Rattle.pp_verify.proofs.rounds.step.Goals as goal
 
+pub returns-then-size-limits-clause-step : goal.returns-then-size-limits-clause-step
+returns-then-size-limits-clause-step c =
+    let progress = c.args.progress in
+    rw c.open_before.ensures
+    (open_by_size c.args.program.now c.args.limits progress.function.0 progress.check progress.round
+    c.requires.come.before
+    (record {
+      round = c.requires.come.round;
+      size = subst (λ (n : ℕ). c.args.limits.gates < n) c.in_ok-size.ensures.size c.if-size-limits.true;
+    }))
+
 pub returns-then-is_repeated-clause-step : goal.returns-then-is_repeated-clause-step
 returns-then-is_repeated-clause-step c =
     let progress = c.args.progress in
@@ -16,14 +27,3 @@ returns-then-is_repeated-clause-step c =
       size = subst (λ (n : ℕ). n ≤ c.args.limits.gates) c.in_ok-size.ensures.size c.if-size-limits.false;
     })
     (c.is_repeated.ensures c.args.program.now c.requires.plan within c.if-is_repeated.true)))
-
-pub returns-then-size-limits-clause-step : goal.returns-then-size-limits-clause-step
-returns-then-size-limits-clause-step c =
-    let progress = c.args.progress in
-    rw c.open_before.ensures
-    (open_by_size c.args.program.now c.args.limits progress.function.0 progress.check progress.round
-    c.requires.come.before
-    (record {
-      round = c.requires.come.round;
-      size = subst (λ (n : ℕ). c.args.limits.gates < n) c.in_ok-size.ensures.size c.if-size-limits.true;
-    }))

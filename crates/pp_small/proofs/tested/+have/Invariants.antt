@@ -1,7 +1,7 @@
 use Rattle.std.proofs.Common.{drop}
 use Rattle.std.specs.Prelude.{IsTrue}
 use Rattle.pp_prog.specs.Sorts.{have_sorts}
-use Rattle.pp_program_cases.proofs.rounds.running.+have.Given as goal
+use Rattle.pp_small.proofs.tested.+have.Given as goal
 
 abbrev pub invariant-have_sorts-loop-place : goal.invariant-have_sorts-loop-place
 invariant-have_sorts-loop-place l =

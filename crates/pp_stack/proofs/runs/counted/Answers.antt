@@ -4,7 +4,7 @@ use Rattle.pp_prog.specs.declared.types.TypeTable.{TypeTable}
 use Rattle.pp_eval.specs.Invocation.{calls_to}
 use Rattle.pp_eval.specs.Runs.{run_with}
 use Rattle.pp_stack.proofs.Outcomes.{run_answers}
-use Rattle.pp_stack.proofs.runs.run.Goals as goal
+use Rattle.pp_stack.proofs.runs.counted.Goals as goal
 
 pub returns : goal.returns
 returns c =

@@ -1,0 +1,2 @@
+pub mod Counterexamples
+mod Growing
