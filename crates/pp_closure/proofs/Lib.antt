@@ -7,3 +7,8 @@ mod Ring
 mod Products
 mod Totals
 mod Remainders
+mod LinkedOrders
+mod Commuting
+mod AddedNumbers
+mod ComparedSums
+mod LessNumbers

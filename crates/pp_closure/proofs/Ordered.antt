@@ -1,7 +1,7 @@
 -- What steps say of the order of numbers.
-use Rattle.std.proofs.Common.{◌≡◌, ◌<◌, ℕ, true, false, Option, Some, None, refl, ap, ◌∙◌, arith, subst}
+use Rattle.std.proofs.Common.{◌≡◌, ◌<◌, ℕ, true, false, Option, Some, None, refl, sym, ap, ◌∙◌, arith}
+use Rattle.std.proofs.Common.{subst}
 use Rattle.std.specs.Prelude.{ℤ, List, length, not, slice_get}
-use Rattle.std.specs.Int.{w32}
 use Rattle.std.specs.Int.RustNames.{int_le, int_lt}
 use Rattle.std.proofs.lemmas.Int.{ints}
 use Rattle.std.proofs.lemmas.Option.{same_Some, slice_get_within}
@@ -13,20 +13,19 @@ use Rattle.pp_prog.specs.declared.sort.Sort.TheVariants as sort
 use Rattle.pp_prog.specs.declared.value.Value.{Value}
 use Rattle.pp_prog.specs.declared.value.Value.TheOpen as layer
 use Rattle.pp_prog.specs.declared.value.Value.TheVariants.{outs-Int, Bool as Truth}
-use Rattle.pp_prog.specs.declared.value.Value.TheViews.{out-Value}
+use Rattle.pp_prog.specs.declared.value.Value.TheViews.{out-Value, roll-Value, roll-out-Value}
 use Rattle.pp_prog.specs.Fits.{same_truth}
 use Rattle.pp_prog.specs.ExprSorts.{class_sort}
 use Rattle.pp_prog.specs.Sorts.{has_sort}
 use Rattle.pp_prog.proofs.PartSorts.{order_parts}
 use Rattle.pp_prog.proofs.ValueSorts.{int_value}
 use Rattle.pp_word.specs.Word.{word_less}
-use Rattle.pp_word.specs.Wrapping.{IsWord}
 use Rattle.pp_eval.specs.Operators.{on_layers}
 use Rattle.pp_steps.proofs.Bits.{bit_truth}
 use Rattle.pp_steps.specs.declared.step.Step.{Step}
 use Rattle.pp_steps.specs.declared.step.Step.TheVariants as steps
 use Rattle.pp_steps.specs.Meaning.{bit, value_or}
-use Rattle.pp_closure.specs.Order.{Says, is_less, is_less_in, order_of}
+use Rattle.pp_closure.specs.Order.{Compares, Ordered, Says, is_less, is_less_in, order_of}
 use Rattle.pp_closure.specs.declared.orders.Order.{Order}
 use Rattle.pp_closure.specs.Sums.{whole, whole_in}
 use Rattle.pp_closure.proofs.Totals.{sorted_word}
@@ -145,28 +144,25 @@ module _ (ss : List Step) (v : Valuation ss) where
       ∙ at_least_bit (out-Value (v.values a)) (out-Value (v.values b)) both.0.number both.1.number both.0.is both.1.is
   says_op k op a b at = tt
 
-  -- the step says whether the one number is less than the other
-  pub record Compares (k : ℕ) (o : Order) : Type 0 where
-    pub says : bit (v.values k)
-        ≡ same_truth o.positive (word_less (whole (v.values o.low)) (whole (v.values o.high)))
-    pub low : IsWord w32 (whole (v.values o.low))
-    pub high : IsWord w32 (whole (v.values o.high))
-
-  abbrev pub Ordered : ℕ → Option Order → Type 0
-  Ordered k None = Unit {0}
-  Ordered k (Some o) = Compares k o
+  -- two numbers that are one make one value
+  same_numbers : (x y : Value) (m n : ℤ) → out-Value x ≡ layer.Int m → out-Value y ≡ layer.Int n → whole x ≡ whole y
+      → x ≡ y
+  same_numbers x y m n e f h =
+      let i : m ≡ n = sym (ap whole_in e) ∙ h ∙ ap whole_in f in
+      sym (roll-out-Value x) ∙ ap roll-Value (e ∙ ap layer.Int i ∙ sym f) ∙ roll-out-Value y
 
   compares : (k : ℕ) (o : Order) → Says v.values k (Some o) → IsInt o.low → IsInt o.high → o.low < length ss
-      → o.high < length ss → Compares k o
+      → o.high < length ss → Compares v.values k o
   compares k o says l h ll lh = record {
     says = says ∙ ap (same_truth o.positive)
         (less_whole (out-Value (v.values o.low)) (out-Value (v.values o.high)) l.number h.number l.is h.is);
     low = sorted_word v.types.ctors (v.values o.low) (v.sorts o.low) (v.sorted o.low ll);
     high = sorted_word v.types.ctors (v.values o.high) (v.sorts o.high) (v.sorted o.high lh);
+    one = same_numbers (v.values o.low) (v.values o.high) l.number h.number l.is h.is;
   }
 
   pub ordered : (k : ℕ) (op : BinaryOp) (a b : ℕ) → slice_get ss k ≡ Some (steps.Binary op a b)
-      → Ordered k (order_of op a b)
+      → Ordered v.values k (order_of op a b)
   ordered k Less a b at =
       let i = operands k Less a b at (v.typed k (steps.Binary Less a b) at) in
       let w = both_within k Less a b at in
@@ -188,3 +184,7 @@ module _ (ss : List Step) (v : Valuation ss) where
   pub says_at : (k : ℕ) (o : Option Step) → slice_get ss k ≡ o → Says v.values k (order_in o)
   says_at k (Some (steps.Binary op a b)) at = says_op k op a b at
   says_at k o at = tt
+
+  pub ordered_at : (k : ℕ) (o : Option Step) → slice_get ss k ≡ o → Ordered v.values k (order_in o)
+  ordered_at k (Some (steps.Binary op a b)) at = ordered k op a b at
+  ordered_at k o at = tt

@@ -126,7 +126,7 @@ product_multiplied t z c x y w p o e f n g =
     (last.0, omega (arith, ints, e, a, b, n, last.1))
 
 -- two words that are alike are one
-words_same : (a b : ℤ) → IsWord w32 a → IsWord w32 b → AlikeWords a b → a ≡ b
+pub words_same : (a b : ℤ) → IsWord w32 a → IsWord w32 b → AlikeWords a b → a ≡ b
 words_same a b h k e =
     let w = WrapsTo-int_wrap w32 a in w.only a h (alike_self a a refl) ∙ sym (w.only b k e)
 
@@ -174,7 +174,7 @@ neg_is v a e =
     ap (λ l. value_or (Truth false) (and_then (number_in l) (λ n. Ok (Int (word_neg w32 n)))))
     (ap out-Value e ∙ outs-Int a)
 
-zero_word : IsWord w32 (pos 0)
+pub zero_word : IsWord w32 (pos 0)
 zero_word = (omega (arith, ints), omega (arith, ints))
 
 -- a value that has a sort is a word, as a number

@@ -1,10 +1,16 @@
 -- What is read off a step that was looked up. Source: own.
 use Rattle.std.specs.Prelude.{ℕ, nat_eq, Bool, true, false, if◌then◌else◌, Option, Some, None, slice_get}
+use Rattle.pp_tree.specs.declared.operator.BinaryOp.{BinaryOp}
+use Rattle.pp_tree.specs.declared.operator.BinaryOp.TheVariants.{Add, Sub, Mul, Equal, Differ, And, Or, Xor}
 use Rattle.pp_prog.specs.declared.id.CtorId.{CtorId}
 use Rattle.pp_prog.specs.declared.sort.Sort.{Sort}
 use Rattle.pp_prog.specs.declared.sort.Sort.TheVariants as sort
+use Rattle.pp_prog.specs.declared.value.Value.{Value}
+use Rattle.pp_prog.specs.declared.value.Value.TheVariants.{Bool as Truth}
+use Rattle.pp_steps.specs.Meaning.{applied, value_or}
 use Rattle.pp_steps.specs.declared.step.Step.{Step}
 use Rattle.pp_steps.specs.declared.step.Step.TheVariants as steps
+use Rattle.pp_closure.specs.declared.additions.Addition.{Addition}
 use Rattle.pp_closure.specs.declared.orders.Order.{Order}
 use Rattle.pp_closure.specs.Order.{order_of}
 
@@ -12,6 +18,31 @@ use Rattle.pp_closure.specs.Order.{order_of}
 abbrev pub order_in : Option Step → Option Order
 order_in (Some (steps.Binary op a b)) = order_of op a b
 order_in o = None
+
+-- what a step with the number and the operator says of a sum: that it is one of two others, or the rest of one
+abbrev pub addition_of : BinaryOp → ℕ → ℕ → ℕ → Option Addition
+addition_of Add k a b = Some (record { sum = k; one = a; other = b })
+addition_of Sub k a b = Some (record { sum = a; one = k; other = b })
+addition_of op k a b = None
+
+abbrev pub addition_in : ℕ → Option Step → Option Addition
+addition_in k (Some (steps.Binary op a b)) = addition_of op k a b
+addition_in k o = None
+
+-- whether the operator makes the same of operands that are turned round
+abbrev pub commutes : BinaryOp → Bool
+commutes Add = true
+commutes Mul = true
+commutes Equal = true
+commutes Differ = true
+commutes And = true
+commutes Or = true
+commutes Xor = true
+commutes op = false
+
+-- the value that a step with the operator makes of two values
+abbrev pub made_of_two : BinaryOp → Value → Value → Value
+made_of_two op x y = value_or (Truth false) (applied op x y)
 
 -- the field at the place, if the step makes the constructor
 abbrev pub field_in : CtorId → ℕ → Option Step → Option ℕ

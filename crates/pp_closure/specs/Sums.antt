@@ -4,9 +4,11 @@ use Rattle.std.specs.Prelude.{Option, Some, None}
 use Rattle.std.specs.Int.{w32}
 use Rattle.pp_prog.specs.declared.value.Value.{Value}
 use Rattle.pp_prog.specs.declared.value.Value.TheOpen as layer
+use Rattle.pp_prog.specs.declared.value.Value.TheVariants.{Int}
 use Rattle.pp_prog.specs.declared.value.Value.TheViews.{out-Value}
 use Rattle.pp_word.specs.Wrapping.{IsWord, SameModulo}
 use Rattle.pp_steps.specs.Meaning.{Values}
+use Rattle.pp_closure.specs.declared.additions.Addition.{Addition}
 use Rattle.pp_closure.specs.declared.parts.Part.{Part}
 use Rattle.pp_closure.specs.declared.parts.Part.TheVariants as part
 use Rattle.pp_closure.specs.declared.product.Product.{Product}
@@ -42,6 +44,26 @@ total ρ (t ∷ ts) = amount ρ t +ℤ total ρ ts
 -- the same up to what wrapping takes away
 abbrev pub AlikeWords : ℤ → ℤ → Type 0
 AlikeWords = SameModulo (2 ^ 32)
+
+-- the step's value is a number, and that a word
+pub record HasNumber (ρ : Values) (k : ℕ) : Type 0 where
+  pub is : ρ k ≡ Int (whole (ρ k))
+  pub word : IsWord w32 (whole (ρ k))
+
+-- three numbers of which the one is the sum of the two others, up to what wrapping takes away
+pub record Adds (ρ : Values) (s : Addition) : Type 0 where
+  pub alike : AlikeWords (whole (ρ s.one) +ℤ whole (ρ s.other)) (whole (ρ s.sum))
+  pub sum : HasNumber ρ s.sum
+  pub one : HasNumber ρ s.one
+  pub other : HasNumber ρ s.other
+
+-- the sum doesn't wrap
+abbrev pub IsExact : Values → Addition → Type 0
+IsExact ρ s = whole (ρ s.sum) ≡ whole (ρ s.one) +ℤ whole (ρ s.other)
+
+abbrev pub MayAdd : Values → Option Addition → Type 0
+MayAdd ρ None = Unit {0}
+MayAdd ρ (Some s) = Adds ρ s
 
 -- there is a term, and it has the product
 abbrev pub HasProduct : Option Term → Product → Type 0

@@ -26,6 +26,11 @@ const WORK_OF_LEARNING: u64 = 16;
 
 const WORK_OF_COMPARING: u64 = 128;
 
+/// How many members and users of a class are looked at to find chains of orders, and the work to look at one.
+const MOST_USERS: usize = 64;
+
+const WORK_OF_USER: u64 = 16;
+
 /// Whether the step makes a number of others by sums and products.
 fn is_sum(step: &Step) -> bool {
     matches!(
@@ -189,7 +194,8 @@ impl Agenda {
         self.left == 0
     }
 
-    fn spend(&mut self, work: u64) {
+    /// So much work is done.
+    pub(crate) fn spend(&mut self, work: u64) {
         self.left = self.left.saturating_sub(work);
     }
 
@@ -261,6 +267,37 @@ impl Agenda {
                     place = next;
                 }
                 None => break,
+            }
+        }
+        Ok(())
+    }
+
+    /// The steps that have one of the step's class as an operand, as far as these are looked at, in place of others.
+    /// The only error is want of memory.
+    pub(crate) fn users_of(
+        &mut self,
+        facts: &Facts,
+        step: u32,
+        users: &mut Vec<u32>,
+    ) -> Result<(), NoMemory> {
+        users.clear();
+        let mut member = step;
+        let mut place = self.first_user(member);
+        for _ in 0..MOST_USERS {
+            self.spend(WORK_OF_USER);
+            match at(self.users.as_slice(), place) {
+                Some(user) => {
+                    let User { step, next } = *user;
+                    users.push(step)?;
+                    place = next;
+                }
+                None => {
+                    member = facts.class(member).next;
+                    place = self.first_user(member);
+                    if member == step {
+                        break;
+                    }
+                }
             }
         }
         Ok(())

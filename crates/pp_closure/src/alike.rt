@@ -6,10 +6,12 @@ ghost use Rattle.pp_prog.specs.declared.value.Value.{Value};
 ghost use Rattle.pp_steps.specs.Meaning.{Does, Missing, Values};
 ghost use Rattle.pp_closure.specs.Facts.{Holds};
 ghost use Rattle.pp_closure.specs.Keeps.{Keeps};
+ghost use Rattle.pp_closure.specs.Steps.{made_of_two};
 ghost use Rattle.pp_closure.specs.Valuation.{Valuation};
 
 use crate::NoMemory;
 use crate::facts::Facts;
+use crate::operators::{commutes, is_one, is_one_unary, number_of, unary_number};
 use crate::seen::{Deed, Seen};
 use pp_list::at;
 use pp_prog::BinaryOp;
@@ -46,9 +48,9 @@ fn learn_same(facts: &mut Facts, all: &[Step], number: u32, other: Option<u32>)
 /// What the step does, where it is worth the while to look for another one that does it.
 fn deed_of(facts: &Facts, step: &Step) -> Option<Deed> {
     match step {
-        Step::Binary(BinaryOp::Equal, a, b) => Some(Deed::Equal(facts.root(*a), facts.root(*b))),
-        Step::Binary(BinaryOp::Differ, a, b) => Some(Deed::Differ(facts.root(*a), facts.root(*b))),
-        Step::Binary(BinaryOp::Add, a, b) => Some(Deed::Sum(facts.root(*a), facts.root(*b))),
+        Step::Not(a) => Some(Deed::Not(facts.root(*a))),
+        Step::Unary(op, a) => Some(Deed::Unary(unary_number(*op), facts.root(*a))),
+        Step::Binary(op, a, b) => Some(deed_of_two(*op, facts.root(*a), facts.root(*b))),
         Step::Construct(ctor, fields) => match (
             fields.as_slice().first(),
             fields.as_slice().last(),
@@ -61,6 +63,15 @@ fn deed_of(facts: &Facts, step: &Step) -> Option<Deed> {
         Step::IsCtor(ctor, _, a) => Some(Deed::Test(ctor.0, facts.root(*a))),
         Step::CtorField(ctor, place, a) => Some(Deed::Field(ctor.0, *place, facts.root(*a))),
         _ => None,
+    }
+}
+
+/// What the operator does to the two, in any order if that doesn't matter.
+fn deed_of_two(op: BinaryOp, a: u32, b: u32) -> Deed {
+    if commutes(op) {
+        Deed::Binary(number_of(op), a.min(b), a.max(b))
+    } else {
+        Deed::Binary(number_of(op), a, b)
     }
 }
 
@@ -80,14 +91,11 @@ fn do_alike(facts: &Facts, one: &Step, other: &Step) -> bool
         → Does ctors missing ρ other.now y → Holds ρ facts.now → result ≡ true → x ≡ y }
 {
     match (one, other) {
-        (Step::Binary(BinaryOp::Equal, a, b), Step::Binary(BinaryOp::Equal, c, d)) => {
-            facts.same(*a, *c) && facts.same(*b, *d)
-        }
-        (Step::Binary(BinaryOp::Differ, a, b), Step::Binary(BinaryOp::Differ, c, d)) => {
-            facts.same(*a, *c) && facts.same(*b, *d)
-        }
-        (Step::Binary(BinaryOp::Add, a, b), Step::Binary(BinaryOp::Add, c, d)) => {
-            facts.same(*a, *c) && facts.same(*b, *d)
+        (Step::Not(a), Step::Not(b)) => facts.same(*a, *b),
+        (Step::Unary(op, a), Step::Unary(like, b)) => is_one_unary(*op, *like)
+            && facts.same(*a, *b),
+        (Step::Binary(op, a, b), Step::Binary(like, c, d)) => {
+            is_one(*op, *like) && are_taken_alike(facts, *op, (*a, *b), (*c, *d))
         }
         (Step::Construct(c, xs), Step::Construct(d, ys)) => {
             c.0 == d.0 && all_same(facts, xs.as_slice(), ys.as_slice())
@@ -100,6 +108,26 @@ fn do_alike(facts: &Facts, one: &Step, other: &Step) -> bool
         }
         _ => false,
     }
+}
+
+/// Whether the operator makes the same of the two pairs: of the same values in the same order, or in any.
+fn are_taken_alike(facts: &Facts, op: BinaryOp, one: (u32, u32), other: (u32, u32)) -> bool
+    ensures { (ρ : Values) → Holds ρ facts.now → result ≡ true
+        → made_of_two op (ρ one.0) (ρ one.1) ≡ made_of_two op (ρ other.0) (ρ other.1) }
+{
+    if commutes(op) && are_crossed(facts, one, other) {
+        true
+    } else {
+        facts.same(one.0, other.0) && facts.same(one.1, other.1)
+    }
+}
+
+/// Whether the two pairs are known to have the same values, turned round.
+fn are_crossed(facts: &Facts, one: (u32, u32), other: (u32, u32)) -> bool
+    ensures { (ρ : Values) → Holds ρ facts.now → result ≡ true
+        → (ρ one.0 ≡ ρ other.1) × (ρ one.1 ≡ ρ other.0) }
+{
+    facts.same(one.0, other.1) && facts.same(one.1, other.0)
 }
 
 /// Whether the steps at each place are known to have one value.

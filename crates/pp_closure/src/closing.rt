@@ -10,6 +10,7 @@ use crate::agenda::Agenda;
 use crate::facts::Facts;
 use crate::learning::learn;
 use crate::seen::Seen;
+use crate::walks::learn_chains;
 use pp_steps::Step;
 use std::alloc::Global;
 
@@ -37,7 +38,8 @@ pub(crate) fn close(
     Ok(())
 }
 
-/// Lets each step that is due say what follows, in order: whether there was one. The only error is want of memory.
+/// Lets each step that is due say what follows, and the chains of orders through it, in order: whether there was one.
+/// The only error is want of memory.
 fn pass(
     alloc: Global,
     facts: &mut Facts,
@@ -57,6 +59,7 @@ fn pass(
         if agenda.take(number) {
             any = true;
             learn(alloc, facts, all, seen, number as u32, &all[number])?;
+            learn_chains(alloc, facts, all, agenda, number as u32)?;
             wake(facts, agenda)?;
         }
     }

@@ -1,6 +1,6 @@
 //! Facts on the values of steps, and how they are noted.
 
-ghost use Rattle.std.specs.Prelude.{◌≡◌, ◌<◌, ◌≤ℤ◌, ℕ, true, false, IfOk, length};
+ghost use Rattle.std.specs.Prelude.{◌≡◌, ◌<◌, ◌≤ℤ◌, ℕ, pos, true, false, IfOk, length};
 ghost use Rattle.pp_steps.specs.Meaning.{Values, bit, has_ctor};
 ghost use Rattle.std.specs.Int.{w32};
 ghost use Rattle.pp_word.specs.Wrapping.{IsWord};
@@ -251,6 +251,16 @@ impl Facts {
         match self.known(number).high {
             Some(high) => high,
             None => i32::MAX,
+        }
+    }
+
+    /// Whether the number that the step's value is is known to be 0.
+    pub(crate) fn is_zero(&self, number: u32) -> bool
+        ensures { (ρ : Values) → Holds ρ self.now → result ≡ true → whole (ρ number) ≡ pos 0 }
+    {
+        match self.known(number).number() {
+            Some(n) => n == 0,
+            None => false,
         }
     }
 

@@ -5,12 +5,15 @@ ghost use Rattle.pp_steps.specs.declared.step.Step.TheVariants as steps;
 ghost use Rattle.pp_closure.specs.Keeps.{Keeps};
 
 use crate::NoMemory;
+use crate::additions::learn_addition;
 use crate::alike::learn_alike;
 use crate::bounds::{learn_bounds, learn_number, learn_remainder};
 use crate::class::Shape;
 use crate::equality::learn_equality;
 use crate::facts::Facts;
+use crate::offsets::learn_offsets;
 use crate::orders::{learn_order, order_of};
+use crate::reduced::{learn_common_bits, learn_quotient, learn_shifted, learn_shifted_unsigned};
 use crate::seen::Seen;
 use crate::trees::{learn_construct, learn_field, learn_test};
 use crate::truths::{learn_both, learn_choice, learn_not};
@@ -33,6 +36,7 @@ pub(crate) fn learn(
 {
     facts.shorten(number);
     learn_step(alloc, facts, all, seen, number, step)?;
+    learn_addition(facts, all, seen, number)?;
     learn_alike(facts, all, seen, number, step)
 }
 
@@ -134,9 +138,26 @@ fn learn_operator(
             learn_remainder(facts, number, a, b);
             Ok(())
         }
+        BinaryOp::Div => {
+            learn_quotient(facts, number, a, b);
+            Ok(())
+        }
+        BinaryOp::And => {
+            learn_common_bits(facts, all, number, a, b);
+            Ok(())
+        }
+        BinaryOp::Shr => {
+            learn_shifted(facts, all, number, a, b);
+            Ok(())
+        }
+        BinaryOp::Ushr => {
+            learn_shifted_unsigned(facts, all, number, a, b);
+            Ok(())
+        }
         _ => match order_of(op, a, b) {
             Some(order) => {
                 learn_bounds(facts, number, order.low, order.high, order.positive);
+                learn_offsets(facts, all, seen, number, order)?;
                 learn_order(facts, all, seen, number, order)
             }
             None => Ok(()),

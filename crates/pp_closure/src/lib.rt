@@ -10,25 +10,34 @@
 //! be changed: which rules there are, in which order they are tried, and how long is searched. None of it is promised.
 //!
 //! - `class`, `facts`: what is known of the value of a step, and how it is noted.
-//! - `truths`, `trees`, `sums`, `bounds`, `orders`: what a step says, by what its value is. `equality`: equations.
+//! - `truths`, `trees`, `sums`, `bounds`, `reduced`, `orders`: what a step says, by what its value is.
+//!   `equality`: equations.
+//! - `chains`, `offsets`: what orders say together, and with sums. `walks`: which chains are looked at.
+//! - `additions`, `amounts`: what a sum of two says of each of the three, and where it doesn't wrap.
 //! - `product`, `terms`, `parts`: sums of products of steps, modulo 2^32, and what a step is made of.
-//! - `alike`, `seen`: which steps do the same to the same values.
+//! - `alike`, `operators`, `seen`: which steps do the same to the same values.
 //! - `learning`: what each step says. `closing`: all steps that are due, until nothing more follows; `agenda` and
 //!   `news`: which are. `refuting`: the cases; `undecided`: which test comes next.
 #![tactic(auto)]
 
+mod additions;
 mod agenda;
 mod alike;
+mod amounts;
 mod bounds;
+mod chains;
 mod class;
 mod closing;
 mod equality;
 mod facts;
 mod learning;
 mod news;
+mod offsets;
+mod operators;
 mod orders;
 mod parts;
 mod product;
+mod reduced;
 mod refuting;
 mod seen;
 mod sums;
@@ -36,6 +45,7 @@ mod terms;
 mod trees;
 mod truths;
 mod undecided;
+mod walks;
 
 pub use refuting::refuted;
 pub use std::alloc::AllocError as NoMemory;

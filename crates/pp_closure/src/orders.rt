@@ -60,7 +60,8 @@ fn order_at(all: &[Step], number: u32) -> Option<Order>
     order_in(all, number)
 }
 
-fn order_in(all: &[Step], number: u32) -> Option<Order>
+/// What the step with the number says of the order of two others, by the step alone.
+pub(crate) fn order_in(all: &[Step], number: u32) -> Option<Order>
     ensures { result ≡ looked.order_in (slice_get all.now number) }
 {
     match at(all, number as usize) {
@@ -108,7 +109,7 @@ fn learn_again(facts: &mut Facts, all: &[Step], number: u32, order: Order, other
 }
 
 /// Of two steps the one is true where the other is, or where it isn't.
-fn link(facts: &mut Facts, one: u32, other: u32, alike: bool)
+pub(crate) fn link(facts: &mut Facts, one: u32, other: u32, alike: bool)
     ensures { (ρ : Values) → bit (ρ one) ≡ same_truth alike (bit (ρ other)) → Holds ρ facts.old → Holds ρ facts.new }
 {
     if let Some(truth) = facts.truth(other) {
@@ -133,7 +134,7 @@ fn learn_turned(facts: &mut Facts, all: &[Step], number: u32, order: Order, othe
 }
 
 /// Of two steps only one can be as is said.
-fn exclude(facts: &mut Facts, one: u32, other: u32, here: bool, there: bool)
+pub(crate) fn exclude(facts: &mut Facts, one: u32, other: u32, here: bool, there: bool)
     ensures { (ρ : Values) → (bit (ρ one) ≡ here → bit (ρ other) ≡ not there) → (bit (ρ other) ≡ there
         → bit (ρ one) ≡ not here) → Holds ρ facts.old → Holds ρ facts.new }
 {

@@ -10,11 +10,16 @@ use std::alloc::Global;
 pub(crate) enum Deed {
     /// It says whether the one is less than the other.
     Order(u32, u32),
-    /// It says whether the two are equal, or whether they differ.
-    Equal(u32, u32),
-    Differ(u32, u32),
-    /// It adds the two.
+    /// It says so of two numbers that are as far from these.
+    Offset(u32, u32),
+    /// It does this to the two, by the number of the operator, or to one.
+    Binary(u32, u32, u32),
+    Unary(u32, u32),
+    /// It is the negation.
+    Not(u32),
+    /// It says of a sum that these are its parts, or that it is this, with this part.
     Sum(u32, u32),
+    Rest(u32, u32),
     /// It is this constructor, which has no fields.
     Constant(u32),
     /// It makes the constructor, whose first and last field are these.
