@@ -66,8 +66,8 @@ check --version 0 "$(cat told)" ''
 holds '--help into a closed output'
 
 # Lines that are refused.
-options='there are --mode, --rounds, --depth, --lemmas, --gates, --function, --fuel and --seed (a FILE of that name'
-options="$options stands behind --)"
+options='there are --mode, --rounds, --depth, --lemmas, --gates, --order, --function, --fuel and --seed (a FILE of that'
+options="$options name stands behind --)"
 none='there is no FILE; mode verify takes one to sixteen'
 refused "$none"
 refused "$none" --
@@ -110,7 +110,14 @@ refused "--gates wants a number from 1 to 4000000, $range; 18446744073709551617 
 refused "--fuel wants a number from 0 to 100000, $range; 1e3 isn't one" --mode run --function f --fuel 1e3 or.scala
 refused "--mode wants verify, list, run or make; Verify isn't one" --mode Verify or.scala
 refused "--mode wants verify, list, run or make; or.scala isn't one" --mode or.scala
-refused '--function is no option of mode verify, which takes --rounds, --depth, --lemmas, --gates' --function f or.scala
+refused "--order wants one, turns or back; random isn't one" --order random or.scala
+refused "--order wants one, turns or back; or.scala isn't one" --order or.scala
+refused '--order is given twice' --order one --order=one or.scala
+refused '--order is no option of mode list, which takes --rounds, --depth' --mode list --order one or.scala
+refused '--order is no option of mode make, which takes --seed, --rounds, --depth, --lemmas, --gates' \
+    --mode make --seed 3 --order turns
+refused '--function is no option of mode verify, which takes --rounds, --depth, --lemmas, --gates, --order' \
+    --function f or.scala
 refused '--lemmas is no option of mode list, which takes --rounds, --depth' --mode list --lemmas 5 or.scala
 refused '--rounds is no option of mode run, which takes --function, --fuel' --mode run --function f --rounds 3 or.scala
 refused 'mode run wants --function NAME, a function without parameters' --mode run or.scala
@@ -129,6 +136,10 @@ refused "word 1 isn't text (UTF-8)" "$(printf 'a\355\240\200.scala')"
 valid="$(printf 'or: valid, 1 checks\n1 valid, 0 invalid, 0 open, 0 depending')"
 run --rounds=0 --depth 6 --lemmas 1000000 or.scala --gates=4000000 --
 check 'a good line' 0 "$valid" ''
+for order in one turns back; do
+    run --order "$order" or.scala
+    check "order $order" 0 "$valid" ''
+done
 run missing.scala
 check 'a missing file' 5 '' 'read fault: missing.scala'
 run --mode run --function f missing.scala

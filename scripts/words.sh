@@ -71,6 +71,14 @@ check_value() {
         --depth) check_number "$1" "$2" 1 6 ;;
         --lemmas) check_number "$1" "$2" 1 1000000 ;;
         --gates) check_number "$1" "$2" 1 4000000 ;;
+        --order)
+            case $2 in
+                one | turns | back) return ;;
+            esac
+            show "$2"
+            fault="--order wants one, turns or back; $shown isn't one"
+            return 1
+            ;;
         --fuel) check_number "$1" "$2" 0 100000 ;;
         --seed) check_number "$1" "$2" 1 200 ;;
         --function) function=$2 ;;
@@ -83,14 +91,14 @@ take_option() {
     taken=1
     show "$1"
     case $option in
-        --mode | --rounds | --depth | --lemmas | --gates | --function | --fuel | --seed) ;;
+        --mode | --rounds | --depth | --lemmas | --gates | --order | --function | --fuel | --seed) ;;
         --help | -h | --version)
             fault="$shown stands alone, without other words"
             return 1
             ;;
         *)
-            fault="there is no option $shown; there are --mode, --rounds, --depth, --lemmas, --gates, --function,"
-            fault="$fault --fuel and --seed (a FILE of that name stands behind --)"
+            fault="there is no option $shown; there are --mode, --rounds, --depth, --lemmas, --gates, --order,"
+            fault="$fault --function, --fuel and --seed (a FILE of that name stands behind --)"
             return 1
             ;;
     esac
@@ -125,7 +133,7 @@ take_option() {
 check_mode() {
     local option own
     case $mode in
-        verify) own='--rounds --depth --lemmas --gates' ;;
+        verify) own='--rounds --depth --lemmas --gates --order' ;;
         list) own='--rounds --depth' ;;
         run) own='--function --fuel' ;;
         make) own='--seed --rounds --depth --lemmas --gates' ;;
@@ -155,7 +163,7 @@ check_mode() {
 find_fault() {
     local number=0 files=0 first='' given=' ' taken shown word
     fault='' mode=verify function=''
-    # No line that is in order has more than 33 words: of many the first ones have a fault, or are too many FILEs.
+    # No line that is in order has more than 35 words: of many the first ones have a fault, or are too many FILEs.
     set -- "${@:1:40}"
     for word in "$@"; do
         number=$((number + 1))

@@ -6,6 +6,7 @@ pub mod Words
 pub mod Lines
 pub mod Alike
 pub mod Meaning
+pub mod Heads
 pub mod Statuses
 pub mod Claimed
 pub mod Readings

@@ -13,7 +13,7 @@ use Rattle.pp_induct.specs.declared.limits.Limits.{Limits}
 use Rattle.pp_induct.specs.declared.verdict.Verdict.{Verdict}
 use Rattle.pp_induct.specs.declared.verdict.Verdict.TheVariants.{Valid, Depends, Invalid, Open}
 use Rattle.pp_modes.specs.Lists.{own_checks}
-use Rattle.pp_modes.specs.Responses.{Response, lines_in}
+use Rattle.pp_modes.specs.Responses.{Response}
 use Rattle.pp_modes.specs.Verdicts.{AnswersMake, AnswersVerify, check_text, depending_text, reason_of, summary_by}
 use Rattle.pp_modes.specs.Verdicts.{verdict_lines, verdict_report, verdict_text}
 use Rattle.pp_print.specs.Lines.{depends_text, invalid_text, open_text, valid_text}
@@ -151,12 +151,16 @@ line_at p ends rest n (suc i) (g ∷ fs) (w ∷ vs) f v at also =
     line_at p ends rest (suc n) i fs vs f v at also ∙ ap (λ k. Some (verdict_text p ends k f v)) same
 
 module _ (p : Program) (limits : Limits) (r : Response) (a : AnswersVerify p limits r) where
+  -- the line of each function, and the summary behind them
+  abbrev pub own_lines : List (List ℕ)
+  own_lines = verdict_lines p a.found.checks 0 p.functions a.found.verdicts ++ summary_by a.found.verdicts ∷ []
+
   -- the verdict of a function, and its line
   pub record IsTold (i : ℕ) (f : Function) : Type 0 where
     pub verdict : Verdict
     pub here : slice_get a.found.verdicts i ≡ Some verdict
     pub line : List ℕ
-    pub there : slice_get (lines_in r) i ≡ Some line
+    pub there : slice_get own_lines i ≡ Some line
     pub tells : Tells p limits i f line verdict
 
   -- what the line of a verdict tells
@@ -177,13 +181,12 @@ module _ (p : Program) (limits : Limits) (r : Response) (a : AnswersVerify p lim
         verdict = v.0;
         here = v.1;
         line = text;
-        there = ap (λ s. slice_get (lines_in s) i) a.says
-            ∙ line_at p ends (summary_by a.found.verdicts ∷ []) 0 i p.functions a.found.verdicts f v.0 at v.1
+        there = line_at p ends (summary_by a.found.verdicts ∷ []) 0 i p.functions a.found.verdicts f v.0 at v.1
             ∙ ap (λ k. Some (verdict_text p ends k f v.0)) first;
         tells = told_by i f v.0 v.1;
       }
 
   -- the line that stands there is the one that is told
-  pub same_line : (i : ℕ) (f : Function) (t : IsTold i f) (line : List ℕ) → slice_get (lines_in r) i ≡ Some line
+  pub same_line : (i : ℕ) (f : Function) (t : IsTold i f) (line : List ℕ) → slice_get own_lines i ≡ Some line
       → t.line ≡ line
   same_line i f t line there = same_Some _ _ (sym t.there ∙ there)

@@ -5,7 +5,7 @@ use Rattle.std.specs.Prelude.{Option, None, Some, slice_get}
 use Rattle.std.proofs.lemmas.List.{length-append}
 use Rattle.std.proofs.lemmas.Option.{same_Some, slice_get_within}
 use Rattle.pp_answers.proofs.Counts.{none_counted, some_counted}
-use Rattle.pp_answers.proofs.Lines.{IsOpen, Tells, same_line, says_depends}
+use Rattle.pp_answers.proofs.Lines.{IsOpen, Tells, own_lines, same_line, says_depends}
 use Rattle.pp_answers.proofs.Lines.{says_invalid, says_open, says_valid, told, within}
 use Rattle.pp_answers.proofs.Words.{at_not_before, depends_not_open, invalid_not_depends, invalid_not_open}
 use Rattle.pp_answers.proofs.Words.{valid_not_depends, valid_not_invalid, valid_not_open}
@@ -16,7 +16,7 @@ use Rattle.pp_induct.specs.declared.ends.CheckEnd.{CheckEnd}
 use Rattle.pp_induct.specs.declared.limits.Limits.{Limits}
 use Rattle.pp_induct.specs.declared.verdict.Verdict.{Verdict}
 use Rattle.pp_induct.specs.declared.verdict.Verdict.TheVariants.{Valid, Depends, Invalid, Open}
-use Rattle.pp_modes.specs.Responses.{Response, lines_in, status_in}
+use Rattle.pp_modes.specs.Responses.{Response, status_in}
 use Rattle.pp_modes.specs.Verdicts.{AnswersVerify, is_depending, is_invalid, is_open, reason_of, status_for}
 use Rattle.pp_modes.specs.Verdicts.{summary_by, verdict_lines}
 use Rattle.pp_print.specs.Lines.{open_text}
@@ -78,7 +78,7 @@ module _ (p : Program) (limits : Limits) (i : ℕ) (f : Function) (line : List �
   valid_alone (Invalid c) t s = absurd (valid_not_invalid f line s (says_invalid p limits i f line c t))
   valid_alone (Open c) t s = absurd (valid_not_open f line s (says_open p limits i f line c t))
 
-  has_name : (v : Verdict) → Tells p limits i f line v → Says (codes ": ") f line
+  pub has_name : (v : Verdict) → Tells p limits i f line v → Says (codes ": ") f line
   has_name Valid t = (_, t)
   has_name (Depends g) t = (_, t.text)
   has_name (Invalid c) t = (_, t.text)
@@ -90,7 +90,7 @@ module _ (p : Program) (limits : Limits) (r : Response) (a : AnswersVerify p lim
   -- the claim is true of each line
   abbrev pub EachTold : Claim → Type 0
   EachTold IsTrue = (i : ℕ) (f : Function) (line : List ℕ) → slice_get p.functions i ≡ Some f
-      → slice_get (lines_in r) i ≡ Some line → IsTrue p i f line
+      → slice_get (own_lines p limits r a) i ≡ Some line → IsTrue p i f line
 
   pub told_good : EachTold ValidIsGood
   told_good i f line at there s =
@@ -114,7 +114,7 @@ module _ (p : Program) (limits : Limits) (r : Response) (a : AnswersVerify p lim
   -- ---- the status
 
   abbrev Line : List ℕ → ℕ → Type 0
-  Line = LineSays p.functions (lines_in r)
+  Line = LineSays p.functions (own_lines p limits r a)
 
   -- the line of a function whose verdict this is
   line_of : (i : ℕ) (v : Verdict) → slice_get a.found.verdicts i ≡ Some v
@@ -184,7 +184,7 @@ module _ (p : Program) (limits : Limits) (r : Response) (a : AnswersVerify p lim
       by (Open c) t is = invalid_not_open l.function l.line l.says (says_open p limits i l.function l.line c t)
 
   by_counts : (x y z : ℕ) → count_by is_invalid a.found.verdicts ≡ x → count_by is_open a.found.verdicts ≡ y
-      → count_by is_depending a.found.verdicts ≡ z → IsStatusOf p.functions (lines_in r) (status_for x y z)
+      → count_by is_depending a.found.verdicts ≡ z → IsStatusOf p.functions (own_lines p limits r a) (status_for x y z)
   by_counts (suc x) y z e g h =
       let one = some_counted is_invalid a.found.verdicts (omega (arith, e)) in
       some_invalid one.place (of_invalid one.place one.item one.here one.passes)
@@ -206,15 +206,15 @@ module _ (p : Program) (limits : Limits) (r : Response) (a : AnswersVerify p lim
   lines_size ends n (f ∷ fs) [] even = absurd (omega (arith, even))
   lines_size ends n (f ∷ fs) (v ∷ vs) even = ap suc (lines_size ends (suc n) fs vs (omega arith))
 
-  pub told_each : AreLinesOf p (lines_in r) (status_in r)
+  pub told_each : AreLinesOf p (own_lines p limits r a) (status_in r)
   told_each = record {
-    size = ap (λ s. length (lines_in s)) a.says
-        ∙ length-append (verdict_lines p a.found.checks 0 p.functions a.found.verdicts)
+    size = length-append (verdict_lines p a.found.checks 0 p.functions a.found.verdicts)
         (summary_by a.found.verdicts ∷ [])
         ∙ ap (λ n. n + 1) (lines_size a.found.checks 0 p.functions a.found.verdicts a.holds.verdicts.size);
     names = λ i lt.
         let v = within a.found.verdicts i (omega (arith, lt, a.holds.verdicts.size)) in
         let l = line_of i v.0 v.1 in
         l.2 (codes ": ") (λ line t. has_name p limits i l.0 line v.0 t);
-    status = subst (IsStatusOf p.functions (lines_in r)) (sym (ap status_in a.says)) (by_counts _ _ _ refl refl refl);
+    status = subst (IsStatusOf p.functions (own_lines p limits r a)) (sym (ap status_in a.says))
+        (by_counts _ _ _ refl refl refl);
   }

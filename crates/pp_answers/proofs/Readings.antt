@@ -6,6 +6,7 @@ use Rattle.std.proofs.lemmas.Option.{same_Some}
 use Rattle.pp_answers.proofs.Alike.{check_there, counterexample_there, good_there, none_there}
 use Rattle.pp_answers.proofs.Claimed.{of_verify}
 use Rattle.pp_answers.proofs.Excluded.{excluded}
+use Rattle.pp_answers.proofs.Heads.{heads_told}
 use Rattle.pp_answers.proofs.Lines.{Tells, same_line, told}
 use Rattle.pp_answers.proofs.Meaning.{EachTold}
 use Rattle.pp_answers.proofs.Once.{AreAlike, one_program, swapped}
@@ -189,10 +190,12 @@ legible sources p short is =
     is.program.concrete
 
 pub lines_read_back : LinesReadBack
-lines_read_back limits sources r range short (refused {line = text} a) p is i f line at here =
+lines_read_back order limits sources r range short (refused {line = text} a) p is i f line at here =
     absurd (excluded sources text p a is)
-lines_read_back limits sources r range short (accepted q also a) p is i f line at here =
+lines_read_back order limits sources r range short (accepted q also a) p is i f line at here =
     let alike = one_program sources q p also.program is.program in
+    let verified = of_verify q order limits a in
     read_there q p alike limits i f line
-    (told_read q limits r (of_verify q limits a) range (legible sources q short also) i f line
-    (ap (λ fs. slice_get fs i) alike.functions ∙ at) here)
+    (told_read q limits r verified range (legible sources q short also) i f line
+    (ap (λ fs. slice_get fs i) alike.functions ∙ at)
+    (ap (λ l. slice_get l i) (sym (heads_told sources q also limits r verified)) ∙ here))

@@ -17,7 +17,7 @@ one_seed h = cc
 
 -- the seed is in its range
 pub made_range : (task : Task) (seed : ℕ) → Some seed ≡ seed_of task → IsInRange task → seed ≤ MOST_SEED
-made_range (verify numbers) seed is range = absurd (no_seed is)
+made_range (verify order numbers) seed is range = absurd (no_seed is)
 made_range (list rounds depth) seed is range = absurd (no_seed is)
 made_range (run function fuel) seed is range = absurd (no_seed is)
 made_range (make other numbers) seed is range = subst (λ n. n ≤ MOST_SEED) (one_seed is) range.0

@@ -5,7 +5,7 @@ use Rattle.std.proofs.lemmas.Bool.{cases_lt}
 use Rattle.std.proofs.lemmas.Option.{same_Some, slice_get_within}
 use Rattle.pp_answers.proofs.Alike.{counterexample_there, same_run}
 use Rattle.pp_answers.proofs.Excluded.{excluded}
-use Rattle.pp_answers.proofs.Lines.{as_verify}
+use Rattle.pp_answers.proofs.Lines.{as_verify, own_lines}
 use Rattle.pp_answers.proofs.Meaning.{told_each, told_failed, told_good}
 use Rattle.pp_answers.proofs.Once.{AreAlike, one_program, swapped}
 use Rattle.pp_answers.specs.Answers.{accepted, refused, sources_of}
@@ -20,7 +20,7 @@ use Rattle.pp_eval.specs.declared.outcome.Outcome.TheVariants.{Deep, Done, Fails
 use Rattle.pp_induct.specs.declared.limits.Limits.{Limits}
 use Rattle.pp_modes.specs.Answers.{AnswersTask, listed, made as makes, run_ends, verified as verifies}
 use Rattle.pp_modes.proofs.Asked.{same_function}
-use Rattle.pp_modes.specs.Responses.{Response, lines_in, report, status_in}
+use Rattle.pp_modes.specs.Responses.{Response, report, status_in}
 use Rattle.pp_modes.specs.Runs.{AnswersRun, IsAsked, fails_line, inner_line, no_function, outcome_report}
 use Rattle.pp_modes.specs.Runs.{outcome_text, ran, status_of}
 use Rattle.pp_modes.specs.Verdicts.{AnswersMake, AnswersVerify, limits_of, verdict_report}
@@ -133,9 +133,9 @@ good_never_fails p i c n d args h f at good =
     ]
 
 -- of one program no report has all functions valid, and another one of them invalid
-never_both : (p q : Program) → AreAlike p q → (l m : Limits) (r s : Response) → AnswersVerify p l r
-    → AnswersVerify q m s → IsStatusOf p.functions (lines_in r) status.AllValid
-    → IsStatusOf q.functions (lines_in s) status.SomeInvalid → ⊥
+never_both : (p q : Program) → AreAlike p q → (l m : Limits) (r s : Response) → (a : AnswersVerify p l r)
+    → (b : AnswersVerify q m s) → IsStatusOf p.functions (own_lines p l r a) status.AllValid
+    → IsStatusOf q.functions (own_lines q m s b) status.SomeInvalid → ⊥
 never_both p q alike l m r s a b (all_valid all) (some_invalid i one) =
     let failure = told_failed q m s b i one.function one.line one.here one.there one.says in
     let fails =
@@ -151,8 +151,8 @@ is_verdict fs lines s (some_open none i one) = laws.some_open
 
 module _ (p q : Program) (alike : AreAlike p q) (l m : Limits) (r s : Response) (a : AnswersVerify p l r)
     (b : AnswersVerify q m s) where
-  agree : (t u : Status) → IsStatusOf p.functions (lines_in r) t → IsStatusOf q.functions (lines_in s) u
-      → (t ≡ u) ⊎ StaysOpen t u
+  agree : (t u : Status) → IsStatusOf p.functions (own_lines p l r a) t
+      → IsStatusOf q.functions (own_lines q m s b) u → (t ≡ u) ⊎ StaysOpen t u
   agree t u (all_valid x) (all_valid y) = inl refl
   agree t u (some_invalid i x) (some_invalid j y) = inl refl
   agree t u (some_open n i x) (some_open k j y) = inl refl
@@ -188,8 +188,8 @@ made_status p q alike l m r s a b task is =
 
 task_status : (p q : Program) → AreAlike p q → {task : Task} {r s : Response} → AnswersTask p task r
     → AnswersTask q task s → Agree task (status_in r) (status_in s)
-task_status p q alike {task} {r} {s} (verifies {numbers = n} a) (verifies b) =
-    verify_status p q alike (limits_of n) (limits_of n) r s a b task (is_verify (limits_of n))
+task_status p q alike {task} {r} {s} (verifies {order = o} {numbers = n} a) (verifies b) =
+    verify_status p q alike (limits_of n) (limits_of n) r s a b task (is_verify o (limits_of n))
 task_status p q alike {task} {r} {s} (makes {seed = k} {numbers = n} a) (makes b) =
     made_status p q alike (limits_of n) (limits_of n) r s a b task (is_make k (limits_of n))
 task_status p q alike listed listed = inl refl

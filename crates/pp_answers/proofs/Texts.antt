@@ -3,6 +3,7 @@ use Rattle.std.proofs.Common.{◌≡◌, ◌∙◌, ◌<◌, ◌^◌, ◌+◌, �
 use Rattle.std.proofs.Common.{refl, sym, ap, subst, inl, arith, count_by}
 use Rattle.std.specs.List.{concat}
 use Rattle.std.specs.Prelude.{slice_get}
+use Rattle.std.proofs.lemmas.List.Elements.{All-nil}
 use Rattle.std.proofs.lemmas.List.Sums.{count_by-le-length}
 use Rattle.std.proofs.lemmas.Option.{same_Some, slice_get_within}
 use Rattle.pp_answers.proofs.Claimed.{of_verify}
@@ -25,6 +26,7 @@ use Rattle.pp_line_contents.proofs.Tails.{AreFrom, from_first, from_rest, from_s
 use Rattle.pp_line_contents.proofs.Texts.{texts_tell_contents}
 use Rattle.pp_line_contents.specs.Contents.{Content}
 use Rattle.pp_line_contents.specs.Laws.{IsLegible}
+use Rattle.pp_line_contents.specs.Lines.{StandsUnder}
 use Rattle.pp_line_contents.specs.Reports.{AreSmall, PrintEach, PrintsReport, ReportContent, counts_text, more_lines}
 use Rattle.pp_line_contents.specs.Reports.{no_lines}
 use Rattle.pp_modes.specs.Responses.{Response, lines_in}
@@ -161,7 +163,7 @@ module _ (p : Program) (limits : Limits) (r : Response) (a : AnswersVerify p lim
       (from_rest a.found.verdicts n v vs also) in
       record {
         contents = content ∷ rest.contents;
-        prints = more_lines (printed p limits n f line range at v t) rest.prints;
+        prints = more_lines (printed p limits n f line range at v t) [] (All-nil StandsUnder) rest.prints;
         are_true = one_more_true p limits n f fs content rest.contents
             (meant p limits n f line v t (λ is. a.valid n (here ∙ ap Some is) n f (inl refl) at)) rest.are_true;
         counts = one_more content v rest.contents vs (has_verdict p limits n f line v t) rest.counts;
@@ -214,8 +216,8 @@ module _ (p q : Program) (alike : AreAlike p q) where
   pub each_there : {i : ℕ} {fs : List Function} {lines : List (List ℕ)} {cs : List Content} → PrintEach p i fs lines cs
       → PrintEach q i fs lines cs
   each_there no_lines = no_lines
-  each_there (more_lines {i = i} {f = f} {line = line} {c = c} one rest) =
-      more_lines (prints_there p q alike i f line c one) (each_there rest)
+  each_there (more_lines {i = i} {f = f} {line = line} {c = c} one under stand rest) =
+      more_lines (prints_there p q alike i f line c one) under stand (each_there rest)
 
   report_there : (text : List ℕ) (c : ReportContent) → PrintsReport p text c → PrintsReport q text c
   report_there text c h = record {
@@ -248,8 +250,8 @@ text_there p q alike limits text h = record {
 -- ---- the law
 
 pub text_read_back : TextReadBack
-text_read_back limits sources r range short (refused {line = line} a) p is = absurd (excluded sources line p a is)
-text_read_back limits sources r range short (accepted q also a) p is =
+text_read_back order limits sources r range short (refused {line = line} a) p is = absurd (excluded sources line p a is)
+text_read_back order limits sources r range short (accepted q also a) p is =
     let alike = one_program sources q p also.program is.program in
     text_there q p alike limits (concat (lines_in r))
-    (told_text q limits r (of_verify q limits a) range (legible sources q short also))
+    (told_text q limits r (of_verify q order limits a) range (legible sources q short also))

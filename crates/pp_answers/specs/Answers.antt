@@ -18,7 +18,7 @@ pub record IsAccepted (sources : List (List ℕ)) (p : Program) : Type 0 where
 
 -- the seed of a task that makes its source
 abbrev pub seed_of : Task → Option ℕ
-seed_of (verify numbers) = None
+seed_of (verify order numbers) = None
 seed_of (list rounds depth) = None
 seed_of (run function fuel) = None
 seed_of (make seed numbers) = Some seed

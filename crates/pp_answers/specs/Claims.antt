@@ -1,4 +1,4 @@
--- What is claimed of the lines of a report. Source: own.
+-- What is claimed of the lines of a report: of its heads, the lines that stand under no other. Source: own.
 use Rattle.std.specs.Prelude.{◌≡◌, ◌⊎◌, ◌<◌, ◌≤◌, ◌+◌, ℕ, List, ◌++◌, Some, codes, length, slice_get}
 use Rattle.pp_eval.specs.Runs.{IsGood}
 use Rattle.pp_induct.specs.declared.limits.Limits.{Limits}
@@ -20,6 +20,7 @@ Says words f line = (rest : List ℕ) × (line ≡ f.name ++ (words ++ rest))
 
 -- ---- each function has a line
 
+-- these lines are the heads
 module _ (functions : List Function) (lines : List (List ℕ)) where
   -- the line of function number i says these words
   pub record LineSays (words : List ℕ) (i : ℕ) : Type 0 where

@@ -15,19 +15,21 @@ use Rattle.pp_modes.specs.Runs.{IsAsked, outcome_report}
 use Rattle.pp_modes.specs.declared.status.Status.{Status}
 use Rattle.pp_modes.specs.declared.status.Status.TheVariants as status
 use Rattle.pp_ordinary.specs.Laws.{AreShort}
+use Rattle.pp_print.specs.Heads.{heads}
 use Rattle.pp_prog.specs.declared.expr.Function.{Function}
 use Rattle.pp_prog.specs.declared.program.Program.{Program}
 use Rattle.pp_sound.specs.Sound.{IsCheckOf}
 use Rattle.pp_words.specs.Task.{Task, make, run, verify}
+use Rattle.pp_words.specs.declared.order.Order.{Order}
 use Rattle.pp_words.specs.declared.task.Numbers.{Numbers}
 
 -- the numbers of a task that name these limits
 abbrev pub numbers_of : Limits → Numbers
 numbers_of l = record { rounds = l.rounds; depth = l.depth; lemmas = l.lemmas; gates = l.gates }
 
--- the task to verify within these limits
-abbrev pub verify_within : Limits → Task
-verify_within limits = verify (numbers_of limits)
+-- the task to verify within these limits, with checks that are worked on in this order
+abbrev pub verify_within : Order → Limits → Task
+verify_within order limits = verify order (numbers_of limits)
 
 -- the task to verify so the source that is made from a seed
 abbrev pub make_within : ℕ → Limits → Task
@@ -37,7 +39,7 @@ make_within seed limits = make seed (numbers_of limits)
 
 -- functions are verified
 pub data IsVerify : Task → Type 0 where
-  is_verify : (limits : Limits) → IsVerify (verify_within limits)
+  is_verify : (order : Order) (limits : Limits) → IsVerify (verify_within order limits)
   is_make : (seed : ℕ) (limits : Limits) → IsVerify (make_within seed limits)
 
 -- a status on the verdicts of functions
@@ -63,21 +65,22 @@ OneStatus = (task : Task) (sources : List (List ℕ)) (r s : Response) → Answe
 
 -- ---- mode `verify`
 
--- each function gets one line, and the status is by these lines
+-- each function gets one line, a head, and the status is by these lines
 abbrev pub OneLineEach : Type 0
-OneLineEach = (limits : Limits) (sources : List (List ℕ)) (r : Response) → Answers (verify_within limits) sources r
-    → (p : Program) → IsAccepted sources p → AreLinesOf p (lines_in r) (status_in r)
+OneLineEach = (order : Order) (limits : Limits) (sources : List (List ℕ)) (r : Response)
+    → Answers (verify_within order limits) sources r → (p : Program) → IsAccepted sources p
+    → AreLinesOf p (heads (lines_in r)) (status_in r)
 
--- the claim is true of the line of each function of the program of the sources
+-- the claim is true of the line of each function of the program of the sources, where these lines are the heads
 abbrev pub EachLine : List (List ℕ) → List (List ℕ) → Claim → Type 0
 EachLine sources lines claim =
     (p : Program) → IsAccepted sources p → (i : ℕ) (f : Function) (line : List ℕ) → slice_get p.functions i ≡ Some f
     → slice_get lines i ≡ Some line → claim p i f line
 
--- it is true of each line that is answered
+-- it is true of each head that is answered, whatever the order is
 abbrev pub IsAlwaysTrue : (Limits → Claim) → Type 0
-IsAlwaysTrue claim = (limits : Limits) (sources : List (List ℕ)) (r : Response)
-    → Answers (verify_within limits) sources r → EachLine sources (lines_in r) (claim limits)
+IsAlwaysTrue claim = (order : Order) (limits : Limits) (sources : List (List ℕ)) (r : Response)
+    → Answers (verify_within order limits) sources r → EachLine sources (heads (lines_in r)) (claim limits)
 
 -- a function is called valid only where it is good: every call that meets the precondition evaluates, with some fuel,
 -- to a value that meets the postcondition
@@ -97,14 +100,15 @@ OpenMeansSearched = IsAlwaysTrue OpenIsSearched
 -- function is what was printed, and it is true: the verdict, the function that is named, the check, the arguments, the
 -- round and the reason
 abbrev pub LinesReadBack : Type 0
-LinesReadBack = (limits : Limits) (sources : List (List ℕ)) (r : Response) → AreLimits limits → AreShort sources
-    → Answers (verify_within limits) sources r → EachLine sources (lines_in r) (IsReadBack limits)
+LinesReadBack = (order : Order) (limits : Limits) (sources : List (List ℕ)) (r : Response) → AreLimits limits
+    → AreShort sources → Answers (verify_within order limits) sources r
+    → EachLine sources (heads (lines_in r)) (IsReadBack limits)
 
--- so is what is read back from the whole text that is printed: it tells where each line ends, and so all this of each
--- function, in order, and how many functions have each verdict
+-- so is what is read back from the whole text that is printed: it tells where each line ends and which lines are heads,
+-- and so all this of each function, in order, and how many functions have each verdict
 abbrev pub TextReadBack : Type 0
-TextReadBack = (limits : Limits) (sources : List (List ℕ)) (r : Response) → AreLimits limits → AreShort sources
-    → Answers (verify_within limits) sources r → (p : Program) → IsAccepted sources p
+TextReadBack = (order : Order) (limits : Limits) (sources : List (List ℕ)) (r : Response) → AreLimits limits
+    → AreShort sources → Answers (verify_within order limits) sources r → (p : Program) → IsAccepted sources p
     → IsTextReadBack limits p (concat (lines_in r))
 
 -- ---- mode `make`

@@ -64,7 +64,8 @@ impl Estimates {
         })
     }
 
-    /// The estimate of a round of the check, as `estimate` has it, which counts no frame again that is known here.
+    /// The estimate of a round of the check, as `estimate` has it, which counts no frame again that is known here. After
+    /// an Err nothing is said of what is kept: begin with a new table.
     pub fn of(
         &mut self,
         alloc: Global,

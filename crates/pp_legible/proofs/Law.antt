@@ -1,4 +1,4 @@
--- The program of a typing of units that short texts spell is legible.
+-- The program of a typing of units that short texts spell is legible, and names of functions begin with no blank.
 use Rattle.std.proofs.Common.{◌≡◌, ◌∙◌, ℕ, List, [], ◌∷◌, All, IsUtf8, map, refl}
 use Rattle.std.proofs.Common.{sym, ap, subst, arith}
 use Rattle.std.specs.Prelude.{Some, Contains, slice_get}
@@ -8,16 +8,18 @@ use Rattle.pp_legible.proofs.Classes.{IsWordOfTyped, ctor_names_differ, ctors_ar
 use Rattle.pp_legible.proofs.Classes.{objects_are_bare, params_are_words, roots_are_words}
 use Rattle.pp_legible.proofs.Ctors.{AreLike, HaveOneName, IsTyped, ctors_unlike, from_typed}
 use Rattle.pp_legible.proofs.Functions.{IsNamedBy, has_name, names_tell}
-use Rattle.pp_legible.proofs.Named.{printed_fine}
+use Rattle.pp_legible.proofs.Named.{printed_begins, printed_fine}
 use Rattle.pp_legible.proofs.Places.{small_place}
 use Rattle.pp_legible.proofs.Unlike.{Unlike, places_unlike, unlike_places}
-use Rattle.pp_legible.specs.Laws.{ProgramsAreLegible}
+use Rattle.pp_legible.specs.Laws.{NamesBeginPlainly, ProgramsAreLegible}
+use Rattle.pp_instances.specs.Names.{printed}
 use Rattle.pp_instances.specs.Order.{member_of}
 use Rattle.pp_instances.specs.declared.member.Decl.TheVariants as kind
 use Rattle.pp_instances.specs.declared.member.Member.{Member}
 use Rattle.pp_tokens.proofs.Every.{Every}
 use Rattle.pp_line_contents.proofs.Spans.{every_contained}
-use Rattle.pp_line_contents.specs.Laws.{HasNoColon, HasNoMark, HasNoNewline, IsLegible, IsSmallPlace}
+use Rattle.pp_line_contents.specs.Laws.{BeginsPlainly, HasNoColon, HasNoMark, IsLegible, IsSmallPlace}
+use Rattle.pp_line_contents.specs.Lines.{HasNoNewline}
 use Rattle.pp_members.proofs.Proper.{members_are_proper}
 use Rattle.pp_mono.specs.Concrete.{IsConcrete, function_members, root_members}
 use Rattle.pp_order.proofs.Laws.{listed_names_differ}
@@ -61,6 +63,31 @@ params_at : (roots : List Member) (args : List GenericSort) (ts : List TypedPara
 params_at roots args [] h = tt
 params_at roots args (t ∷ ts) h = (h.0, params_at roots args ts h.1)
 
+-- ---- functions
+
+module _ (typed : Typed) (texts : List (List ℕ)) (p : Program) (concrete : IsConcrete typed texts p) where
+  own_function : (i : ℕ) (f : Function) → slice_get p.functions i ≡ Some f
+      → IsNamedBy typed texts (root_members concrete.roots) (function_members concrete.functions) concrete.functions
+      (bare_function f)
+  own_function i f at =
+      has_name typed texts (root_members concrete.roots) (function_members concrete.functions) concrete.functions
+      p.functions concrete.has_functions i f at
+
+  -- what is true of the printed names of members is true of the names of functions
+  named_alike : (P : List ℕ → Type 0) → ((m : Member) → P (printed typed m)) → (i : ℕ) (f : Function)
+      → slice_get p.functions i ≡ Some f → P f.name
+  named_alike P each i f at =
+      let own = own_function i f at in
+      subst P (sym (own.name ∙ concrete.listed.functions.names own.among.place own.from own.among.here))
+      (each (member_of typed kind.Function own.from))
+
+pub names_begin_plainly : NamesBeginPlainly
+names_begin_plainly texts units typed p spells h concrete =
+    named_alike typed texts p concrete BeginsPlainly
+    (printed_begins typed (roots_are_words texts units typed spells h) (defs_are_words texts units typed spells h))
+
+-- ---- the whole program
+
 module _ (texts : List (List ℕ)) (units : List UnitTree) (typed : Typed) (p : Program) (are : AreShort texts)
     (spells : EachSpells texts units) (h : HasTyping units typed) (concrete : IsConcrete typed texts p) where
   abbrev roots : List Member
@@ -92,23 +119,10 @@ module _ (texts : List (List ℕ)) (units : List UnitTree) (typed : Typed) (p : 
       let o = checks_stand typed texts p fit.stands fit.apart concrete c a at in
       subst IsSmallPlace o.2 (small_place texts o.0 are.few are.short utf8 o.1)
 
-  own_function : (i : ℕ) (f : Function) → slice_get p.functions i ≡ Some f
-      → IsNamedBy typed texts roots (function_members concrete.functions) concrete.functions (bare_function f)
-  own_function i f at =
-      has_name typed texts roots (function_members concrete.functions) concrete.functions p.functions
-      concrete.has_functions i f at
-
-  named : (i : ℕ) (f : Function) → slice_get p.functions i ≡ Some f → HasNoColon f.name
-  named i f at =
-      let own = own_function i f at in
-      subst HasNoColon (sym (own.name ∙ concrete.listed.functions.names own.among.place own.from own.among.here))
-      (printed_fine typed (roots_are_words texts units typed spells h) (defs_are_words texts units typed spells h)
-      (member_of typed kind.Function own.from))
-
   params : (i : ℕ) (f : Function) (q : Param) → slice_get p.functions i ≡ Some f → Contains f.params q
       → HasNoNewline q.name
   params i f q at here =
-      let own = own_function i f at in
+      let own = own_function typed texts p concrete i f at in
       let words = params_at roots own.from.args own.def.params
       (params_are_words texts units typed spells h own.from.number own.def own.defined) in
       no_mark q.name 10 (omega arith) refl
@@ -125,7 +139,10 @@ module _ (texts : List (List ℕ)) (units : List UnitTree) (typed : Typed) (p : 
         let own = own_ctor c a at in
         own.bare (objects_are_bare texts units typed spells h own.among.place own.from own.among.here
         (sym own.object ∙ is));
-    named = named;
+    named = named_alike typed texts p concrete HasNoColon
+        (printed_fine typed (roots_are_words texts units typed spells h)
+        (defs_are_words texts units typed spells h));
+    begins = names_begin_plainly texts units typed p spells h concrete;
     functions =
         names_tell typed texts roots (function_members concrete.functions) concrete.functions p.functions
         (listed_names_differ typed concrete.members concrete.functions concrete.roots fit.sorted

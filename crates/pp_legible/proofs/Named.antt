@@ -1,4 +1,4 @@
--- The printed names of functions have no newline and no colon.
+-- The printed names of functions have no newline and no colon, and begin with no blank.
 use Rattle.std.proofs.Common.{◌≡◌, ◌≢◌, ◌<◌, ℕ, List, [], ◌∷◌, ◌++◌, Option, Some}
 use Rattle.std.proofs.Common.{None, map, refl, sym, subst, arith}
 use Rattle.std.specs.Prelude.{slice_get}
@@ -10,7 +10,7 @@ use Rattle.pp_instances.specs.declared.member.Decl.TheVariants.{Function, Root}
 use Rattle.pp_instances.specs.declared.member.Member.{Member}
 use Rattle.pp_tokens.proofs.Every.{Every}
 use Rattle.pp_line_contents.proofs.Spans.{every_append, every_contained, every_of}
-use Rattle.pp_line_contents.specs.Laws.{HasNoColon}
+use Rattle.pp_line_contents.specs.Laws.{BeginsPlainly, HasNoColon}
 use Rattle.pp_plain_names.proofs.Names.{no_mark}
 use Rattle.pp_plain_names.specs.Laws.{IsWord}
 use Rattle.pp_typed.specs.WellSorted.{boolean_name, int_name}
@@ -76,6 +76,23 @@ bracketed_fine (w ∷ ws) h = (
       (every_append IsFine (joined (map after_comma ws)) (93 ∷ []) (joined_fine ws h.1) (above 93 (omega arith), tt)),
 )
 
+-- ---- the first byte
+
+word_begins : (w : List ℕ) → IsWord w → BeginsPlainly w
+word_begins [] word = tt
+word_begins (b ∷ bs) word = no_mark (b ∷ bs) 32 (omega arith) refl word b (0, omega arith, refl)
+
+-- a bracket is no blank
+bracketed_begins : (ws : List (List ℕ)) → BeginsPlainly (bracketed ws)
+bracketed_begins [] = tt
+bracketed_begins (w ∷ ws) = λ e. omega (arith, e)
+
+both_begin : (xs ys : List ℕ) → BeginsPlainly xs → BeginsPlainly ys → BeginsPlainly (xs ++ ys)
+both_begin [] ys h k = k
+both_begin (x ∷ xs) ys h k = h
+
+-- ---- names in names
+
 module _ (typed : Typed) (roots : (r : ℕ) (root : TypedRoot) → slice_get typed.roots r ≡ Some root → IsWord root.name)
     (defs : (f : ℕ) (d : TypedDef) → slice_get typed.defs f ≡ Some d → IsWord d.name) where
   root_fine : (o : Option TypedRoot) → ((root : TypedRoot) → o ≡ Some root → IsWord root.name)
@@ -134,3 +151,21 @@ module _ (typed : Typed) (roots : (r : ℕ) (root : TypedRoot) → slice_get typ
       every_contained IsFine (printed typed m)
       (every_append IsFine (decl_name typed m.of) (bracketed (map (printed_sort typed) m.args)) (decl_fine m.of)
       (bracketed_fine (map (printed_sort typed) m.args) (sorts_fine m.args)))
+
+  root_begins : (o : Option TypedRoot) → ((root : TypedRoot) → o ≡ Some root → IsWord root.name)
+      → BeginsPlainly (root_name o)
+  root_begins None h = tt
+  root_begins (Some root) h = word_begins root.name (h root refl)
+
+  def_begins : (o : Option TypedDef) → ((d : TypedDef) → o ≡ Some d → IsWord d.name) → BeginsPlainly (def_name o)
+  def_begins None h = tt
+  def_begins (Some d) h = word_begins d.name (h d refl)
+
+  decl_begins : (d : Decl) → BeginsPlainly (decl_name typed d)
+  decl_begins (Function f) = def_begins (slice_get typed.defs f) (defs f)
+  decl_begins (Root r) = root_begins (slice_get typed.roots r) (roots r)
+
+  pub printed_begins : (m : Member) → BeginsPlainly (printed typed m)
+  printed_begins m =
+      both_begin (decl_name typed m.of) (bracketed (map (printed_sort typed) m.args)) (decl_begins m.of)
+      (bracketed_begins (map (printed_sort typed) m.args))

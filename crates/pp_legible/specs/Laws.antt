@@ -1,6 +1,6 @@
 -- Programs of sources have legible lines. Source: own.
 use Rattle.std.specs.Prelude.{◌≡◌, ℕ, List, Some, slice_get}
-use Rattle.pp_line_contents.specs.Laws.{IsLegible}
+use Rattle.pp_line_contents.specs.Laws.{BeginsPlainly, IsLegible}
 use Rattle.pp_mono.specs.Concrete.{IsConcrete}
 use Rattle.pp_ordinary.specs.Laws.{AreShort}
 use Rattle.pp_ordinary.specs.Spelled.{EachSpells}
@@ -16,6 +16,12 @@ use Rattle.pp_types_laws.specs.Typing.{HasTyping}
 abbrev pub ProgramsAreLegible : Type 0
 ProgramsAreLegible = (texts : List (List ℕ)) (units : List UnitTree) (typed : Typed) (p : Program) → AreShort texts
     → EachSpells texts units → HasTyping units typed → IsConcrete typed texts p → IsLegible p
+
+-- the names of the functions of the program of a typing of units that texts spell begin with no blank
+abbrev pub NamesBeginPlainly : Type 0
+NamesBeginPlainly = (texts : List (List ℕ)) (units : List UnitTree) (typed : Typed) (p : Program)
+    → EachSpells texts units → HasTyping units typed → IsConcrete typed texts p → (i : ℕ) (f : Function)
+    → slice_get p.functions i ≡ Some f → BeginsPlainly f.name
 
 -- no two items of the list have one name
 abbrev pub NamesTell : {X : Type 0} → (X → List ℕ) → List X → Type 0

@@ -32,11 +32,11 @@ letter_of (left_open searched c why) = 111
 
 module _ (p : Program) (i : ℕ) (f : Function) (line : List ℕ) where
   -- the line goes on so behind the name
-  record GoesOn (a : Content) : Type 0 where
+  pub record GoesOn (a : Content) : Type 0 where
     pub rest : List ℕ
     pub split : line ≡ f.name ++ 58 ∷ 32 ∷ letter_of a ∷ rest
 
-  goes_on : (a : Content) → Prints p i f line a → GoesOn a
+  pub goes_on : (a : Content) → Prints p i f line a → GoesOn a
   goes_on (valid checks) h = record { rest = _; split = h.text }
   goes_on (depending g checks) h = record { rest = _; split = h.text }
   goes_on (failed c args) h = record { rest = _; split = h.text }

@@ -4,6 +4,7 @@ pub mod Values
 pub mod Others
 pub mod Law
 pub mod Newlines
+pub mod Heads
 pub mod Tails
 pub mod Texts
 pub mod Made

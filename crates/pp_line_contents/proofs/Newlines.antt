@@ -9,7 +9,8 @@ use Rattle.std.proofs.lemmas.Bool.{and_parts}
 use Rattle.pp_tokens.proofs.Every.{Every}
 use Rattle.pp_line_contents.proofs.Spans.{every_append, every_contained, every_of}
 use Rattle.pp_line_contents.specs.Contents.{Content, Prints, depending, failed, left_open, valid}
-use Rattle.pp_line_contents.specs.Laws.{CountsEndOnce, HasNoNewline, IsLegible, IsOneLine, LinesEndOnce}
+use Rattle.pp_line_contents.specs.Laws.{CountsEndOnce, IsLegible, LinesEndOnce}
+use Rattle.pp_line_contents.specs.Lines.{HasNoNewline, IsOneLine}
 use Rattle.pp_print.specs.Lines.{check_text, kind_text, place_text, reason_text, round_text}
 use Rattle.pp_print.specs.Values.{after_comma, arguments_text, bool_text, in_brackets, joined, tree_text, value_step}
 use Rattle.pp_print.specs.Values.{value_text}

@@ -3,6 +3,7 @@ use Rattle.std.proofs.Common.{◌≡◌, ◌∙◌, ◌+◌, ℕ, List, [], ◌�
 use Rattle.std.proofs.Common.{length, refl, sym, ap, subst, arith}
 use Rattle.std.specs.List.{concat}
 use Rattle.std.proofs.lemmas.List.{append_cancel_left, length-append}
+use Rattle.pp_line_contents.proofs.Heads.{counts_are_heads, head_first, lines_are_heads, one_head}
 use Rattle.pp_line_contents.proofs.Law.{lines_tell_contents}
 use Rattle.pp_line_contents.proofs.Newlines.{NotNewline, counts_end_once, lines_end_once}
 use Rattle.pp_line_contents.proofs.Others.{no_blank}
@@ -11,9 +12,11 @@ use Rattle.pp_line_contents.proofs.Spans.{every_append, every_of, of_all, one_sp
 use Rattle.pp_line_contents.proofs.Tails.{AreFrom, from_first, from_rest, from_start}
 use Rattle.pp_line_contents.proofs.Words.{one_decimal}
 use Rattle.pp_line_contents.specs.Contents.{Content, Prints}
-use Rattle.pp_line_contents.specs.Laws.{IsLegible, IsOneLine, TextsTellContents, TextsTellLines}
+use Rattle.pp_line_contents.specs.Laws.{IsLegible, TextsTellContents, TextsTellLines}
+use Rattle.pp_line_contents.specs.Lines.{IsOneLine, StandsUnder}
 use Rattle.pp_line_contents.specs.Reports.{AreSmall, Counts, PrintEach, PrintsReport, ReportContent, counts_text}
 use Rattle.pp_line_contents.specs.Reports.{more_lines, no_lines}
+use Rattle.pp_print.specs.Heads.{IsHead, heads}
 use Rattle.pp_prog.specs.declared.expr.Function.{Function}
 use Rattle.pp_prog.specs.declared.program.Program.{Program}
 
@@ -67,27 +70,39 @@ counts_same m n p q e =
 
 -- ---- what the lines say
 
+under_one_line : (under : List (List ℕ)) → Every StandsUnder under → Every IsOneLine under
+under_one_line [] h = tt
+under_one_line (line ∷ under) h = (h.0.one, under_one_line under h.1)
+
 module _ (p : Program) (legible : IsLegible p) where
   each_one_line : {i : ℕ} {fs : List Function} {lines : List (List ℕ)} {cs : List Content} → AreFrom p.functions i fs
       → PrintEach p i fs lines cs → Every IsOneLine lines
   each_one_line from no_lines = tt
-  each_one_line from (more_lines {i = i} {f = f} {fs = fs} {line = line} {c = c} one rest) = (
-    lines_end_once p legible i f (from_first p.functions i f fs from) line c one,
-    each_one_line (from_rest p.functions i f fs from) rest,
-  )
+  each_one_line from
+      (more_lines {i = i} {f = f} {fs = fs} {line = line} {lines = lines} {c = c} one under stand rest) = (
+        lines_end_once p legible i f (from_first p.functions i f fs from) line c one,
+        every_append IsOneLine under lines (under_one_line under (of_all StandsUnder under stand))
+            (each_one_line (from_rest p.functions i f fs from) rest),
+      )
 
-  -- lines, and one more behind them, tell the contents
+  -- the heads of lines, and of one more behind them, tell the contents
   one_each : {i : ℕ} {fs : List Function} {xs ys : List (List ℕ)} {cs ds : List Content} (s t : List ℕ)
-      → AreFrom p.functions i fs → PrintEach p i fs xs cs → PrintEach p i fs ys ds → xs ++ s ∷ [] ≡ ys ++ t ∷ []
-      → (cs ≡ ds) × (s ≡ t)
-  one_each s t from no_lines no_lines e = (refl, ap (λ (l : List (List ℕ)). get_or l 0 []) e)
-  one_each s t from (more_lines {i = i} {f = f} {fs = fs} {line = x} {c = a} {cs = cs} h hs)
-      (more_lines {line = y} {c = b} {cs = ds} k ks) e =
-      let lines : x ≡ y = ap (λ (l : List (List ℕ)). get_or l 0 []) e in
+      → IsHead s → IsHead t → AreFrom p.functions i fs → PrintEach p i fs xs cs → PrintEach p i fs ys ds
+      → heads (xs ++ s ∷ []) ≡ heads (ys ++ t ∷ []) → (cs ≡ ds) × (s ≡ t)
+  one_each s t head_s head_t from no_lines no_lines e =
+      (refl, ap (λ (l : List (List ℕ)). get_or l 0 []) (sym (head_first s [] head_s) ∙ e ∙ head_first t [] head_t))
+  one_each s t head_s head_t from
+      (more_lines {i = i} {f = f} {fs = fs} {line = x} {lines = xs} {c = a} {cs = cs} h us hu hs)
+      (more_lines {line = y} {lines = ys} {c = b} {cs = ds} k vs kv ks) e =
       let at = from_first p.functions i f fs from in
+      let begins = legible.begins i f at in
+      let same : x ∷ heads (xs ++ s ∷ []) ≡ y ∷ heads (ys ++ t ∷ []) =
+      sym (one_head x us xs (s ∷ []) (lines_are_heads p i f begins x a h) (of_all StandsUnder us hu)) ∙ e
+      ∙ one_head y vs ys (t ∷ []) (lines_are_heads p i f begins y b k) (of_all StandsUnder vs kv) in
+      let lines : x ≡ y = ap (λ (l : List (List ℕ)). get_or l 0 []) same in
       let first = lines_tell_contents p legible i i f f at at y a b
       (subst (λ l. Prints p i f l a) lines h) k in
-      let others = one_each s t (from_rest p.functions i f fs from) hs ks (rest_same e) in
+      let others = one_each s t head_s head_t (from_rest p.functions i f fs from) hs ks (rest_same same) in
       (ap (λ z. z ∷ cs) first.1 ∙ ap (λ l. b ∷ l) others.0, others.1)
 
   are_lines : (text : List ℕ) (r : ReportContent) (h : PrintsReport p text r)
@@ -99,7 +114,8 @@ module _ (p : Program) (legible : IsLegible p) where
   one_report : (text : List ℕ) (a b : ReportContent) → PrintsReport p text a → PrintsReport p text b → a ≡ b
   one_report text a b h k =
       let lists = one_list _ _ (are_lines text a h) (are_lines text b k) (sym h.whole ∙ k.whole) in
-      let each = one_each (counts_text a.counts) (counts_text b.counts) (from_start p.functions) h.each k.each lists in
+      let each = one_each (counts_text a.counts) (counts_text b.counts) (counts_are_heads a.counts)
+      (counts_are_heads b.counts) (from_start p.functions) h.each k.each (ap heads lists) in
       let counts = counts_same a.counts b.counts h.small k.small each.1 in
       let at : List Content → Counts → ReportContent = λ cs n. record { functions = cs; counts = n } in
       ap (λ cs. at cs a.counts) each.0 ∙ ap (at b.functions) counts

@@ -1,3 +1,4 @@
+pub mod Lines
 pub mod Contents
 pub mod Reports
 pub mod Laws

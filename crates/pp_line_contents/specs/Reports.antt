@@ -1,8 +1,9 @@
--- What the whole text of a report says: the line of each function, and how many have each verdict; or how many
--- functions were made, and how many have each verdict. Source: own.
-use Rattle.std.specs.Prelude.{◌≡◌, ℕ, suc, List, [], ◌∷◌, ◌++◌}
+-- What the whole text of a report says: the line of each function, whatever stands under it, and how many have each
+-- verdict; or how many functions were made, and how many have each verdict. Source: own.
+use Rattle.std.specs.Prelude.{◌≡◌, ℕ, suc, List, [], ◌∷◌, ◌++◌, All}
 use Rattle.std.specs.List.{concat}
 use Rattle.pp_line_contents.specs.Contents.{Content, IsSmall, Prints}
+use Rattle.pp_line_contents.specs.Lines.{StandsUnder}
 use Rattle.pp_print.specs.Lines.{summary_text}
 use Rattle.pp_print.specs.Made.{made_text}
 use Rattle.pp_print.specs.Values.{Text}
@@ -32,14 +33,15 @@ pub record ReportContent : Type 0 where
   pub counts : Counts
 
 module _ (p : Program) where
-  -- the lines print these contents of the functions, the first of which has this number
+  -- the lines print these contents of the functions, the first of which has this number; others stand under them
   pub data PrintEach : ℕ → List Function → List Text → List Content → Type 0 where
     no_lines : {i : ℕ} → PrintEach i [] [] []
     more_lines : {i : ℕ} {f : Function} {fs : List Function} {line : Text} {lines : List Text} {c : Content}
-        {cs : List Content} → Prints p i f line c → PrintEach (suc i) fs lines cs
-        → PrintEach i (f ∷ fs) (line ∷ lines) (c ∷ cs)
+        {cs : List Content} → Prints p i f line c → (under : List Text) → All StandsUnder under
+        → PrintEach (suc i) fs lines cs → PrintEach i (f ∷ fs) (line ∷ under ++ lines) (c ∷ cs)
 
-  -- the text is a line for each function of the program, in order, and the line of the counts behind them
+  -- the text is a line for each function of the program, in order, with what stands under it, and the line of the
+  -- counts behind them
   pub record PrintsReport (text : Text) (r : ReportContent) : Type 0 where
     pub lines : List Text
     pub each : PrintEach 0 p.functions lines r.functions

@@ -13,8 +13,10 @@ use Rattle.pp_modes.specs.Verdicts.{limits_of}
 use Rattle.pp_words.specs.Line.{Line, given_in, is_taken, line_given, line_of}
 use Rattle.pp_words.specs.Command.{values_in}
 use Rattle.pp_words.specs.Number.{number_in, number_of, with_digits, within}
+use Rattle.pp_words.specs.Order.{order_of}
 use Rattle.pp_words.specs.Task.{Given, Mode, Task, asked, has_files, list, listing, make, making, mode_of, numbers_in}
 use Rattle.pp_words.specs.Task.{reads_all, run, running, seed_in, task_in, task_of, verify, verifying}
+use Rattle.pp_words.specs.declared.order.Order.{Order}
 use Rattle.pp_words.specs.declared.task.Numbers.{Numbers}
 
 -- what a test let through
@@ -91,7 +93,7 @@ no_files : (files : List (List ℕ)) → length files ≡ 0 → files ≡ []
 no_files [] h = refl
 no_files (file ∷ files) h = absurd (omega (arith, h))
 
-verify_not_make : {n m : Numbers} {seed : ℕ} → verify n ≡ make seed m → ⊥
+verify_not_make : {o : Order} {n m : Numbers} {seed : ℕ} → verify o n ≡ make seed m → ⊥
 verify_not_make h = cc
 
 list_not_make : {rounds depth seed : ℕ} {m : Numbers} → list rounds depth ≡ make seed m → ⊥
@@ -103,7 +105,8 @@ run_not_make h = cc
 verify_fits : (given : Given) (t : Task) → task_in verifying given ≡ Some t → IsFit (line_with given t)
 verify_fits given t h =
     let fit = fitting verifying given t h in
-    let numbers = mapped verify (numbers_in given) t fit.1 in
+    let order = chained _ (order_of given.order) t fit.1 in
+    let numbers = mapped (verify order.0) (numbers_in given) t order.2 in
     subst (λ u. IsFit (line_with given u)) numbers.2 (record {
       range = numbers_range given numbers.0 numbers.1;
       few = at_most_16 given.files fit.0;

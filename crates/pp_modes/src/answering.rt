@@ -42,7 +42,9 @@ pub fn answer(
     ensures { IfOk result (λ r. AnswersTask program.now (task_told task.entry) (response_of r)) }
 {
     match task {
-        Task::Verify(numbers) => answer_verify(alloc, program, plan, limits_of(numbers)),
+        Task::Verify(order, numbers) => {
+            answer_verify(alloc, program, plan, order, limits_of(numbers))
+        }
         Task::List { rounds, depth } => Ok(Response::Report(
             Status::AllValid,
             list_lines(alloc, program, plan, rounds, depth)?,

@@ -2,7 +2,8 @@
 
 ghost use Rattle.std.specs.Prelude.{◌≡◌, IfOk, length, map, slice_get, string_bytes};
 ghost use Rattle.pp_checks.specs.Plan.{IsPlanOf};
-ghost use Rattle.pp_induct.specs.Reports.{AreLimits};
+ghost use Rattle.pp_induct.specs.Reports.{AreLimits, IsReport};
+ghost use Rattle.pp_induct.specs.Verdicts.{ValidAreGood};
 ghost use Rattle.pp_modes.specs.Responses.{response_of};
 ghost use Rattle.pp_modes.specs.Verdicts as spec;
 
@@ -14,7 +15,9 @@ use pp_induct::{CheckEnd, Limits, Report, Verdict, Why};
 use pp_list::at;
 use pp_print::{Reason, depends_line, invalid_line, open_line, valid_line};
 use pp_prog::{Check, CheckId, Function, FunctionId, Program};
+use pp_turns::{Direction, verify_in_turns};
 use pp_verify::verify;
+use pp_words::Order;
 use std::alloc::Global;
 
 fn reason_of(why: &Why) -> Reason
@@ -151,17 +154,38 @@ fn verdict_report(alloc: Global, program: &Program, report: &Report) -> Result<R
     Ok(Response::Report(status_by(verdicts), lines))
 }
 
-/// What is answered to mode `verify` within these limits.
+/// The report on the program within these limits, whose checks are worked on in this order.
+fn report_of(
+    alloc: Global,
+    program: &Program,
+    plan: &Plan,
+    order: Order,
+    limits: Limits,
+) -> Result<Report, NoMemory>
+    requires plan { IsPlanOf plan.now program.now }
+    requires limits { AreLimits limits }
+    ensures report { IfOk result (λ report. IsReport program.now limits report) }
+    ensures valid { IfOk result (λ report. ValidAreGood program.now report.verdicts) }
+{
+    match order {
+        Order::One => verify(alloc, program, plan, limits),
+        Order::Turns => verify_in_turns(alloc, program, plan, limits, Direction::Forward),
+        Order::Back => verify_in_turns(alloc, program, plan, limits, Direction::Backward),
+    }
+}
+
+/// What is answered to mode `verify` within these limits, whatever the order is.
 pub(crate) fn answer_verify(
     alloc: Global,
     program: &Program,
     plan: &Plan,
+    order: Order,
     limits: Limits,
 ) -> Result<Response, NoMemory>
     requires plan { IsPlanOf plan.now program.now }
     requires limits { AreLimits limits }
     ensures { IfOk result (λ r. spec.AnswersVerify program.now limits (response_of r)) }
 {
-    let report = verify(alloc, program, plan, limits)?;
+    let report = report_of(alloc, program, plan, order, limits)?;
     verdict_report(alloc, program, &report)
 }

@@ -1,6 +1,7 @@
 pub mod Values
 pub mod Pending
 pub mod Lines
+pub mod Heads
 pub mod Refusals
 pub mod Puts
 pub mod Runs

@@ -4,9 +4,9 @@
 //! those on a run, `list` those of a list of checks, `made` the one on functions that were made, `fault` those on
 //! faults of sources, and `refusal` those on why else there is no answer. `put_lines` then puts each line as one piece.
 //! `specs/Values` says how values print, `specs/Lines`, `Runs`, `Listed`, `Made`, `Faults` and `Refusals` what the
-//! bytes of each line are, and `specs/Puts` what lines leave that are put in part. The bytes are a promise to whoever
-//! reads them; how a line is made may change freely. A value prints without recursion on its height: `specs/Pending`
-//! says what is left to print of it.
+//! bytes of each line are, `specs/Heads` which lines stand under others, and `specs/Puts` what lines leave that are put
+//! in part. The bytes are a promise to whoever reads them; how a line is made may change freely. A value prints without
+//! recursion on its height: `specs/Pending` says what is left to print of it.
 #![tactic(auto)]
 
 mod check;

@@ -12,6 +12,7 @@
 //! | `rounds FILE` | how the circuits of rounds compare with the runs | `rounds` |
 //! | `plans FILE` | what the plans of the programs say | `plans` |
 //! | `guess_runs FILE` | whether checks are proved in a round | `guess_runs` |
+//! | `turns FILE` | where checks stand after their turns | `turns` |
 //! | `circuits SOURCE ROUND DEPTH TIMES` | how large the circuits of runs are | `circuits` |
 //! | `guesses SOURCE ROUNDS LEMMAS` | what the proofs of checks take | `guesses` |
 //! | `clauses SOURCE CHECK ROUND` | the clauses of a proof | `clauses` |
@@ -28,6 +29,7 @@ mod plans;
 mod programs;
 mod rounds;
 mod steps;
+mod turns;
 
 use anyhow::Result;
 use pp_bounded_samples::words::word;

@@ -4,7 +4,7 @@ ghost use Rattle.std.specs.Prelude.{◌↔◌, All, IfOk, IsTrue};
 ghost use Rattle.pp_checks.specs.Plan.{IsPlanOf};
 ghost use Rattle.pp_front.specs.Programs.{IsShort};
 
-use crate::{circuits, clauses, coverage, guess_runs, guesses, plans, rounds};
+use crate::{circuits, clauses, coverage, guess_runs, guesses, plans, rounds, turns};
 use anyhow::{Error, Result, anyhow, bail, ensure};
 use pp_case_line::CaseLine;
 use pp_front::{Accepted, Refusal, accept};
@@ -56,6 +56,7 @@ fn tell(
         "rounds" => rounds::compare_all(alloc, words, accepted, out),
         "plans" => Ok(plans::tell_plan(words, accepted, out)),
         "guess_runs" => guess_runs::tell_proved(alloc, words, accepted, out),
+        "turns" => turns::tell_parts(alloc, words, accepted, out),
         "circuits" => circuits::tell_sizes(alloc, words, accepted, out),
         "guesses" => guesses::tell_proofs(alloc, words, accepted, out),
         "clauses" => clauses::tell_clauses(alloc, words, accepted, out),

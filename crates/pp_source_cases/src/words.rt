@@ -4,7 +4,7 @@
 use crate::adding::{push_number, push_word};
 use crate::case::words;
 use pp_case_line::CaseLine;
-use pp_words::{Numbers, Task, WordsFault, read};
+use pp_words::{Numbers, Order, Task, WordsFault, read};
 use std::alloc::Global;
 use std::io;
 
@@ -36,7 +36,10 @@ fn push_asked(out: &mut CaseLine, task: Task, files: &[&str]) {
 
 fn push_task(out: &mut CaseLine, task: Task) {
     match task {
-        Task::Verify(numbers) => push_numbers(out, "verify ", numbers),
+        Task::Verify(order, numbers) => {
+            push_word(out, "verify ", order_word(order));
+            push_numbers(out, " ", numbers)
+        }
         Task::List { rounds, depth } => {
             push_number(out, "list ", rounds);
             push_number(out, " ", depth)
@@ -49,6 +52,14 @@ fn push_task(out: &mut CaseLine, task: Task) {
             push_number(out, "make ", seed);
             push_numbers(out, " ", numbers)
         }
+    }
+}
+
+fn order_word(order: Order) -> &'static str {
+    match order {
+        Order::One => "one",
+        Order::Turns => "turns",
+        Order::Back => "back",
     }
 }
 

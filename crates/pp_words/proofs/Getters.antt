@@ -18,14 +18,15 @@ pub files_of_rows : (found : Found) (id : Text) (o : Option (Bor (List (Bor Text
     → unwrap_or (option_map (λ files. map (λ file. file.now) files.now) o) [] ≡ unwrap_or (all_of id (rows_of found)) []
 files_of_rows found id o e = ap (λ (files : Option (List Text)). unwrap_or files []) (e ∙ raw_values-rows found id)
 
-pub same_given : {m m' r r' d d' l l' g g' n n' f f' s s' : Option (List ℕ)} {fs fs' : List (List ℕ)}
-    → m ≡ m' → r ≡ r' → d ≡ d' → l ≡ l' → g ≡ g' → n ≡ n' → f ≡ f' → s ≡ s' → fs ≡ fs'
+pub same_given : {m m' r r' d d' l l' g g' o o' n n' f f' s s' : Option (List ℕ)} {fs fs' : List (List ℕ)}
+    → m ≡ m' → r ≡ r' → d ≡ d' → l ≡ l' → g ≡ g' → o ≡ o' → n ≡ n' → f ≡ f' → s ≡ s' → fs ≡ fs'
     → ◌≡◌ {A = Given} (record {
       mode = m;
       rounds = r;
       depth = d;
       lemmas = l;
       gates = g;
+      order = o;
       function = n;
       fuel = f;
       seed = s;
@@ -37,9 +38,10 @@ pub same_given : {m m' r r' d d' l l' g g' n n' f f' s s' : Option (List ℕ)} {
       depth = d';
       lemmas = l';
       gates = g';
+      order = o';
       function = n';
       fuel = f';
       seed = s';
       files = fs';
     })
-same_given em er ed el eg en ef es efs = cc
+same_given em er ed el eg eo en ef es efs = cc

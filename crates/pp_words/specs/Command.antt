@@ -28,9 +28,9 @@ with_run app = with_rule (with_rule app (option_rule (codes "function"))) (optio
 
 unfoldable pub command : App
 command =
-    with_rule (with_rule (with_run (with_limits
-    (with_rule (bare (new_app (codes "pureproof"))) (option_rule (codes "mode")))))
-    (option_rule (codes "seed"))) file_rule
+    with_rule (with_rule (with_run (with_rule (with_limits
+    (with_rule (bare (new_app (codes "pureproof"))) (option_rule (codes "mode"))))
+    (option_rule (codes "order")))) (option_rule (codes "seed"))) file_rule
 
 -- a word `-` stands before `--`
 abbrev pub has_lone_hyphen : List Text → Bool

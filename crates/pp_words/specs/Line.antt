@@ -21,6 +21,7 @@ given_in rows = record {
   depth = first_of (codes "depth") rows;
   lemmas = first_of (codes "lemmas") rows;
   gates = first_of (codes "gates") rows;
+  order = first_of (codes "order") rows;
   function = first_of (codes "function") rows;
   fuel = first_of (codes "fuel") rows;
   seed = first_of (codes "seed") rows;

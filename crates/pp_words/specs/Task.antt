@@ -5,10 +5,12 @@ use Rattle.std.specs.List.{list_all, list_any}
 use Rattle.pp_limits.specs.declared.TheConstants.{DEPTH, FUEL, GATES, LEAST_SEED, LEMMAS, MOST_SEED, MOST_SOURCES}
 use Rattle.pp_limits.specs.declared.TheConstants.{ROUNDS}
 use Rattle.pp_words.specs.Number.{number_in, number_of}
+use Rattle.pp_words.specs.Order.{order_of}
+use Rattle.pp_words.specs.declared.order.Order.{Order}
 use Rattle.pp_words.specs.declared.task.Numbers.{Numbers}
 
 pub data Task : Type 0 where
-  verify : Numbers → Task
+  verify : Order → Numbers → Task
   list : (rounds depth : ℕ) → Task
   run : (function : List ℕ) → (fuel : ℕ) → Task
   make : (seed : ℕ) → Numbers → Task
@@ -20,6 +22,7 @@ pub record Given : Type 0 where
   pub depth : Option (List ℕ)
   pub lemmas : Option (List ℕ)
   pub gates : Option (List ℕ)
+  pub order : Option (List ℕ)
   pub function : Option (List ℕ)
   pub fuel : Option (List ℕ)
   pub seed : Option (List ℕ)
@@ -54,6 +57,7 @@ settings =
     ∷ setting (λ given. given.depth) (verifying ∷ listing ∷ making ∷ [])
     ∷ setting (λ given. given.lemmas) (verifying ∷ making ∷ [])
     ∷ setting (λ given. given.gates) (verifying ∷ making ∷ [])
+    ∷ setting (λ given. given.order) (verifying ∷ [])
     ∷ setting (λ given. given.function) (running ∷ [])
     ∷ setting (λ given. given.fuel) (running ∷ [])
     ∷ setting (λ given. given.seed) (making ∷ [])
@@ -92,7 +96,8 @@ seed_in given = option_and_then (number_in LEAST_SEED MOST_SEED) given.seed
 -- What is asked in a mode. In mode `run` the function's name is required, and looked up later; in mode `make` the seed
 -- is.
 abbrev pub asked : Mode → Given → Option Task
-asked verifying given = option_map verify (numbers_in given)
+asked verifying given =
+    option_and_then (λ order. option_map (verify order) (numbers_in given)) (order_of given.order)
 asked listing given =
     option_and_then (λ rounds. option_map (list rounds) (number_of DEPTH given.depth)) (number_of ROUNDS given.rounds)
 asked running given =

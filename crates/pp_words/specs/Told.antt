@@ -16,7 +16,7 @@ abbrev pub texts : List (Bor (List ℕ)) → List (List ℕ)
 texts = map (λ word. word.now)
 
 abbrev pub task_told : code_task.Task → Task
-task_told (task.Verify numbers) = verify numbers
+task_told (task.Verify order numbers) = verify order numbers
 task_told (task.List rounds depth) = list rounds depth
 task_told (task.Run function fuel) = run function.now fuel
 task_told (task.Make seed numbers) = make seed numbers
@@ -34,6 +34,7 @@ given_told given = record {
   depth = option_map (λ text. text.now) given.depth;
   lemmas = option_map (λ text. text.now) given.lemmas;
   gates = option_map (λ text. text.now) given.gates;
+  order = option_map (λ text. text.now) given.order;
   function = option_map (λ text. text.now) given.function;
   fuel = option_map (λ text. text.now) given.fuel;
   seed = option_map (λ text. text.now) given.seed;

@@ -67,6 +67,7 @@ fn command<'a>(alloc: Global) -> Result<Command<'a>, NoMemory>
 {
     let command = with_option(alloc, bare(alloc), "mode")?;
     let command = with_limits(alloc, command)?;
+    let command = with_option(alloc, command, "order")?;
     let command = with_run(alloc, command)?;
     let command = with_option(alloc, command, "seed")?;
     with_files(alloc, command)

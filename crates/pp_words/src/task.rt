@@ -8,6 +8,7 @@ ghost use Rattle.pp_words.specs.Told.{given_told, mode_told, task_told};
 
 use crate::given::Given;
 use crate::number::{number, number_of};
+use crate::order::{Order, order_of};
 use pp_limits::{DEPTH, FUEL, GATES, LEAST_SEED, LEMMAS, MOST_SEED, MOST_SOURCES, ROUNDS};
 
 /// How far functions are verified.
@@ -26,8 +27,8 @@ pub struct Numbers {
 /// What is asked of the program.
 #[derive(Clone, Copy, Debug, PartialEq, Eq)]
 pub enum Task<'a> {
-    /// Verify each function.
-    Verify(Numbers),
+    /// Verify each function: in which order its checks are worked on, and how far.
+    Verify(Order, Numbers),
     /// List each check with the estimate of a round.
     List {
         /// The round, 0 to 12.
@@ -89,13 +90,14 @@ fn reads_all(mode: Mode, given: &Given) -> bool
 {
     let round = given.rounds.is_none() && given.depth.is_none();
     let limits = given.lemmas.is_none() && given.gates.is_none();
+    let order = given.order.is_none();
     let run = given.function.is_none() && given.fuel.is_none();
     let seed = given.seed.is_none();
     match mode {
         Mode::Verify => run && seed,
-        Mode::List => limits && run && seed,
-        Mode::Run => round && limits && seed,
-        Mode::Make => run,
+        Mode::List => limits && order && run && seed,
+        Mode::Run => round && limits && order && seed,
+        Mode::Make => order && run,
     }
 }
 
@@ -113,7 +115,7 @@ fn numbers_in(given: &Given) -> Option<Numbers>
 fn verify<'a>(given: &Given<'a>) -> Option<Task<'a>>
     ensures { option_map task_told result ≡ spec.asked verifying (given_told given.now) }
 {
-    Some(Task::Verify(numbers_in(given)?))
+    Some(Task::Verify(order_of(given.order)?, numbers_in(given)?))
 }
 
 fn list<'a>(given: &Given<'a>) -> Option<Task<'a>>

@@ -1,9 +1,10 @@
 -- When the program ends with which status.
 use Rattle.std.proofs.Common.{◌≡◌, ◌⊎◌, ⊎_elim, inl, inr, ◌<◌, ◌≤◌, ℕ, zero, suc, List, ◌∷◌, length, refl}
-use Rattle.std.proofs.Common.{sym, ap, ◌∙◌, subst, arith}
-use Rattle.std.specs.Prelude.{Option, None, Some, IfSome, Contains, slice_get}
+use Rattle.std.proofs.Common.{not, sym, ap, ◌∙◌, subst, arith}
+use Rattle.std.specs.Prelude.{Bool, Option, None, Some, IfSome, Contains, slice_get}
 use Rattle.std.specs.List.{concat}
 use Rattle.std.proofs.lemmas.List.Elements.{All-contains, Contains-get_or}
+use Rattle.std.proofs.lemmas.List.Sums.{count_by-le-length, length-filter}
 use Rattle.std.proofs.lemmas.Option.{get_or_from_slice_get, none-some, same_Some, slice_get_within}
 use Rattle.pp_answers.specs.Answers as answer
 use Rattle.pp_answers.specs.Answers.{Answers, IsAccepted, sources_of}
@@ -19,10 +20,12 @@ use Rattle.pp_modes.specs.Responses.{Response, lines_in, report, status_in}
 use Rattle.pp_modes.specs.declared.status.Status.{Status}
 use Rattle.pp_modes.specs.declared.status.Status.TheVariants as status
 use Rattle.pp_modes.specs.Verdicts.{status_for}
+use Rattle.pp_print.specs.Heads.{heads, is_indented}
 use Rattle.pp_prog.specs.declared.program.Program.{Program}
 use Rattle.pp_text.specs.Limits.{most_bytes}
 use Rattle.pp_words.specs.Line.{Line, line_of}
 use Rattle.pp_words.specs.Task.{Task}
+use Rattle.pp_words.specs.declared.order.Order.{Order}
 use Rattle.pureproof.specs.Dues.{AreFetched, IsDue, answered, no_line, no_memory, too_long, unread}
 use Rattle.pureproof.specs.Ends as ends
 use Rattle.pureproof.specs.Ends.{Comes, EachPrinted, Ends, Excuses, Hold, Holds, Reports, Run, Verifies, err_failed}
@@ -118,8 +121,8 @@ on_counts zero zero zero = all_valid
 verdict_status : OneLineEach → MadeReadBack → (task : Task) → IsVerify task → IsInRange task → (sources : List Text)
     (q : Response) → Answers task sources q → (p : Program) → IsAccepted (sources_of task sources) p
     → IsOnVerdicts (status_in q)
-verdict_status each made task (is_verify limits) range sources q answers p is =
-    is_verdict p.functions (lines_in q) (status_in q) (each limits sources q answers p is).status
+verdict_status each made task (is_verify order limits) range sources q answers p is =
+    is_verdict p.functions (heads (lines_in q)) (status_in q) (each order limits sources q answers p is).status
 verdict_status each made task (is_make seed limits) range sources q answers p is =
     let read = made seed limits sources q range.1 answers p is in
     subst IsOnVerdicts (sym read.status) (on_counts _ _ _)
@@ -165,8 +168,15 @@ pub is_accepted : (task : Task) (sources : List Text) (q : Response) → Answers
 is_accepted task sources q (answer.refused a) is = absurd (other status.Refused status.Refused refl is (omega arith))
 is_accepted task sources q (answer.accepted p is_program a) is = (p, is_program)
 
+-- there are no more heads than lines
+heads_few : (lines : List Text) → length (heads lines) ≤ length lines
+heads_few lines =
+    let passes : Text → Bool = λ line. not (is_indented line) in
+    subst (λ n. n ≤ length lines) (sym (length-filter passes lines)) (count_by-le-length passes lines)
+
 module _ (each : OneLineEach) (IsTrue : Limits → Claim) (always : IsAlwaysTrue IsTrue) (run : Run) (line : Line)
-    (limits : Limits) (words : line_of run.words ≡ Some line) (task : line.task ≡ verify_within limits) where
+    (order : Order) (limits : Limits) (words : line_of run.words ≡ Some line)
+    (task : line.task ≡ verify_within order limits) where
   reports : (q : Response) (s : Status) → IsDue run.words run.shelf q → IsPrinted run q s → IsOnVerdicts s
       → Reports run line s (IsTrue limits)
   reports q s (no_line none calm) shown is = absurd (none-some _ (sym none ∙ words))
@@ -176,23 +186,25 @@ module _ (each : OneLineEach) (IsTrue : Limits → Claim) (always : IsAlwaysTrue
   reports q s (answered wanted sources at fetched answers) shown is =
       let same = one_line run.words wanted line at words in
       let due = subst (λ (l : Line). Answers l.task sources q) same answers in
-      let here : Answers (verify_within limits) sources q = subst (λ t. Answers t sources q) task due in
-      let program = is_accepted (verify_within limits) sources q here (subst IsOnVerdicts shown.same is) in
-      let size = (each limits sources q here program.0 program.1).size in
+      let here : Answers (verify_within order limits) sources q = subst (λ t. Answers t sources q) task due in
+      let program = is_accepted (verify_within order limits) sources q here (subst IsOnVerdicts shown.same is) in
+      let size = (each order limits sources q here program.0 program.1).size in
+      let some : 0 < length (lines_in q) = let few = heads_few (lines_in q) in omega (arith, size, few) in
       record {
         sources = sources;
         fetched = subst (λ l. AreFetched run.shelf l sources) same fetched;
         program = program.0;
         accepted = program.1;
         lines = lines_in q;
-        answers = subst (Answers line.task sources) (shown.reports (omega (arith, size))) due;
-        printed = shown.all (omega (arith, size));
-        one_each = λ p there. subst (AreLinesOf p (lines_in q)) (sym shown.same) (each limits sources q here p there);
-        claims = always limits sources q here;
+        answers = subst (Answers line.task sources) (shown.reports some) due;
+        printed = shown.all some;
+        one_each = λ p there.
+            subst (AreLinesOf p (heads (lines_in q))) (sym shown.same) (each order limits sources q here p there);
+        claims = always order limits sources q here;
       }
 
 pub each_printed : OneLineEach → (IsTrue : Limits → Claim) → IsAlwaysTrue IsTrue → (run : Run) (s : Status) → Ends run s
     → EachPrinted IsTrue run s
-each_printed each IsTrue always run s e line limits words task is =
-    reports each IsTrue always run line limits words task e.response s e.due
+each_printed each IsTrue always run s e line order limits words task is =
+    reports each IsTrue always run line order limits words task e.response s e.due
     (is_printed run e.response s e.shows is) is

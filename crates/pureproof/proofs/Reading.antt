@@ -17,8 +17,8 @@ use Rattle.pureproof.proofs.Held.{as_many}
 -- the lines that `out` took are those of an answer to short sources, within limits in their ranges
 pub reads_back : TextReadBack → (IsTrue : Limits → Claim) → (run : Run) (s : Status) → EachPrinted IsTrue run s
     → TextIsReadBack run s
-reads_back law IsTrue run s each line limits words task is =
-    let r = each line limits words task is in
+reads_back law IsTrue run s each line order limits words task is =
+    let r = each line order limits words task is in
     let fits = line_fits run.words line words in
     let many = as_many r.fetched.held in
     let few = fits.few in
@@ -31,6 +31,6 @@ reads_back law IsTrue run s each line limits words task is =
       accepted = r.accepted;
       text = concat r.lines;
       printed = r.printed;
-      says = law limits r.sources (report s r.lines) range
+      says = law order limits r.sources (report s r.lines) range
           (record { few = omega (arith, many, few); short = r.fetched.short }) answers;
     }

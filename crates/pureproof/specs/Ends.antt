@@ -10,9 +10,11 @@ use Rattle.pp_made.specs.Made.{made_source}
 use Rattle.pp_modes.specs.Responses.{Response, report, status_in}
 use Rattle.pp_modes.specs.declared.status.Status.{Status}
 use Rattle.pp_modes.specs.declared.status.Status.TheVariants as status
+use Rattle.pp_print.specs.Heads.{heads}
 use Rattle.pp_prog.specs.declared.program.Program.{Program}
 use Rattle.pp_seam.specs.Faults.{Rose}
 use Rattle.pp_words.specs.Line.{Line, line_of}
+use Rattle.pp_words.specs.declared.order.Order.{Order}
 use Rattle.pureproof.specs.Dues.{AreFetched, IsDue}
 use Rattle.pureproof.specs.Fetched.{AreShort, AsksFirst, FailsAt, FetchesNothing, Shelf, Text}
 use Rattle.pureproof.specs.Shown.{Shows, Took, TookAll}
@@ -64,8 +66,9 @@ abbrev pub Verifies : Run → Status → Type 0
 Verifies run s = (line : Line) (sources : List Text) (p : Program) → Holds run line sources → IsVerify line.task
     → IsAccepted (sources_of line.task sources) p → IsOnVerdicts s ⊎ Excuses run s
 
--- `out` took the lines of an answer to the fetched sources, which are accepted: one for each function, in program
--- order, and one more behind them. The status is by the lines of the functions, and the claim is true of each of these.
+-- `out` took the lines of an answer to the fetched sources, which are accepted. Of those that stand under no other
+-- there is one for each function, in program order, and one more behind them. The status is by the lines of the
+-- functions, and the claim is true of each of these.
 pub record Reports (run : Run) (line : Line) (s : Status) (claim : Claim) : Type 0 where
   pub sources : List Text
   pub fetched : AreFetched run.shelf line sources
@@ -74,13 +77,13 @@ pub record Reports (run : Run) (line : Line) (s : Status) (claim : Claim) : Type
   pub lines : List Text
   pub answers : Answers line.task sources (report s lines)
   pub printed : TookAll run.out (concat lines)
-  pub one_each : (p : Program) → IsAccepted sources p → AreLinesOf p lines s
-  pub claims : EachLine sources lines claim
+  pub one_each : (p : Program) → IsAccepted sources p → AreLinesOf p (heads lines) s
+  pub claims : EachLine sources (heads lines) claim
 
 -- so it is where mode `verify` ends with a status on verdicts
 abbrev pub EachPrinted : (Limits → Claim) → Run → Status → Type 0
-EachPrinted claim run s = (line : Line) (limits : Limits) → line_of run.words ≡ Some line
-    → line.task ≡ verify_within limits → IsOnVerdicts s → Reports run line s (claim limits)
+EachPrinted claim run s = (line : Line) (order : Order) (limits : Limits) → line_of run.words ≡ Some line
+    → line.task ≡ verify_within order limits → IsOnVerdicts s → Reports run line s (claim limits)
 
 -- each function that is printed as valid is good
 abbrev pub ValidLinesAreTrue : Run → Status → Type 0
@@ -108,8 +111,8 @@ pub record ReadsBack (run : Run) (line : Line) (limits : Limits) : Type 0 where
 
 -- so it is where mode `verify` ends with a status on verdicts
 abbrev pub TextIsReadBack : Run → Status → Type 0
-TextIsReadBack run s = (line : Line) (limits : Limits) → line_of run.words ≡ Some line
-    → line.task ≡ verify_within limits → IsOnVerdicts s → ReadsBack run line limits
+TextIsReadBack run s = (line : Line) (order : Order) (limits : Limits) → line_of run.words ≡ Some line
+    → line.task ≡ verify_within order limits → IsOnVerdicts s → ReadsBack run line limits
 
 -- Nothing was fetched, `out` took a text, and this says one thing of the program of the source that is made from the
 -- seed: how many functions it has, and how many of them have each verdict; and all this is true.

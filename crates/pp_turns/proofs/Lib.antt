@@ -1,0 +1,6 @@
+mod Written
+mod Naming
+mod FirstTurns
+mod OneTurn
+mod EndLists
+mod Passing
