@@ -356,5 +356,33 @@ for k in 10 30 54; do
     settles "$k branches on one sum"
 done
 
+# Claims whose calls are unfolded on demand and that stay open: so many are tried in vain, and no more.
+hold 500000 30 8192
+lists='  sealed abstract class List
+  case class Cons(head: Int, tail: List) extends List
+  case class Nil() extends List
+  def append(l: List, m: List): List = {
+    decreases(l)
+    l match {
+      case Nil() => m
+      case Cons(h, t) => Cons(h, append(t, m))
+    }
+  }
+  def reverse(l: List): List = {
+    decreases(l)
+    l match {
+      case Nil() => Nil()
+      case Cons(h, t) => append(reverse(t), Cons(h, Nil()))
+    }
+  }'
+for k in 20 200; do
+    put 'object A {' "$lists" "$(for ((n = 1; n <= k; n++)); do
+        printf '%s\n' "  def claim$n(l: List, m: List): Boolean = {" '    decreases(l)' '    l match {' \
+            '      case Nil() => reverse(append(m, l)) == reverse(m)' '      case Cons(_, t) =>' \
+            "        claim$n(t, m) && reverse(append(l, m)) == append(reverse(m), reverse(l))" '    }' '  }.holds'
+    done)" '}'
+    settles "$k claims that stay open"
+done
+
 printf '%s passed, %s failed\n' "$passed" "$failed"
 [ "$failed" -eq 0 ]

@@ -27,6 +27,19 @@ true_value x = by (out-Value x) refl
     by (layer.Bool b) e h = sym (roll-out-Value x) ∙ ap roll-Value e ∙ rolls-Bool b ∙ ap Truth h
     by (layer.Tree c fields) e h = absurd (cc)
 
+pub not_true : (b : Bool) → b ≡ true → b ≡ false → ⊥
+not_true true h g = absurd (cc)
+not_true false h g = absurd (cc)
+
+-- a step that isn't as it says where two are equal
+pub differ_where : (x y : Value) (b p : Bool) → b ≡ same_truth p (equal x y) → b ≡ not p → equal x y ≡ false
+differ_where x y b p says is = by p (equal x y) (sym says ∙ is)
+  where
+    by : (p e : Bool) → same_truth p e ≡ not p → e ≡ false
+    by true e h = h
+    by false true h = absurd (cc)
+    by false false h = refl
+
 pub both_true : (x y : Value) → bit x ≡ true → bit y ≡ true → equal x y ≡ true
 both_true x y h g = same_equal x y (true_value x h ∙ sym (true_value y g))
 
@@ -75,3 +88,27 @@ module _ (ss : List Step) (v : Valuation ss) where
       let Has : Sort → Type 0 = λ s. has_sort v.types.ctors (v.values k) s ≡ true in
       let b = bool_value v.types.ctors (v.values k) (subst Has e (v.sorted k within)) in
       b.is ∙ ap Truth (sym (bit_truth b.truth) ∙ sym (ap bit b.is) ∙ h)
+
+  truth_at : (k : ℕ) → v.sorts k ≡ sort.Bool → k < length ss → (t : Bool) × (v.values k ≡ Truth t)
+  truth_at k e within =
+      let Has : Sort → Type 0 = λ s. has_sort v.types.ctors (v.values k) s ≡ true in
+      let b = bool_value v.types.ctors (v.values k) (subst Has e (v.sorted k within)) in
+      (b.truth, b.is)
+
+  -- of two truth values that differ each is what the other isn't
+  pub opposite : (a b : ℕ) → v.sorts a ≡ sort.Bool → v.sorts a ≡ v.sorts b → a < length ss → b < length ss
+      → equal (v.values a) (v.values b) ≡ false → bit (v.values b) ≡ not (bit (v.values a))
+  opposite a b is same left right differ =
+      let x = truth_at a is left in
+      let y = truth_at b (sym same ∙ is) right in
+      ap bit y.1 ∙ bit_truth y.0 ∙ turned x.0 y.0 (unlike x.0 y.0 x.1 y.1) ∙ ap not (sym (ap bit x.1 ∙ bit_truth x.0))
+    where
+      unlike : (p q : Bool) → v.values a ≡ Truth p → v.values b ≡ Truth q → p ≡ q → ⊥
+      unlike p q e f h =
+          not_true (equal (v.values a) (v.values b)) (same_equal _ _ (e ∙ ap Truth h ∙ sym f)) differ
+
+      turned : (p q : Bool) → (p ≡ q → ⊥) → q ≡ not p
+      turned true true h = absurd (h refl)
+      turned true false h = refl
+      turned false true h = refl
+      turned false false h = absurd (h refl)

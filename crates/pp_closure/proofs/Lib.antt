@@ -12,3 +12,6 @@ mod Commuting
 mod AddedNumbers
 mod ComparedSums
 mod LessNumbers
+mod Fielded
+mod Answered
+mod GoingDown

@@ -13,6 +13,10 @@ pub if_some : {A : Type 0} (o : Option A) (P Q : A → Type 0) → ((x : A) → 
 if_some None P Q go h = tt
 if_some (Some x) P Q go h = go x h
 
+pub each_some : {A : Type 0} (o : Option A) (P : A → Type 0) → ((x : A) → o ≡ Some x → P x) → IfSome o P
+each_some None P go = tt
+each_some (Some x) P go = go x refl
+
 pub of_some : {A : Type 0} (o : Option A) (P : A → Type 0) (x : A) → IfSome o P → o ≡ Some x → P x
 of_some {A} o P x h e = let Q : Option A → Type 0 = λ q. IfSome q P in subst Q e h
 
@@ -105,3 +109,28 @@ same_said t u false false x y e f g = e ∙ ap not g ∙ sym f
 pub turned_said : (t u p q : Bool) (a b : ℤ) → t ≡ same_truth p (int_lt a b) → u ≡ same_truth q (int_lt b a) → t ≡ p
     → u ≡ not q
 turned_said t u p q a b e f g = said_not_less u q (int_lt b a) f (not_both a b (is_said t p (int_lt a b) e g))
+
+-- a number that is at least another one, and isn't that, is more
+pub past_low : (w n : ℤ) → n ≤ℤ w → (w ≡ n → ⊥) → (n +ℤ pos 1) ≤ℤ w
+past_low w n least differ = by (int_lt n w) refl
+  where
+    not_less : int_lt w n ≡ false
+    not_less = grind (arith, ints)
+
+    by : (b : Bool) → int_lt n w ≡ b → (n +ℤ pos 1) ≤ℤ w
+    by true h = one_more n w h
+    by false h = absurd (differ (neither_less w n not_less h))
+
+-- and so with at most and less
+pub past_high : (w n : ℤ) → w ≤ℤ n → (w ≡ n → ⊥) → w ≤ℤ (n -ℤ pos 1)
+past_high w n most differ = by (int_lt w n) refl
+  where
+    not_less : int_lt n w ≡ false
+    not_less = grind (arith, ints)
+
+    one_less : int_lt w n ≡ true → w ≤ℤ (n -ℤ pos 1)
+    one_less h = grind (arith, ints)
+
+    by : (b : Bool) → int_lt w n ≡ b → w ≤ℤ (n -ℤ pos 1)
+    by true h = one_less h
+    by false h = absurd (differ (neither_less w n h not_less))

@@ -145,13 +145,13 @@ module _ (ss : List Step) (v : Valuation ss) where
   says_op k op a b at = tt
 
   -- two numbers that are one make one value
-  same_numbers : (x y : Value) (m n : ℤ) → out-Value x ≡ layer.Int m → out-Value y ≡ layer.Int n → whole x ≡ whole y
+  pub same_numbers : (x y : Value) (m n : ℤ) → out-Value x ≡ layer.Int m → out-Value y ≡ layer.Int n → whole x ≡ whole y
       → x ≡ y
   same_numbers x y m n e f h =
       let i : m ≡ n = sym (ap whole_in e) ∙ h ∙ ap whole_in f in
       sym (roll-out-Value x) ∙ ap roll-Value (e ∙ ap layer.Int i ∙ sym f) ∙ roll-out-Value y
 
-  compares : (k : ℕ) (o : Order) → Says v.values k (Some o) → IsInt o.low → IsInt o.high → o.low < length ss
+  pub compares : (k : ℕ) (o : Order) → Says v.values k (Some o) → IsInt o.low → IsInt o.high → o.low < length ss
       → o.high < length ss → Compares v.values k o
   compares k o says l h ll lh = record {
     says = says ∙ ap (same_truth o.positive)

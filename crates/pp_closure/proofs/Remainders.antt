@@ -1,6 +1,6 @@
 -- What is known of remainders.
 use Rattle.std.proofs.Common.{◌≡◌, ◌<◌, ℕ, zero, suc, false, Ok, Some, ap, subst, sym, ◌∙◌, arith}
-use Rattle.std.specs.Prelude.{List, length, slice_get}
+use Rattle.std.specs.Prelude.{List, Option, length, slice_get}
 use Rattle.std.specs.Int.{w32}
 use Rattle.std.specs.Int.RustNames.{int_rem}
 use Rattle.std.proofs.lemmas.Int.{ints}
@@ -20,11 +20,12 @@ use Rattle.pp_eval.specs.Part.{and_then}
 use Rattle.pp_steps.specs.declared.step.Step.{Step}
 use Rattle.pp_steps.specs.declared.step.Step.TheVariants as steps
 use Rattle.pp_steps.specs.Meaning.{applied, value_or}
-use Rattle.pp_closure.specs.Order.{Leaves}
+use Rattle.pp_closure.specs.Order.{DividesBelow, Leaves}
+use Rattle.pp_closure.specs.Steps.{divisor_in}
 use Rattle.pp_closure.specs.Sums.{whole}
 use Rattle.pp_closure.specs.Valuation.{Valuation}
 use Rattle.pp_closure.proofs.Totals.{sorted_int, sorted_word, whole_int}
-use lib.IntN.{ℤ, pos, negsuc}
+use lib.IntN.{ℤ, pos, negsuc, ◌+ℤ◌}
 use lib.Signed.{◌<ℤ◌, ◌≤ℤ◌}
 
 below : (a b : ℤ) → pos 0 <ℤ b → int_rem a b <ℤ b
@@ -84,3 +85,19 @@ module _ (ss : List Step) (v : Valuation ss) (k a b : ℕ) where
         left = sorted_word v.types.ctors (v.values a) (v.sorts a) (v.sorted a la);
         right = sorted_word v.types.ctors (v.values b) (v.sorts b) (v.sorted b lb);
       }
+
+  divides_below : slice_get ss k ≡ Some (steps.Binary Rem a b) → DividesBelow v.values b k
+  divides_below at = let r = remainder_at at in record { divisor = r.right; below = r.leaves.below }
+
+-- the step is a remainder by the number that is its divisor
+pub divisor_is : (ss : List Step) (v : Valuation ss) (k b : ℕ) (o : Option Step) → slice_get ss k ≡ o
+    → divisor_in o ≡ Some b → DividesBelow v.values b k
+divisor_is ss v k b (Some (steps.Binary Rem a c)) at is =
+    subst (λ d. DividesBelow v.values d k) (same_Some c b is) (divides_below ss v k a c at)
+divisor_is ss v k b o at is = absurd (cc)
+
+pub remainder_apart : (low b r : ℤ) → pos 0 <ℤ low → low ≤ℤ b → (pos 0 <ℤ b → r <ℤ b) → (r +ℤ pos 1) ≤ℤ b
+remainder_apart low b r positive least below =
+    let less : pos 0 <ℤ b = omega (arith, ints, positive, least) in
+    let h = below less in
+    omega (arith, ints, h)

@@ -4,3 +4,5 @@ pub mod Keeps
 pub mod Order
 pub mod Steps
 pub mod Sums
+pub mod Calls
+pub mod Refuted

@@ -52,6 +52,11 @@ Ordered ρ k (Some o) = Compares ρ k o
 abbrev pub Apart : Values → ℕ → ℤ → ℕ → Type 0
 Apart ρ low n high = (whole (ρ low) +ℤ n) ≤ℤ whole (ρ high)
 
+-- where the divisor is a positive number, the remainder, which is the value of step r, is less
+pub record DividesBelow (ρ : Values) (b r : ℕ) : Type 0 where
+  pub divisor : IsWord w32 (whole (ρ b))
+  pub below : pos 0 <ℤ whole (ρ b) → whole (ρ r) <ℤ whole (ρ b)
+
 -- of a natural number a it is known that r is one too, and no greater
 pub record Reduces (a r : ℤ) : Type 0 where
   pub natural : pos 0 ≤ℤ a → pos 0 ≤ℤ r

@@ -7,7 +7,7 @@ use crate::facts::Facts;
 use crate::news::{MOST_NEWS, News};
 use pp_list::{Items, at};
 use pp_prog::{BinaryOp, UnaryOp};
-use pp_steps::Step;
+use pp_steps::{OpenCall, Step};
 use std::alloc::Global;
 
 /// The place of no user.
@@ -15,10 +15,6 @@ const NONE: usize = usize::MAX;
 
 /// Over how many sums a change is followed: of a sum no more parts than these are looked at.
 const DEEPEST_SUM: u32 = 32;
-
-/// How much work is done at most, where to mark a step as due is one unit. No option bounds this work, so the limit has
-/// to: it is some tenths of a second.
-const MOST_WORK: u64 = 10_000_000;
 
 /// The work to let a step say what follows, and to let one that says whether two are equal: two numbers are compared as
 /// sums, of up to 32 terms and 96 replacements.
@@ -79,8 +75,9 @@ pub(crate) struct Agenda {
 }
 
 impl Agenda {
-    /// All steps are due. The only error is want of memory.
-    pub(crate) fn new(alloc: Global, all: &[Step]) -> Result<Agenda, NoMemory>
+    /// All steps are due, and so much work may be done, where to mark a step as due is one unit. The only error is want of
+    /// memory.
+    pub(crate) fn new(alloc: Global, all: &[Step], left: u64) -> Result<Agenda, NoMemory>
         requires { length all.now ≤ 2 ^ 32 }
     {
         let mut agenda = Agenda {
@@ -92,7 +89,7 @@ impl Agenda {
             followed: Items::new(alloc),
             news: 0,
             leads: Vec::new(alloc),
-            left: MOST_WORK,
+            left,
         };
         for step in all {
             agenda.due.push(true)?;
@@ -118,6 +115,12 @@ impl Agenda {
                 self.add_two(*a, *b, number)
             }
             Step::Construct(_, fields) => self.add_all(fields.as_slice(), number),
+            Step::GoesDown(a, b) => self.add_two(*a, *b, number),
+            Step::HasAnswer(call) => self.add_call(call, number),
+            Step::Answer(call) => {
+                self.add(number.saturating_sub(1), number)?;
+                self.add_call(call, number)
+            }
             _ => Ok(()),
         }
     }
@@ -125,6 +128,12 @@ impl Agenda {
     fn add_two(&mut self, a: u32, b: u32, user: u32) -> Result<(), NoMemory> {
         self.add(a, user)?;
         self.add(b, user)
+    }
+
+    /// What is known of an answer hangs on whether the call is reached, and on its arguments.
+    fn add_call(&mut self, call: &OpenCall, user: u32) -> Result<(), NoMemory> {
+        self.add(call.reach, user)?;
+        self.add_all(call.args.as_slice(), user)
     }
 
     fn add_all(&mut self, operands: &[u32], user: u32) -> Result<(), NoMemory> {
@@ -187,6 +196,11 @@ impl Agenda {
     pub(crate) fn go_over(&mut self) {
         let steps = self.due.len() as u64;
         self.spend(steps / 2);
+    }
+
+    /// How much work may still be done.
+    pub(crate) fn left(&self) -> u64 {
+        self.left
     }
 
     /// Whether no work is left to do.

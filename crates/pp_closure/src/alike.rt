@@ -10,12 +10,13 @@ ghost use Rattle.pp_closure.specs.Steps.{made_of_two};
 ghost use Rattle.pp_closure.specs.Valuation.{Valuation};
 
 use crate::NoMemory;
+use crate::calls::{answered_at, are_had_alike, ask_alike};
 use crate::facts::Facts;
 use crate::operators::{commutes, is_one, is_one_unary, number_of, unary_number};
 use crate::seen::{Deed, Seen};
 use pp_list::at;
 use pp_prog::BinaryOp;
-use pp_steps::Step;
+use pp_steps::{OpenCall, Step};
 
 /// The step has the value of another one that was seen to do the same. The only error is want of memory.
 pub(crate) fn learn_alike(
@@ -27,7 +28,7 @@ pub(crate) fn learn_alike(
 ) -> Result<(), NoMemory>
     ensures { OnOk result (Keeps all.now facts.old facts.new) }
 {
-    if let Some(deed) = deed_of(facts, step) {
+    if let Some(deed) = deed_of(facts, all, number, step) {
         let before = seen.note(deed, number)?;
         learn_same(facts, all, number, before);
     }
@@ -46,24 +47,53 @@ fn learn_same(facts: &mut Facts, all: &[Step], number: u32, other: Option<u32>)
 }
 
 /// What the step does, where it is worth the while to look for another one that does it.
-fn deed_of(facts: &Facts, step: &Step) -> Option<Deed> {
+fn deed_of(facts: &Facts, all: &[Step], number: u32, step: &Step) -> Option<Deed> {
     match step {
         Step::Not(a) => Some(Deed::Not(facts.root(*a))),
         Step::Unary(op, a) => Some(Deed::Unary(unary_number(*op), facts.root(*a))),
         Step::Binary(op, a, b) => Some(deed_of_two(*op, facts.root(*a), facts.root(*b))),
-        Step::Construct(ctor, fields) => match (
-            fields.as_slice().first(),
-            fields.as_slice().last(),
-        ) {
-            (Some(first), Some(last)) => {
-                Some(Deed::Construct(ctor.0, facts.root(*first), facts.root(*last)))
-            }
-            _ => None,
-        },
+        Step::Construct(ctor, fields) => {
+            Some(Deed::Construct(ctor.0, mark_of(facts, fields.as_slice())))
+        }
         Step::IsCtor(ctor, _, a) => Some(Deed::Test(ctor.0, facts.root(*a))),
         Step::CtorField(ctor, place, a) => Some(Deed::Field(ctor.0, *place, facts.root(*a))),
+        Step::HasAnswer(call) => deed_of_having(facts, call),
+        Step::Answer(_) => deed_of_answer(facts, all, number),
         _ => None,
     }
+}
+
+/// What a step does that tells whether a call has an answer, once the call is known to be reached.
+fn deed_of_having(facts: &Facts, call: &OpenCall) -> Option<Deed> {
+    if facts.is(call.reach, true) {
+        let mark = mark_of(facts, call.args.as_slice());
+        Some(Deed::Having(call.callee.0, call.wait, mark))
+    } else {
+        None
+    }
+}
+
+/// What a step does that is the answer of a call, once it is known that the call has one.
+fn deed_of_answer(facts: &Facts, all: &[Step], number: u32) -> Option<Deed> {
+    let call = answered_at(facts, all, number)?;
+    let mark = mark_of(facts, call.args.as_slice());
+    Some(Deed::Answer(call.callee.0, mark))
+}
+
+/// A number that is the same for steps of the same classes in the same order, and for few others.
+pub(crate) fn mark_of(facts: &Facts, numbers: &[u32]) -> u32 {
+    let mut mark = 0;
+    for number in numbers {
+        mark = with_mark(mark, facts.root(*number));
+    }
+    mark
+}
+
+/// The mark of one step more, the first of its class.
+pub(crate) fn with_mark(mark: u32, root: u32) -> u32 {
+    mark.wrapping_mul(0x0100_0193)
+        .wrapping_add(root)
+        .wrapping_add(1)
 }
 
 /// What the operator does to the two, in any order if that doesn't matter.
@@ -75,8 +105,26 @@ fn deed_of_two(op: BinaryOp, a: u32, b: u32) -> Deed {
     }
 }
 
-/// Whether the two steps do the same to the same values.
+/// Whether the two steps are known to have one value: they are the answers of calls that ask alike, or they do the same
+/// to the same values.
 fn are_alike(facts: &Facts, all: &[Step], one: u32, other: u32) -> bool
+    ensures { (v : Valuation all.now) → Holds v.values facts.now → result ≡ true → v.values one ≡ v.values other }
+{
+    are_one_answer(facts, all, one, other) || are_made_alike(facts, all, one, other)
+}
+
+/// Whether the two steps are known to be the answers of calls that ask alike, however long these wait.
+fn are_one_answer(facts: &Facts, all: &[Step], one: u32, other: u32) -> bool
+    ensures { (v : Valuation all.now) → Holds v.values facts.now → result ≡ true → v.values one ≡ v.values other }
+{
+    match (answered_at(facts, all, one), answered_at(facts, all, other)) {
+        (Some(c), Some(d)) => ask_alike(facts, c, d),
+        _ => false,
+    }
+}
+
+/// Whether the two steps do the same to the same values.
+fn are_made_alike(facts: &Facts, all: &[Step], one: u32, other: u32) -> bool
     ensures { (v : Valuation all.now) → Holds v.values facts.now → result ≡ true → v.values one ≡ v.values other }
 {
     match (at(all, one as usize), at(all, other as usize)) {
@@ -106,6 +154,7 @@ fn do_alike(facts: &Facts, one: &Step, other: &Step) -> bool
         (Step::CtorField(c, i, a), Step::CtorField(d, j, b)) => {
             c.0 == d.0 && *i == *j && facts.same(*a, *b)
         }
+        (Step::HasAnswer(c), Step::HasAnswer(d)) => are_had_alike(facts, c, d),
         _ => false,
     }
 }
@@ -131,7 +180,7 @@ fn are_crossed(facts: &Facts, one: (u32, u32), other: (u32, u32)) -> bool
 }
 
 /// Whether the steps at each place are known to have one value.
-fn all_same(facts: &Facts, xs: &[u32], ys: &[u32]) -> bool
+pub(crate) fn all_same(facts: &Facts, xs: &[u32], ys: &[u32]) -> bool
     ensures { (ρ : Values) → Holds ρ facts.now → result ≡ true → map ρ xs.now ≡ map ρ ys.now }
 {
     match (xs.split_first(), ys.split_first()) {

@@ -97,6 +97,39 @@ fn learn_at_most(facts: &mut Facts, low: u32, high: u32)
     facts.at_most(low, most);
 }
 
+/// The numbers differ. If the bounds of the second tell which it is, that is no bound of the first.
+pub(crate) fn learn_apart(facts: &mut Facts, a: u32, b: u32)
+    ensures { (ρ : Values) → (whole (ρ a) ≡ whole (ρ b) → ⊥) → IsWord w32 (whole (ρ a)) → Holds ρ facts.old
+        → Holds ρ facts.new }
+{
+    if let Some(n) = facts.known(b).number() {
+        raise_past(facts, a, n);
+        reduce_past(facts, a, n);
+    }
+}
+
+/// The number isn't this one. If it is at least this one, it is more.
+fn raise_past(facts: &mut Facts, a: u32, n: i32)
+    ensures { (ρ : Values) → (whole (ρ a) ≡ n → ⊥) → IsWord w32 (whole (ρ a)) → Holds ρ facts.old → Holds ρ facts.new }
+{
+    if facts.low(a) == n {
+        if let Some(bound) = one_more(n) {
+            facts.at_least(a, bound);
+        }
+    }
+}
+
+/// If it is at most this one, it is less.
+fn reduce_past(facts: &mut Facts, a: u32, n: i32)
+    ensures { (ρ : Values) → (whole (ρ a) ≡ n → ⊥) → IsWord w32 (whole (ρ a)) → Holds ρ facts.old → Holds ρ facts.new }
+{
+    if facts.high(a) == n {
+        if let Some(bound) = one_less(n) {
+            facts.at_most(a, bound);
+        }
+    }
+}
+
 fn one_more(n: i32) -> Option<i32>
     ensures { IfSome result (λ m. m ≡ n +ℤ pos 1) }
 {

@@ -1,19 +1,23 @@
 //! What chains of known orders and of sums that don't wrap say: where one number is at most a second one and that at
 //! most a third one, how the first and the third compare.
 
-ghost use Rattle.std.specs.Prelude.{◌≡◌, ℤ, ◌+ℤ◌, true, false, IfSome, Some};
+ghost use Rattle.std.specs.Prelude.{◌≡◌, ℤ, ◌+ℤ◌, true, false, IfSome, Some, slice_get};
 ghost use Rattle.pp_word.specs.Word.{word_less};
 ghost use Rattle.pp_steps.specs.Meaning.{Values};
 ghost use Rattle.pp_closure.specs.Facts.{Holds};
 ghost use Rattle.pp_closure.specs.Keeps.{Keeps};
-ghost use Rattle.pp_closure.specs.Order.{Apart, Compares, Ordered};
+ghost use Rattle.pp_closure.specs.Order.{Apart, Compares, DividesBelow, Ordered};
+ghost use Rattle.pp_closure.specs.Steps as looked;
 ghost use Rattle.pp_closure.specs.Sums.{Adds, IsExact, whole};
 ghost use Rattle.pp_closure.specs.Valuation.{Valuation};
 
 use crate::additions::{Addition, turned};
 use crate::amounts::{exact_at, minus, plus};
+use crate::descents::descent_at;
 use crate::facts::Facts;
 use crate::orders::{Order, order_in};
+use pp_list::at;
+use pp_prog::BinaryOp;
 use pp_steps::Step;
 
 /// That a number and so many more are at most another one.
@@ -24,8 +28,18 @@ pub(crate) struct Link {
     pub gap: i32,
 }
 
-/// How the step with the number compares two numbers, if it does.
-pub(crate) fn comparison_at(all: &[Step], number: u32) -> Option<Order>
+/// How the step with the number compares two numbers, if it does: by an order, or as a component of a measure.
+pub(crate) fn comparison_at(facts: &Facts, all: &[Step], number: u32) -> Option<Order>
+    ensures { (v : Valuation all.now) → Holds v.values facts.now → Ordered v.values number result }
+{
+    match ordered_at(all, number) {
+        Some(order) => Some(order),
+        None => descent_at(facts, all, number),
+    }
+}
+
+/// How it does by an order.
+fn ordered_at(all: &[Step], number: u32) -> Option<Order>
     ensures { (v : Valuation all.now) → Ordered v.values number result }
 {
     order_in(all, number)
@@ -36,9 +50,46 @@ pub(crate) fn link_at(facts: &Facts, all: &[Step], number: u32) -> Option<Link>
     ensures { IfSome result (λ l. (v : Valuation all.now) → Holds v.values facts.now
         → Apart v.values l.low l.gap l.high) }
 {
-    match comparison_at(all, number) {
+    match comparison_at(facts, all, number) {
         Some(order) => link_of(facts, number, order),
+        None => link_of_remainder(facts, all, number),
+    }
+}
+
+/// A remainder by a positive number is less than that.
+fn link_of_remainder(facts: &Facts, all: &[Step], number: u32) -> Option<Link>
+    ensures { IfSome result (λ l. (v : Valuation all.now) → Holds v.values facts.now
+        → Apart v.values l.low l.gap l.high) }
+{
+    match divisor_at(all, number) {
+        Some(high) => {
+            if facts.low(high) > 0 {
+                Some(Link {
+                    low: number,
+                    high,
+                    gap: 1,
+                })
+            } else {
+                None
+            }
+        }
         None => None,
+    }
+}
+
+/// The number by which the step has the remainder of another one.
+fn divisor_at(all: &[Step], number: u32) -> Option<u32>
+    ensures { IfSome result (λ b. (v : Valuation all.now) → DividesBelow v.values b number) }
+{
+    divisor_in(all, number)
+}
+
+fn divisor_in(all: &[Step], number: u32) -> Option<u32>
+    ensures { result ≡ looked.divisor_in (slice_get all.now number) }
+{
+    match at(all, number as usize) {
+        Some(Step::Binary(BinaryOp::Rem, _, b)) => Some(*b),
+        _ => None,
     }
 }
 
@@ -179,7 +230,7 @@ fn shows_at_most(facts: &Facts, all: &[Step], chain: &[Hop], low: u32, high: u32
 pub(crate) fn learn_by_chain(facts: &mut Facts, all: &[Step], number: u32, chain: &[Hop])
     ensures { Keeps all.now facts.old facts.new }
 {
-    if let Some(order) = comparison_at(all, number) {
+    if let Some(order) = comparison_at(facts, all, number) {
         if shows_less(facts, all, chain, order.low, order.high) {
             facts.assume(number, order.positive);
         } else if shows_at_most(facts, all, chain, order.high, order.low) {

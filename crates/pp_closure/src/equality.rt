@@ -11,8 +11,11 @@ ghost use Rattle.pp_closure.specs.Steps as looked;
 ghost use Rattle.pp_closure.specs.Valuation.{Valuation};
 
 use crate::NoMemory;
+use crate::bounds::learn_apart;
+use crate::descents::is_int;
 use crate::facts::Facts;
 use crate::sums::equal_sums;
+use crate::truths::learn_not;
 use pp_list::at;
 use pp_prog::Sort;
 use pp_steps::Step;
@@ -36,6 +39,8 @@ pub(crate) fn learn_equality(
     let equal = are_equal(alloc, facts, all, a, b)?;
     learn_known(facts, number, positive, equal);
     learn_united(facts, number, a, b, positive);
+    learn_opposite(facts, all, number, (a, b), positive);
+    learn_differing(facts, all, number, (a, b), positive);
     Ok(())
 }
 
@@ -56,6 +61,55 @@ fn learn_united(facts: &mut Facts, number: u32, a: u32, b: u32, positive: bool)
 {
     if facts.is(number, positive) {
         facts.unite(a, b);
+    }
+}
+
+/// Of two truth values that are known to differ each is what the other isn't.
+fn learn_opposite(facts: &mut Facts, all: &[Step], number: u32, two: (u32, u32), positive: bool)
+    ensures { (v : Valuation all.now) → v.sorts two.0 ≡ v.sorts two.1 → two.0 < length all.now → two.1 < length all.now
+        → bit (v.values number) ≡ same_truth positive (equal (v.values two.0) (v.values two.1))
+        → Holds v.values facts.old → Holds v.values facts.new }
+{
+    if facts.is(number, !positive) {
+        if are_truths(all, two) {
+            learn_not(facts, two.1, two.0);
+        }
+    }
+}
+
+/// Of two numbers that are known to differ the one is no bound of the other.
+fn learn_differing(facts: &mut Facts, all: &[Step], number: u32, two: (u32, u32), positive: bool)
+    ensures { (v : Valuation all.now) → v.sorts two.0 ≡ v.sorts two.1 → two.0 < length all.now → two.1 < length all.now
+        → bit (v.values number) ≡ same_truth positive (equal (v.values two.0) (v.values two.1))
+        → Holds v.values facts.old → Holds v.values facts.new }
+{
+    if facts.is(number, !positive) {
+        if are_ints(all, two) {
+            learn_apart(facts, two.0, two.1);
+            learn_apart(facts, two.1, two.0);
+        }
+    }
+}
+
+/// Whether one of the two is a number, as far as the steps by themselves show it.
+fn are_ints(all: &[Step], two: (u32, u32)) -> bool
+    ensures { (v : Valuation all.now) → v.sorts two.0 ≡ v.sorts two.1 → result ≡ true → v.sorts two.0 ≡ sort.Int }
+{
+    if is_int(all, two.0) {
+        true
+    } else {
+        is_int(all, two.1)
+    }
+}
+
+/// Whether one of the two is a truth value, as far as the steps by themselves show it.
+fn are_truths(all: &[Step], two: (u32, u32)) -> bool
+    ensures { (v : Valuation all.now) → v.sorts two.0 ≡ v.sorts two.1 → result ≡ true → v.sorts two.0 ≡ sort.Bool }
+{
+    if is_truth(all, two.0) {
+        true
+    } else {
+        is_truth(all, two.1)
     }
 }
 

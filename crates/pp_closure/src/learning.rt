@@ -9,6 +9,7 @@ use crate::additions::learn_addition;
 use crate::alike::learn_alike;
 use crate::bounds::{learn_bounds, learn_number, learn_remainder};
 use crate::class::Shape;
+use crate::descents::learn_descent;
 use crate::equality::learn_equality;
 use crate::facts::Facts;
 use crate::offsets::learn_offsets;
@@ -17,6 +18,7 @@ use crate::reduced::{learn_common_bits, learn_quotient, learn_shifted, learn_shi
 use crate::seen::Seen;
 use crate::trees::{learn_construct, learn_field, learn_test};
 use crate::truths::{learn_both, learn_choice, learn_not};
+use crate::wholes::learn_wholes;
 use pp_prog::{BinaryOp, UnaryOp};
 use pp_steps::Step;
 use std::alloc::Global;
@@ -37,7 +39,8 @@ pub(crate) fn learn(
     facts.shorten(number);
     learn_step(alloc, facts, all, seen, number, step)?;
     learn_addition(facts, all, seen, number)?;
-    learn_alike(facts, all, seen, number, step)
+    learn_alike(facts, all, seen, number, step)?;
+    learn_wholes(facts, all, seen, number, step)
 }
 
 /// What the step says by itself.
@@ -97,6 +100,11 @@ fn learn_step(
             Ok(())
         }
         Step::Binary(op, a, b) => learn_operator(alloc, facts, all, seen, number, *op, *a, *b),
+        Step::GoesDown(..) => learn_descent(facts, all, seen, number),
+        Step::IsAlike(..) => {
+            facts.assume(number, true);
+            Ok(())
+        }
         _ => Ok(()),
     }
 }

@@ -4,7 +4,8 @@
 //! for a contradiction: it takes what is supposed as facts, lets each step say what follows for its operands and its
 //! value, and names steps that have one value by one of them. Where nothing more follows, a test that isn't decided is
 //! first taken as false and, if that is refuted, as true. It answers `true` only where no values obey the steps and
-//! make all that is supposed true; where it answers `false` nothing is known.
+//! make all that is supposed true; where it answers `false` nothing is known. `refute_on_demand` does the same, and where
+//! it doesn't know it tells which of the calls that are left open are to be unfolded, so that it may.
 //!
 //! `specs/Valuation` says what values of the steps are, `specs/Facts` what it means that facts hold of them. What may
 //! be changed: which rules there are, in which order they are tried, and how long is searched. None of it is promised.
@@ -12,12 +13,14 @@
 //! - `class`, `facts`: what is known of the value of a step, and how it is noted.
 //! - `truths`, `trees`, `sums`, `bounds`, `reduced`, `orders`: what a step says, by what its value is.
 //!   `equality`: equations.
-//! - `chains`, `offsets`: what orders say together, and with sums. `walks`: which chains are looked at.
+//! - `chains`, `offsets`: what orders say together, and with sums. `walks`: which chains are looked at. `descents`:
+//!   numbers in measures.
 //! - `additions`, `amounts`: what a sum of two says of each of the three, and where it doesn't wrap.
 //! - `product`, `terms`, `parts`: sums of products of steps, modulo 2^32, and what a step is made of.
-//! - `alike`, `operators`, `seen`: which steps do the same to the same values.
+//! - `alike`, `operators`, `seen`: which steps do the same to the same values; `calls`: which open calls have one answer;
+//!   `wholes`: trees that are one have the same fields, and a tree is what is made of its fields.
 //! - `learning`: what each step says. `closing`: all steps that are due, until nothing more follows; `agenda` and
-//!   `news`: which are. `refuting`: the cases; `undecided`: which test comes next.
+//!   `news`: which are. `refuting`: the cases; `undecided`: which test comes next; `wanted`: which calls are unfolded.
 #![tactic(auto)]
 
 mod additions;
@@ -25,9 +28,11 @@ mod agenda;
 mod alike;
 mod amounts;
 mod bounds;
+mod calls;
 mod chains;
 mod class;
 mod closing;
+mod descents;
 mod equality;
 mod facts;
 mod learning;
@@ -46,6 +51,9 @@ mod trees;
 mod truths;
 mod undecided;
 mod walks;
+mod wanted;
+mod wholes;
 
-pub use refuting::refuted;
+pub use refuting::{Refutation, refute_on_demand, refuted};
 pub use std::alloc::AllocError as NoMemory;
+pub use wanted::{Unfoldable, Unfoldables};

@@ -70,7 +70,11 @@ fn learn_offset(facts: &mut Facts, all: &[Step], far: Option<u32>, near: Option<
     ensures { Keeps all.now facts.old facts.new }
 {
     if let (Some(far), Some(near)) = (far, near) {
-        if let (Some(one), Some(other)) = (comparison_at(all, far), comparison_at(all, near)) {
+        let (one, other) = (
+            comparison_at(facts, all, far),
+            comparison_at(facts, all, near),
+        );
+        if let (Some(one), Some(other)) = (one, other) {
             if let Some(parts) = offset(facts, all, one.low, one.high) {
                 learn_parts(facts, (far, one), (near, other), parts);
             }

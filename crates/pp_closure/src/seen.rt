@@ -22,12 +22,22 @@ pub(crate) enum Deed {
     Rest(u32, u32),
     /// It is this constructor, which has no fields.
     Constant(u32),
-    /// It makes the constructor, whose first and last field are these.
-    Construct(u32, u32, u32),
+    /// It makes the constructor of fields with this mark.
+    Construct(u32, u32),
     /// It says whether a value has the constructor.
     Test(u32, u32),
     /// It is the field of the constructor at a place.
     Field(u32, u32, u32),
+    /// It has the constructor, and fields with this mark were looked at.
+    Whole(u32, u32),
+    /// It says whether a call of the function that waits so long has an answer, or is the answer, on arguments with this
+    /// mark.
+    Having(u32, u32, u32),
+    Answer(u32, u32),
+    /// It belongs to a call of the function on arguments with this mark, of which the body or the postcondition is
+    /// unfolded.
+    Body(u32, u32),
+    Post(u32, u32),
 }
 
 /// The last step that was seen to do each thing, and what was noted before, so that it can be taken back. It is a guess

@@ -252,7 +252,7 @@ impl Walks {
 
     /// The step, if it compares the number at the place below with one above, and isn't known to be as the chain shows.
     fn decided(&self, facts: &Facts, all: &[Step], step: u32, below: usize) -> Option<Found> {
-        let order = comparison_at(all, step)?;
+        let order = comparison_at(facts, all, step)?;
         let first = *at(self.below.as_slice(), below)?;
         let forward = facts.root(order.low) == first.step;
         let other = if forward { order.high } else { order.low };

@@ -6,3 +6,4 @@ pub mod Running
 pub mod Matching
 pub mod Adding
 pub mod Guessing
+pub mod Moving

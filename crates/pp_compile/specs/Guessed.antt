@@ -7,6 +7,9 @@ use Rattle.pp_steps.specs.Compile.{Site}
 use Rattle.pp_steps.specs.Frames.{Frame, any_of, arguments, running}
 use Rattle.pp_steps.specs.Guesses.{GuessSteps, Standing}
 use Rattle.pp_steps.specs.Piece.{Piece, after}
+use Rattle.pp_demand_steps.specs.Moves.{Body, Move, Post}
+use Rattle.pp_compile.specs.declared.moves.Unfolding.{Unfolding}
+use Rattle.pp_compile.specs.declared.moves.Unfolding.TheVariants as part
 use Rattle.pp_compile.specs.declared.standing.StandingCall.{StandingCall}
 use Rattle.pp_compile.specs.declared.work.Guess.{Guess}
 use Rattle.pp_compile.specs.declared.work.Work.{Work}
@@ -15,6 +18,11 @@ use Rattle.pp_compile.specs.Written.{IsWritten}
 -- an open call of a list of steps
 abbrev pub stands : StandingCall → Standing
 stands c = record { call = c.call; has = c.has; result = c.result }
+
+-- what is unfolded of the call
+abbrev pub move_of : Unfolding → Standing → Move
+move_of part.Body c = Body c
+move_of part.Post c = Post c
 
 -- the steps of a guess run
 abbrev pub guess_of : Guess → GuessSteps

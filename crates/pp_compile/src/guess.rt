@@ -224,8 +224,8 @@ fn tie(
     imply(work, done, ends.alive)
 }
 
-// The postcondition is true of the arguments and the result.
-fn hold(
+/// The postcondition is true of the arguments and the result.
+pub(crate) fn hold(
     alloc: Global,
     calls: Calls<'_>,
     post: &Option<(CheckId, Expr)>,

@@ -5,6 +5,7 @@
 //!
 //! - `run`: the run of a function: its arguments, precondition, measure, body and postcondition.
 //! - `guess`: the guess run of a function, round after round.
+//! - `moves`: the guess run of a function, whose calls are unfolded one by one.
 //! - `agree`: the agreement of open calls of one function.
 //! - `standing`: the open calls of a list of steps.
 //! - `calls`: calls that are followed: precondition, measure, whether it goes down, body; and calls from the own frame.
@@ -23,6 +24,7 @@ mod cases;
 mod emit;
 mod exprs;
 mod guess;
+mod moves;
 mod open_calls;
 mod operators;
 mod patterns;
@@ -31,6 +33,8 @@ mod standing;
 mod work;
 
 pub use guess::{compile_guess, grown};
+pub use moves::{Unfolding, moved, start_alone};
 pub use run::compile_run;
+pub use standing::{StandingCall, standing_calls};
 pub use std::alloc::AllocError as NoMemory;
 pub use work::{Guess, Run};

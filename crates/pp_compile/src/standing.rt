@@ -11,7 +11,7 @@ use std::alloc::Global;
 
 /// An open call, with the number that tells whether it has an answer, and the number of the answer.
 #[derive(Drop)]
-pub(crate) struct StandingCall {
+pub struct StandingCall {
     pub call: OpenCall,
     pub has: u32,
     pub result: u32,
@@ -22,6 +22,15 @@ pub(crate) struct StandingCall {
 pub(crate) struct StandingCalls {
     pub before: Items<StandingCall>,
     pub from: Items<StandingCall>,
+}
+
+/// The open calls of the steps, in their order. The only error is want of memory, which is also more than 2^32 - 1 steps.
+pub fn standing_calls(alloc: Global, steps: &[Step]) -> Result<Items<StandingCall>, NoMemory>
+    ensures { IfOk result (λ r. map stands r ≡ standing 0 steps.now) }
+{
+    let calls = calls_at(alloc, steps, 0)?;
+    let StandingCalls { before: _, from } = calls;
+    Ok(from)
 }
 
 /// The open calls of the steps, at most 2^32 - 1, parted at this number.

@@ -8,3 +8,4 @@ pub mod Sorting
 pub mod Truths
 pub mod Existing
 pub mod Adding
+pub mod Failing

@@ -12,7 +12,7 @@ use Rattle.pp_prog.specs.Sorts.{has_sort, param_sorts}
 use Rattle.pp_prog.specs.Table.{is_sort}
 use Rattle.pp_checks.specs.Plan.{IsPlanOf, Plan}
 use Rattle.pp_sound.specs.Sound.{IsCalled}
-use Rattle.pp_guess_runs.specs.Answers.{Answering, Answers, answers_of}
+use Rattle.pp_guess_runs.specs.Answers.{Answering, Answers, IsAnswering, answers_of}
 use Rattle.pp_guess_runs.specs.Guess.{fails, guess}
 use Rattle.pp_steps.specs.Guesses.{GuessSteps}
 use Rattle.pp_steps.specs.Meaning.{Missing, Obeys, Values}
@@ -87,3 +87,29 @@ abbrev pub WorldAlike : Type 0
 WorldAlike =
     (functions : List Function) (answers : Answers) (field : CtorId → ℕ → Value) (n : ℕ)
     → AnswersAlike (world functions answers field n)
+
+-- ---- a guess run that fails
+
+-- on some arguments, values that obey the steps of the moves and have their sorts, for which the check fails and all
+-- that is supposed is true; and each two calls on the same arguments that have an answer have the same one
+pub record IsDemandedGuess (p : Program) (f : Function) (check : CheckId) (ms : List Move) (sorts : Sorts) : Type 0
+  where
+    pub args : List Value
+    pub missing : Missing
+    pub alike : AnswersAlike missing
+    pub has_values : HaveValues p.types.ctors (demanded p.functions f check ms) missing args sorts
+    pub supposed : IsSupposed has_values.values (demanded p.functions f check ms)
+
+-- Where the guess run with fuel n fails the check there are such values, for each list of moves of calls that wait less
+-- than n: whatever stands for missing fields with its sort, and by whatever default each sort has.
+abbrev pub FailingMovesExist : Type 0
+FailingMovesExist =
+    (p : Program) (i : ℕ) (f : Function) (args : List Value) → IsCalled p i f args → (check : CheckId) (n : ℕ)
+    (answers : Answering) → IsAnswering p answers → guess p.types.ctors p.functions f check args n answers ≡ fails
+    → (ms : List Move) → AreMoves p.functions f check n ms
+    → (field : CtorId → ℕ → Value)
+    → FieldsHaveSorts p.types (world p.functions (answers_of p.types.ctors p.functions answers) field n)
+    → (default : Sort → Value)
+    → ((s : Sort) → IsTrue (is_sort p.types.datatypes s) → IsTrue (has_sort p.types.ctors (default s) s))
+    → (run : HaveGuessSorts p.types (demanded p.functions f check ms) (param_sorts f.params))
+    → IsDemandedGuess p f check ms run.sorts

@@ -5,7 +5,8 @@
 //! the laws. Each function does nothing: its contract is the law.
 #![tactic(auto)]
 
-ghost use Rattle.pp_demand_steps.specs.Laws.{MovesAreSorted, MovesExist, MovesRead, MovesSuppose, WorldAlike};
+ghost use Rattle.pp_demand_steps.specs.Laws.{FailingMovesExist, MovesAreSorted, MovesExist, MovesRead};
+ghost use Rattle.pp_demand_steps.specs.Laws.{MovesSuppose, WorldAlike};
 
 /// Where moves are of calls that stand, each step looks at earlier steps alone, and what is asked for are steps. It
 /// does nothing: its contract is the law.
@@ -36,4 +37,11 @@ pub fn moves_suppose()
 /// one, however long they wait. It does nothing: its contract is the law.
 pub fn world_alike()
     ensures { WorldAlike }
+{}
+
+/// Where a guess run fails the check, there are values with their sorts that obey the steps, whichever calls were
+/// unfolded that the guess run has fuel for; they make the number of `fails` and all that is supposed true, and calls on
+/// the same arguments are answered alike. It does nothing: its contract is the law.
+pub fn failing_moves_exist()
+    ensures { FailingMovesExist }
 {}

@@ -26,6 +26,7 @@ use Rattle.pp_guess_steps.specs.OpenCalls.{world}
 use Rattle.pp_guess_steps.proofs.Laws.{guesses_suppose}
 use Rattle.pp_guess_steps.proofs.SortedValues.{sorted_guesses_exist}
 use Rattle.pp_guess_steps.proofs.WorldSorts.{guesses_answer_sorted}
+use Rattle.pp_demand_steps.proofs.Alike.{world_alike}
 use Rattle.pp_guess_values.specs.FailingGuess.{IsFailingGuess}
 use Rattle.pp_guess_values.proofs.Defaults.{default_field, default_field_is, default_has_sort, default_of}
 
@@ -46,7 +47,7 @@ field_sort_stands p c k place s there at =
     all_at (is_sort p.types.datatypes) k.fields place s (p.types.agree.fields c.0 k there) at
 
 module _ (p : Program) (n : ℕ) (inhabited : HaveValues p.types.datatypes p.types.ctors) where
-  default_field_has_sort : (c : CtorId) (k : Ctor) (place : ℕ) (s : Sort) → slice_get p.types.ctors c.0 ≡ Some k
+  pub default_field_has_sort : (c : CtorId) (k : Ctor) (place : ℕ) (s : Sort) → slice_get p.types.ctors c.0 ≡ Some k
       → slice_get k.fields place ≡ Some s → Has p.types.ctors s (default_field p.types inhabited c place)
   default_field_has_sort c k place s there at =
       subst (Has p.types.ctors s) (sym (default_field_is p.types inhabited c k place s there at))
@@ -73,6 +74,7 @@ module _ (p : Program) (f : Function) (check : CheckId) (n : ℕ)
       record {
         args = args;
         missing = own_missing p n inhabited W;
+        alike = world_alike p.functions (answers_of p.types.ctors p.functions W) (default_field p.types inhabited) n;
         values = x.values;
         guess = x.guess;
         sorted = x.sorted;

@@ -1,5 +1,5 @@
 mod Arguments
-mod Defaults
+pub mod Defaults
 pub mod Failing
 mod Listing
 mod OwnFields

@@ -9,12 +9,14 @@ use Rattle.pp_steps.specs.Guesses.{guess_steps}
 use Rattle.pp_steps.specs.Meaning.{Missing, Values}
 use Rattle.pp_steps.specs.Sorted.{Sorts}
 use Rattle.pp_guess_steps.specs.Laws.{IsGuess, IsSupposed}
+use Rattle.pp_demand_steps.specs.Laws.{AnswersAlike}
 
 -- on some arguments, values that obey the steps of round n and have their sorts, for which the check fails and all that
--- is supposed is true
+-- is supposed is true; and each two calls on the same arguments that have an answer have the same one
 pub record IsFailingGuess (p : Program) (f : Function) (check : CheckId) (n : ℕ) (sorts : Sorts) : Type 0 where
   pub args : List Value
   pub missing : Missing
+  pub alike : AnswersAlike missing
   pub values : Values
   pub guess : IsGuess p.types.ctors p.functions f check n missing values args
   pub sorted : (k : ℕ) → k < length (guess_steps p.functions f check n).steps

@@ -3,7 +3,7 @@ use Rattle.std.proofs.Common.{◌≡◌, ℕ, List, Some, length, slice_get, sub
 use Rattle.std.proofs.lemmas.Option.{slice_get_cases, slice_get_within}
 use Rattle.pp_prog.specs.declared.program.Program.{Program}
 use Rattle.pp_checks.specs.Plan.{IsPlanOf, Plan}
-use Rattle.pp_induction.specs.Ends.{AreSettled, IsExhausted, IsProved, IsSettled}
+use Rattle.pp_induction.specs.Ends.{AreSettled, IsExhausted, IsSettled, NoGuessFails}
 use Rattle.pp_induction.proofs.Ranks.{settled_are_good}
 use Rattle.pp_induct.specs.declared.ends.CheckEnd.{CheckEnd}
 use Rattle.pp_induct.specs.declared.ends.CheckEnd.TheVariants.{Proved, Exhausted}
@@ -28,7 +28,7 @@ module _ (p : Program) (ends : List CheckEnd) (one_each : length ends ≡ length
       settled : (e : CheckEnd) → IsProvedOrExhausted e → Support e → IsSettled p g c
       settled e (inl proved) h =
           let s : Support (Proved proved.0) = subst Support proved.1 h in
-          (proved.0, depth, inl (subst (λ i. IsProved p i c proved.0 depth) check.owner s.1))
+          (proved.0, depth, inl (subst (λ i. NoGuessFails p i c proved.0) check.owner s.1.guesses))
       settled e (inr exhausted) h =
           let s : Support (Exhausted exhausted.0) = subst Support exhausted.1 h in
           (exhausted.0, depth, inr (subst (λ i. IsExhausted p i c exhausted.0 depth) check.owner s.1))

@@ -8,3 +8,4 @@ pub mod Contracts
 pub mod CallSettles
 pub mod Groups
 pub mod Ranks
+pub mod Good

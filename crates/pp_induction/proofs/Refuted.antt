@@ -25,7 +25,7 @@ use Rattle.pp_run_laws.proofs.Follows.{Comes, Follows, stop_comes, value_comes}
 use Rattle.pp_run_laws.proofs.Nested.{nested_never_deep}
 use Rattle.pp_guess_runs.specs.Answers.{truth}
 use Rattle.pp_guess_runs.specs.Guess.{fails, guessed, skip}
-use Rattle.pp_induction.specs.Ends.{IsExhausted, IsProved, IsSettled}
+use Rattle.pp_induction.specs.Ends.{IsExhausted, IsSettled, NoGuessFails}
 use Rattle.pp_induction.proofs.Callees.{AreKnown, complete, known_calls, known_good}
 use Rattle.pp_induction.proofs.Views.{IsKept, NotInner, View, calls_in, in_own, in_run}
 
@@ -45,10 +45,10 @@ module _ (p : Program) (i : ℕ) (f : Function) (args : List Value) (called : Is
       itself : guessed c (Err (Fails c)) ≡ fails
       itself = ap (λ t. if t then fails else skip) (eq-eqb c.0 c.0 refl)
 
-      by : (n d : ℕ) → IsProved p i c n d ⊎ IsExhausted p i c n d → ⊥
-      by n d (inl proved) =
+      by : (n d : ℕ) → NoGuessFails p i c n ⊎ IsExhausted p i c n d → ⊥
+      by n d (inl guesses) =
           let e = stops (in_own c n) refl in
-          proved.guesses f args called (truth e.from) tt (ap (guessed c) (e.holds e.from (omega arith)) ∙ itself)
+          guesses f args called (truth e.from) tt (ap (guessed c) (e.holds e.from (omega arith)) ∙ itself)
       by n d (inr exhausted) =
           let e = stops in_run tt in
           let run_fails : run p.types.ctors p.functions f args (e.from + n) ≡ outcome.Fails c =

@@ -1,6 +1,6 @@
--- When a check is settled, and why that makes functions good. Source: own; the idea of measure induction is that of
--- System FR (Hamza, Voirol, Kuncak, OOPSLA 2019).
-use Rattle.std.specs.Prelude.{◌≡◌, ◌≢◌, ◌⊎◌, ◌<◌, ◌≤◌, ℕ, List, Some, length, slice_get}
+-- When a check is settled, why that makes functions good, and why no run fails a check of them then. Source: own; the
+-- idea of measure induction is that of System FR (Hamza, Voirol, Kuncak, OOPSLA 2019).
+use Rattle.std.specs.Prelude.{◌≡◌, ◌≢◌, ◌⊎◌, ◌<◌, ℕ, List, Some, length, slice_get}
 use Rattle.pp_prog.specs.declared.expr.Function.{Function}
 use Rattle.pp_prog.specs.declared.id.CheckId.{CheckId}
 use Rattle.pp_prog.specs.declared.program.Program.{Program}
@@ -52,9 +52,9 @@ module _ (p : Program) (i : ℕ) (c : CheckId) where
     pub closed : Closed p.types p.functions i n d
     pub runs : NoRunFails n
 
-  -- the check is proved or exhausted, in some round
+  -- in some round no guess run fails the check, or it is exhausted
   abbrev pub IsSettled : Type 0
-  IsSettled = (n : ℕ) × (d : ℕ) × (IsProved n d ⊎ IsExhausted n d)
+  IsSettled = (n : ℕ) × (d : ℕ) × (NoGuessFails n ⊎ IsExhausted n d)
 
 -- each check of the functions of the cone of f is settled
 abbrev pub AreSettled : Program → ℕ → Type 0
@@ -66,3 +66,9 @@ abbrev pub SettledAreGood : Type 0
 SettledAreGood =
     (plan : Plan) (p : Program) → IsPlanOf plan p → (f : ℕ) → AreSettled p f → (g : ℕ) (function : Function)
     → InCone p.functions f g → slice_get p.functions g ≡ Some function → IsGood p.types.ctors p.functions function
+
+-- and no run fails a check of such a function, with any fuel
+abbrev pub GoodNeverFail : Type 0
+GoodNeverFail =
+    (plan : Plan) (p : Program) → IsPlanOf plan p → (f : ℕ) → AreSettled p f → (g : ℕ) (c : CheckId)
+    → InCone p.functions f g → (n : ℕ) → NoRunFails p g c n

@@ -13,3 +13,4 @@ mod RunsRefuted
 mod RunValues
 mod SomeValues
 mod Unanswered
+mod Demanded

@@ -23,7 +23,7 @@ use Rattle.pp_symbolic.specs.Frame.{IsOwner}
 use Rattle.pp_symbolic.proofs.GuessFrame.{same_owner}
 use Rattle.pp_query.proofs.Proved.{no_guess_fails}
 
-all_of : (P : ℕ → Type 0) (ks : List ℕ) → AllOf P ks → All P ks
+pub all_of : (P : ℕ → Type 0) (ks : List ℕ) → AllOf P ks → All P ks
 all_of P [] h = All-nil P
 all_of P (k ∷ ks) h = All-cons P k ks h.0 (all_of P ks h.1)
 
@@ -55,6 +55,7 @@ module _ (p : Program) (plan : Plan) (is_plan : IsPlanOf plan p) (c : CheckId) (
       types = p.types;
       sorts = have.sorts;
       missing = x.missing;
+      alike = x.alike;
       values = x.values;
       does = λ k s at. does_at p.types.ctors x.missing x.values 0 G.steps k k s x.guess.steps at (omega arith);
       reads = λ k s at. reads_at 0 G.steps k k s (guesses_read p.functions f c round).reads at (omega arith);

@@ -23,9 +23,10 @@ use Rattle.pp_steps_run.specs.Laws.{IsRun}
 use Rattle.pp_steps_exist.proofs.Laws.{open_left, opened_are, runs_read}
 use Rattle.pp_steps_exist.proofs.Solve.{solved, solved_obeys}
 use Rattle.pp_steps_sorted.specs.Laws.{HaveSorts}
+use Rattle.pp_demand_steps.specs.Laws.{AnswersAlike}
 use Rattle.pp_guess_steps.proofs.SolvedSorted.{value_at_has}
 use Rattle.pp_query.proofs.SomeValues.{some_field, some_field_has_sort, some_value, some_value_has_sort}
-use Rattle.pp_query.proofs.Unanswered.{solved_sorted, unanswered}
+use Rattle.pp_query.proofs.Unanswered.{never_answered, solved_sorted, unanswered}
 
 module _ (p : Program) (f : Function) (check : CheckId) (fuel : ℕ)
     (run : HaveSorts p.types (run_steps p.functions f check fuel) (param_sorts f.params)) where
@@ -38,6 +39,7 @@ module _ (p : Program) (f : Function) (check : CheckId) (fuel : ℕ)
   -- values that obey the steps of the run on the arguments, and have their sorts
   pub record IsSortedRun (args : List Value) : Type 0 where
     pub missing : Missing
+    pub alike : AnswersAlike missing
     pub values : Values
     pub made : IsRun p f check fuel missing values args
     pub sorted : (k : ℕ) → k < length all_steps → Has p.types.ctors (run.sorts k) (values k)
@@ -96,6 +98,7 @@ module _ (p : Program) (f : Function) (check : CheckId) (fuel : ℕ)
     pub sorted_run : IsSortedRun args
     sorted_run = record {
       missing = missing;
+      alike = never_answered (some_field p inhabited);
       values = ρ;
       made = is_run;
       sorted = λ k lt. solved_sorted p.types (some_field p inhabited) chosen run.sorts

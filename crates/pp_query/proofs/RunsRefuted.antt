@@ -55,6 +55,7 @@ module _ (p : Program) (plan : Plan) (is_plan : IsPlanOf plan p) (c : CheckId) (
       types = p.types;
       sorts = have.sorts;
       missing = x.missing;
+      alike = x.alike;
       values = x.values;
       does = λ k s at. does_at p.types.ctors x.missing x.values 0 R.steps k k s x.made.steps at (omega arith);
       reads = λ k s at. reads_at 0 R.steps k k s (runs_read p.functions f c round) at (omega arith);

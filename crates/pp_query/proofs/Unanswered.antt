@@ -11,6 +11,7 @@ use Rattle.pp_steps.specs.Meaning.{Missing, Values}
 use Rattle.pp_steps.specs.Reads.{AllRead, Reads}
 use Rattle.pp_steps.specs.Sorted.{AllSorted, IsSorted, Sorts}
 use Rattle.pp_steps_exist.proofs.Solve.{set, solved, value}
+use Rattle.pp_demand_steps.specs.Laws.{AnswersAlike}
 use Rattle.pp_guess_steps.specs.Laws.{AnswersHaveSorts, FieldsHaveSorts}
 use Rattle.pp_guess_steps.proofs.Labels.{IsLabelled}
 use Rattle.pp_guess_steps.proofs.SolvedSorted.{solved_have}
@@ -18,6 +19,10 @@ use Rattle.pp_guess_steps.proofs.SolvedSorted.{solved_have}
 -- no open call has an answer, and these values stand for missing fields
 abbrev pub unanswered : (CtorId → ℕ → Value) → Missing
 unanswered field = record { field = field; answer = λ wait g params result args. None }
+
+-- so no two have different ones
+pub never_answered : (field : CtorId → ℕ → Value) → AnswersAlike (unanswered field)
+never_answered field w v g params result args x y one other = absurd (cc)
 
 module _ (types : TypeTable) (field : CtorId → ℕ → Value) (chosen : Values) (σ : Sorts)
     (fields : FieldsHaveSorts types (unanswered field))

@@ -7,12 +7,14 @@
 //! check where `pp_closure` refutes by cases that a guess run fails it; where it refutes that a run does, there are no
 //! arguments that fail it (`refuting`). The search tries cases before the solver where the check's function meets no
 //! datatype (`words`), and else where the solver has spent its lemmas. `comparisons` names the variables that the
-//! solver decides first. `specs/Reply` and `specs/Question` say what is asked and replied, `specs/Found` and
+//! solver decides first. `demanded_guesses_refuted` refutes guess runs too, over steps in which calls are unfolded on
+//! demand (`demanding`, `unfolded`), so that its cost doesn't grow with the round. `specs/Reply` and `specs/Question` say what is asked and replied, `specs/Found` and
 //! `specs/Proofs` what the answers mean.
 #![tactic(auto)]
 
 mod asking;
 mod compared;
+mod demanding;
 mod found;
 mod fronts;
 mod proof;
@@ -23,11 +25,12 @@ mod reading;
 mod refuting;
 mod reply;
 mod searching;
+mod unfolded;
 mod words;
 
 pub use compared::comparisons;
 pub use found::Found;
-pub use fronts::{guesses_refuted, runs_refuted};
+pub use fronts::{demanded_guesses_refuted, guesses_refuted, runs_refuted};
 pub use proof::Proof;
 pub use proving::prove;
 pub use query::{Query, query_of};

@@ -1,6 +1,6 @@
 -- The checks of a program before the first turn.
-use Rattle.std.proofs.Common.{◌≡◌, ◌∙◌, ℕ, ◌+◌, ◌<◌, List, [], ◌∷◌, ◌++◌, Option, Some, None, inl, inr, length}
-use Rattle.std.proofs.Common.{slice_get, refl, sym, ap, subst, arith}
+use Rattle.std.proofs.Common.{◌≡◌, ◌∙◌, ℕ, ◌+◌, ◌<◌, List, [], ◌∷◌, ◌++◌, Option, Some, inl, inr, length}
+use Rattle.std.proofs.Common.{slice_get, sym, ap, subst, arith}
 use Rattle.std.specs.Prelude.{IfSome, MatchOption}
 use Rattle.std.proofs.lemmas.List.{length-append}
 use Rattle.pp_gate.proofs.Places.{at_push}
@@ -13,7 +13,7 @@ use Rattle.pp_sound.specs.Sound.{IsCheckOf}
 use Rattle.pp_verify.specs.declared.shared.Shared.{Shared}
 use Rattle.pp_verify.specs.Shared.{AreShared}
 use Rattle.pp_turns.specs.declared.part.Turn.{Turn}
-use Rattle.pp_turns.specs.Turns.{AreAllShared, AreFirst, AreTurned, HasTurned, IsFirst, IsTurn}
+use Rattle.pp_turns.specs.Turns.{AreAllShared, AreFirst, AreTurned, IsFirst, IsTurn}
 
 -- the first n checks, of which nothing was done yet
 pub record AreFirstTo (p : Program) (n : ℕ) (turns : List Turn) : Type 0 where

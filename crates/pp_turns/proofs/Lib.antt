@@ -1,4 +1,3 @@
-mod Written
 mod Naming
 mod FirstTurns
 mod OneTurn

@@ -11,7 +11,7 @@ use Rattle.pp_turns.specs.declared.part.Turn.{Turn}
 use Rattle.pp_turns.specs.declared.turns.Turns.{Turns}
 use Rattle.pp_turns.specs.Parts.{HaveEnded, has_ended, progress_of, progress_unless}
 use Rattle.pp_turns.specs.Turns.{AreTurned, AreTurns, HasTurned, IsNamedEnough, IsTurn, times}
-use Rattle.pp_turns.proofs.Written.{at_written}
+use Rattle.pp_verify.proofs.Written.{at_written}
 
 pub times_here : (names : List CheckId) (name : CheckId) (c : ℕ) → name.0 ≡ c
     → times c (name ∷ names) ≡ suc (times c names)

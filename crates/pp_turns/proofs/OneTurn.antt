@@ -4,7 +4,6 @@ use Rattle.std.proofs.Common.{subst, arith}
 use Rattle.std.specs.Prelude.{option_map, slice_set}
 use Rattle.std.proofs.lemmas.List.{length-set}
 use Rattle.std.proofs.lemmas.Option.{same_Some}
-use Rattle.pp_gate.proofs.Places.{at_some}
 use Rattle.pp_prog.specs.declared.id.CheckId.{CheckId}
 use Rattle.pp_prog.specs.declared.program.Program.{Program}
 use Rattle.pp_induct.specs.declared.ends.CheckEnd.{CheckEnd}
@@ -20,7 +19,7 @@ use Rattle.pp_turns.specs.declared.part.Turn.{Turn}
 use Rattle.pp_turns.specs.declared.turns.Turns.{Turns}
 use Rattle.pp_turns.specs.Parts.{open_turn, progress_of, progress_unless, turn_after}
 use Rattle.pp_turns.specs.Turns.{AreAllShared, AreTurns, HasTurned, IsTurn, TouchesOnly}
-use Rattle.pp_turns.proofs.Written.{at_other, at_written}
+use Rattle.pp_verify.proofs.Written.{at_other, at_written}
 
 abbrev turn_of : Progress → Option CheckEnd → Turn
 turn_of progress end = record { progress = progress; end = end }

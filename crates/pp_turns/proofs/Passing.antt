@@ -1,16 +1,15 @@
 -- How often each check is named after some passes over all checks.
-use Rattle.std.proofs.Common.{◌≡◌, ℕ, suc, ◌+◌, ◌-◌, ◌<◌, ◌≤◌, List, ◌∷◌, inl, inr, length, refl, sym, subst, arith}
+use Rattle.std.proofs.Common.{◌≡◌, ℕ, ◌+◌, ◌-◌, ◌<◌, ◌≤◌, List, ◌∷◌, inl, inr, length, refl, sym, subst, arith}
 use Rattle.std.proofs.lemmas.Bool.{cases_eq}
 use Rattle.pp_prog.specs.declared.id.CheckId.{CheckId}
 use Rattle.pp_prog.specs.declared.program.Program.{Program}
-use Rattle.pp_induct.specs.declared.limits.Limits.{Limits}
 use Rattle.pp_turns.specs.declared.in_turns.Direction.{Direction}
 use Rattle.pp_turns.specs.declared.in_turns.Direction.TheVariants.{Backward, Forward}
 use Rattle.pp_turns.specs.declared.part.Turn.{Turn}
 use Rattle.pp_turns.specs.declared.turns.Turns.{Turns}
 use Rattle.pp_turns.specs.Parts.{HaveEnded}
 use Rattle.pp_turns.specs.Passes.{AreNamed, place_named}
-use Rattle.pp_turns.specs.Turns.{AreTurned, AreTurns, IsNamedEnough, times}
+use Rattle.pp_turns.specs.Turns.{AreTurned, AreTurns, times}
 use Rattle.pp_turns.proofs.Naming.{all_ended, times_grow, times_here}
 
 -- as after a list that names each check at least k times, and those of the first n turns of the next pass once more

@@ -1,4 +1,4 @@
-//! The report, once all checks have ended.
+//! The report, once all checks have ended: what is left open is proved together where that can be done.
 
 ghost use Rattle.std.specs.Prelude.{◌≡◌, ◌++◌, ℕ, IfOk, OnOk, reverse, slice_get};
 ghost use Rattle.std.specs.List.{flat_map};
@@ -7,6 +7,7 @@ ghost use Rattle.pp_induct.specs.Reports.{IsReport};
 ghost use Rattle.pp_induct.specs.Verdicts.{ValidAreGood};
 ghost use Rattle.pp_turns.specs.Parts.{HaveEnded, end_of, ends_in};
 ghost use Rattle.pp_turns.specs.Turns.{AreTurns};
+ghost use Rattle.pp_verify.specs.Cones.{IsKeptOrProved};
 
 use crate::NoMemory;
 use crate::part::Turn;
@@ -15,22 +16,30 @@ use pp_checks::Plan;
 use pp_induct::{Ends, Report, conclude};
 use pp_list::Items;
 use pp_prog::Program;
+use pp_verify::prove_cones;
 use std::alloc::Global;
 
 impl Turns {
-    /// The report of the checks, each of which has ended: their ends, and the verdict on each function. A function that
-    /// is valid is good: every call that meets the precondition evaluates, with some fuel, to a value that meets the
-    /// postcondition. The only error is want of memory, and then all is given up.
+    /// The report of the checks, each of which has ended: their ends, but that some which are open for the size of
+    /// their rounds are proved together in the last round (`pp_verify`); and the verdict on each function. A function
+    /// that is valid is good: every call that meets the precondition evaluates, with some fuel, to a value that meets
+    /// the postcondition. The only error is want of memory, and then all is given up.
     pub fn finish(self, alloc: Global, program: &Program, plan: &Plan) -> Result<Report, NoMemory>
         requires plan { IsPlanOf plan.now program.now }
         requires turns { AreTurns program.now self }
         requires ended { HaveEnded self.checks }
         ensures report { IfOk result (λ report. IsReport program.now self.limits report) }
         ensures valid { IfOk result (λ report. ValidAreGood program.now report.verdicts) }
-        ensures ends { IfOk result (λ report. (c : ℕ) → slice_get report.checks c ≡ end_of self.checks c) }
+        ensures ends { IfOk result (λ report. (c : ℕ) → IsKeptOrProved self.limits (end_of self.checks c)
+            (slice_get report.checks c)) }
     {
-        let Turns { checks: turns, .. } = self;
-        let checks = ends_of(alloc, turns)?;
+        let Turns {
+            checks: turns,
+            limits,
+            ..
+        } = self;
+        let ends = ends_of(alloc, turns)?;
+        let checks = prove_cones(alloc, program, plan, limits, ends)?;
         let verdicts = conclude(alloc, program, plan, checks.as_slice())?;
         Ok(Report { checks, verdicts })
     }

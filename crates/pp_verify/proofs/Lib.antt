@@ -5,3 +5,8 @@ pub mod RoundEnds
 pub mod ProofEnds
 mod Failures
 mod KnownSizes
+pub mod Written
+mod GivenUp
+mod Others
+mod Proving
+mod Fronted

@@ -17,7 +17,6 @@ use Rattle.pp_evidence.specs.Evidence.{IsSearchEvidence}
 use Rattle.pp_induct.specs.declared.ends.CheckEnd.TheVariants.{Exhausted, Invalid, Proved}
 use Rattle.pp_induct.specs.declared.ends.Why.TheVariants.{Lemmas, Size}
 use Rattle.pp_induct.specs.declared.limits.Limits.{Limits}
-use Rattle.pp_induct.specs.declared.limits.TheConstants.{FRONTED_ABOVE}
 use Rattle.pp_induct.specs.Reports.{IsBegun, IsEnd, IsFronted, IsGuessed, IsOutOfLemmas, IsSearched, IsSearchedTo}
 use Rattle.pp_induct.specs.Reports.{IsTooLarge, IsTried, size_of}
 use Rattle.pp_induction.specs.Ends.{GuessFails, NoGuessFails, NoLowRunFails, NoRunFails}

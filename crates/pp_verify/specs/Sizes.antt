@@ -1,5 +1,5 @@
 -- What is known of the estimates of a function's rounds. Source: own.
-use Rattle.std.specs.Prelude.{◌≡◌, ℕ, List, Option, Some, slice_get}
+use Rattle.std.specs.Prelude.{◌≡◌, ℕ, List, Some, slice_get}
 use Rattle.pp_prog.specs.declared.program.Program.{Program}
 use Rattle.pp_estimate.specs.Estimates.{estimate}
 use Rattle.pp_sound.specs.Sound.{IsCheckOf}

@@ -5,12 +5,16 @@
 //! check's function is closed; and else it looks for a proof (`pp_query`). A round whose runs are those of the round
 //! before, since no call was left to unfold there, isn't searched again: it has the same guess runs too
 //! (`repeated_are_alike`). A round whose estimate is so large that it tells nothing is left to the fronts (`fronts`):
-//! runs on small arguments (`pp_small`), and then proofs by cases (`pp_query`). The ends of all checks give the verdicts
-//! (`pp_induct`), whose `specs/Reports` says what stands behind a report. `step` is one round of one check, for callers
-//! that work on checks in an order of their own; `verify` works on them one after the other.
+//! runs on small arguments (`pp_small`), and then proofs by cases (`pp_query`). Checks that are open where such a round
+//! ended them are proved together at last (`prove_cones`), by cases of their guess runs alone (`pp_query`), where all
+//! others of their functions' cones are settled. The ends of all checks give the verdicts (`pp_induct`), whose
+//! `specs/Reports` says what stands behind a report. `step` is one round of one check, for callers that work on checks
+//! in an order of their own; `verify` works on them one after the other.
 #![tactic(auto)]
 
+mod cones;
 mod fronts;
+mod given_up;
 mod laws;
 mod progress;
 mod rounds;
@@ -18,6 +22,7 @@ mod shared;
 mod sizes;
 mod verifying;
 
+pub use cones::prove_cones;
 pub use laws::repeated_are_alike;
 pub use pp_induct::{Limits, Report};
 pub use progress::{Progress, Step};

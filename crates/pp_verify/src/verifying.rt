@@ -6,6 +6,7 @@ ghost use Rattle.pp_induct.specs.Reports.{AreEnds, AreLimits, IsReport};
 ghost use Rattle.pp_induct.specs.Verdicts.{ValidAreGood};
 
 use crate::NoMemory;
+use crate::cones::prove_cones;
 use crate::rounds::end_of_check;
 use crate::shared::Shared;
 use pp_checks::Plan;
@@ -14,9 +15,9 @@ use pp_list::Items;
 use pp_prog::{CheckId, FunctionId, Program};
 use std::alloc::Global;
 
-/// Works on each check within the limits, and gives each function its verdict. A function that is valid is good: every
-/// call that meets the precondition evaluates, with some fuel, to a value that meets the postcondition. The only error
-/// is want of memory.
+/// Works on each check within the limits, proves together what is open for the size of its rounds where that can be
+/// done, and gives each function its verdict. A function that is valid is good: every call that meets the precondition
+/// evaluates, with some fuel, to a value that meets the postcondition. The only error is want of memory.
 pub fn verify(
     alloc: Global,
     program: &Program,
@@ -28,7 +29,8 @@ pub fn verify(
     ensures report { IfOk result (λ report. IsReport program.now limits report) }
     ensures valid { IfOk result (λ report. ValidAreGood program.now report.verdicts) }
 {
-    let checks = ends_of_checks(alloc, program, plan, limits)?;
+    let ends = ends_of_checks(alloc, program, plan, limits)?;
+    let checks = prove_cones(alloc, program, plan, limits, ends)?;
     let verdicts = conclude(alloc, program, plan, checks.as_slice())?;
     Ok(Report { checks, verdicts })
 }

@@ -1,4 +1,5 @@
 use Rattle.std.proofs.Common.{Some, ap, ◌∙◌}
+use Rattle.pp_closure.proofs.GoingDown.{alike_said}
 use Rattle.pp_closure.proofs.Said.{bool_said, both_said, made_said, not_said, on_ok, test_said}
 use Rattle.pp_closure.proofs.Totals.{made_number}
 use Rattle.pp_closure.proofs.learning.learn_step.Goals as goal
@@ -40,3 +41,7 @@ pub returns-in-Int : goal.returns-in-Int
 returns-in-Int c v holds =
     c.learn_number.ensures v.values (made_number _ v _ _ (c.requires ∙ ap Some c.in-Int.is))
     (c.maker.ensures v.values holds)
+
+pub returns-in-IsAlike : goal.returns-in-IsAlike
+returns-in-IsAlike c v holds =
+    c.assume-in-IsAlike.ensures v.values (alike_said _ v _ _ _ (c.requires ∙ ap Some c.in-IsAlike.is)) holds

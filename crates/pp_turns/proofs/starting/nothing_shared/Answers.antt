@@ -1,4 +1,4 @@
-use Rattle.std.proofs.Common.{◌∙◌, ◌+◌, List, length, ap, arith}
+use Rattle.std.proofs.Common.{◌∙◌, ◌+◌, List, length, ap}
 use Rattle.std.proofs.lemmas.List.{length_push}
 use Rattle.pp_list.proofs.Lists.{nothing}
 use Rattle.pp_verify.specs.declared.shared.Shared.{Shared}

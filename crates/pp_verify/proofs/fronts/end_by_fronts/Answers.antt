@@ -4,7 +4,6 @@ use Rattle.pp_eval.specs.Runs.{AreArguments}
 use Rattle.pp_prog.specs.declared.value.Value.{Value}
 use Rattle.pp_small.specs.Failing.{FailWith, IsLeastFuel}
 use Rattle.pp_small.proofs.Counterexamples.{fail_with, least_counterexample, sorted}
-use Rattle.pp_verify.proofs.Failures.{on_ok}
 use Rattle.pp_verify.proofs.RoundEnds.{invalid_by_fronts}
 use Rattle.pp_verify.proofs.fronts.end_by_fronts.Goals as goal
 

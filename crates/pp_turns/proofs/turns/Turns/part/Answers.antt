@@ -1,7 +1,7 @@
 use Rattle.std.proofs.Common.{◌∙◌, Some, sym, ap}
 use Rattle.pp_turns.specs.declared.part.Part.{Part}
 use Rattle.pp_turns.specs.Parts.{part_of}
-use Rattle.pp_turns.proofs.Written.{read}
+use Rattle.pp_verify.proofs.Written.{read}
 use Rattle.pp_turns.proofs.turns.Turns.part.Goals as goal
 
 pub returns : goal.returns

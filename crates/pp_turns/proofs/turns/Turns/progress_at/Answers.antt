@@ -1,7 +1,7 @@
 use Rattle.std.proofs.Common.{◌∙◌, Option, Some, sym, ap}
 use Rattle.pp_verify.specs.declared.progress.Progress.{Progress}
 use Rattle.pp_turns.specs.Parts.{progress_of}
-use Rattle.pp_turns.proofs.Written.{read}
+use Rattle.pp_verify.proofs.Written.{read}
 use Rattle.pp_turns.proofs.turns.Turns.progress_at.Goals as goal
 
 pub returns : goal.returns
